@@ -1,0 +1,81 @@
+-- Between a signed number and its size: casts to and from an unsigned type.
+use mathlib.Core.Path.{_≡_, refl, sym, _∙_, ap, subst}
+use mathlib.Core.Bool.{true}
+use Prim.Native.Nat.{ℕ, zero, suc, _+_, _-_, _/_, _≤_, _<_, _^_}
+use native.Mathlib.Omega.{arith}
+use lib.Dec.{T, ltb, leb→le}
+use lib.IntN.{ℤ, pos, negsuc, negℤ, natAbs, _+ℤ_, _-ℤ_, +ℤ-idl}
+use lib.Signed.{_≤ℤ_, _<ℤ_, nonNeg, mag, yes-nonNeg, pos-natAbs, quotZ, remZ, mag-rem}
+use borrow.Author.Tests.{lt-ltb}
+use mir.Syntax.{Width}
+use mir.Val.{Fits, SFits, hbits, bits, toZ, ofZ, sel}
+use mir.Facts.{fits-natAbs, toZ-ofZ}
+use mir.ValLaws.{sfits-le}
+use native.Mathlib.Nat.{div-le-self}
+use Rattle.integers.specs.Pairs.{lt-in}
+
+-- `z as u64`
+pub to-unsigned : {w w′ : Width} {z : ℤ} → T (ltb (hbits w) (bits w′)) → SFits w z → pos 0 ≤ℤ z → T (nonNeg z) × Fits w′ (natAbs z)
+to-unsigned t f h = (yes-nonNeg h, fits-natAbs t f)
+
+-- `n as i64`, read back
+pub toZ-small : (w : Width) {n : ℕ} → n < 2 ^ hbits w → toZ w n ≡ pos n
+toZ-small w {n} h = ap (λ t. sel t (pos n) (negsuc (2 ^ bits w - suc n))) (lt-ltb n (2 ^ hbits w) h)
+
+-- the size of a number, by its sign
+pub size-pos : (z : ℤ) → pos 0 ≤ℤ z → z ≡ pos (natAbs z)
+size-pos z h = sym (pos-natAbs z (yes-nonNeg h))
+
+pub size-neg : (z : ℤ) → z <ℤ pos 0 → pos 0 -ℤ z ≡ pos (natAbs z)
+size-neg (pos n) h = absurd (no n (lt-in h))
+  where
+    no : (n : ℕ) → n + 0 < 0 + 0 → ⊥
+    no n h = omega arith
+size-neg (negsuc n) h = +ℤ-idl (pos (suc n))
+
+pub size-lt : {w : Width} (z : ℤ) → SFits w z → pos 0 ≤ℤ z → natAbs z < 2 ^ hbits w
+size-lt (pos n) f h = f .sfits
+size-lt (negsuc n) f h = absurd (h .le)
+
+pub size-0< : (z : ℤ) → pos 0 <ℤ z → 0 < natAbs z
+size-0< (pos n) h = omega (arith, lt-in h)
+size-0< (negsuc n) h = omega arith
+
+-- ---- `x == y` tells of the bits
+pub same-bits : {w : Width} {x y : ℤ} → SFits w x → SFits w y → ofZ w x ≡ ofZ w y → x ≡ y
+same-bits {w} fx fy e = sym (toZ-ofZ fx) ∙ ap (toZ w) e ∙ toZ-ofZ fy
+
+pub other-bits : (w : Width) {x y : ℤ} → (ofZ w x ≡ ofZ w y → ⊥) → x ≡ y → ⊥
+other-bits w f e = f (ap (ofZ w) e)
+
+-- ---- `x / y` and `x % y` at a y above zero
+pub bits-pos : (w : Width) (y : ℤ) → pos 0 <ℤ y → 0 < ofZ w y
+bits-pos w (pos n) h = omega (arith, lt-in h)
+bits-pos w (negsuc n) h = absurd (h .lt)
+
+mag-neg : (r a : ℕ) → r ≤ suc a → mag (negℤ (pos r)) ≤ a
+mag-neg zero a h = omega arith
+mag-neg (suc r) a h = omega arith
+
+mag-quot : (x y : ℤ) → pos 0 <ℤ y → mag (quotZ x y) ≤ mag x
+mag-quot (pos a) (pos b) h = div-le-self a b
+mag-quot (negsuc a) (pos b) h = mag-neg (suc a / b) a (div-le-self (suc a) b)
+mag-quot (pos a) (negsuc b) h = absurd (h .lt)
+mag-quot (negsuc a) (negsuc b) h = absurd (no b a (lt-in h))
+  where
+    no : (b a : ℕ) → 0 + suc b < 0 + 0 → ⊥
+    no b a h = omega arith
+
+pub sfits-quot : {w : Width} (x y : ℤ) → pos 0 <ℤ y → SFits w x → SFits w (quotZ x y)
+sfits-quot x y h f = sfits-le (mag-quot x y h) f
+
+pub sfits-rem : {w : Width} (x y : ℤ) → SFits w x → SFits w (remZ x y)
+sfits-rem x y f = sfits-le (mag-rem x y) f
+
+-- a call's result, read back: `.ok` and what the callee ensures
+pub back : (w : Width) {z y : ℤ} → mag z < 2 ^ hbits w → z ≡ y → toZ w (ofZ w z) ≡ y
+back w f e = toZ-ofZ (record { sfits = f }) ∙ e
+
+-- an element's bound, at its own width and at a wider one
+pub elem : (w : Width) (z : ℤ) → mag z < 2 ^ hbits w → SFits w z
+elem w z f = record { sfits = f }

@@ -1,0 +1,192 @@
+-- Totals over the elements of a list, the elements that pass a test, and lists with their indexes.
+use mathlib.Core.Path.{_≡_, refl, sym, _∙_, ap, ap₂}
+use mathlib.Core.Bool.{Bool, true, false, cond, _&&_}
+use mathlib.Core.List.{List, [], _∷_, _++_, map}
+use Prim.Native.Nat.{ℕ, zero, suc, _+_, _*_, _≤_, _<_}
+use native.Mathlib.Nat.{add-mul}
+use native.Mathlib.Omega.{arith}
+use lib.IntN.{ℤ, pos, negℤ, natAbs, _+ℤ_, _*ℤ_, +ℤ-idl, +ℤ-idr, +ℤ-assoc, *ℤ-zero, negℤ-+ℤ}
+use lib.ListN.{length, getD}
+use Rattle.integers.specs.Pairs.{gain, loss, add-is}
+use Rattle.integers.specs.Order.{*ℤ-+ℤ, +ℤ-cross}
+use Rattle.integers.specs.Bounds.{Within, abs-add}
+use Rattle.integers.specs.Sums.{sum, sumℕ, one, when, both, sum-zero, sum-plus, sumℕ-front}
+
+-- ---- the definitions
+module _ {A : Type 0} where
+  unfoldable pub total : (A → ℤ) → List A → ℤ
+  total f [] = pos 0
+  total f (x ∷ xs) = f x +ℤ total f xs
+
+  unfoldable pub totalℕ : (A → ℕ) → List A → ℕ
+  totalℕ f [] = 0
+  totalℕ f (x ∷ xs) = f x + totalℕ f xs
+
+  -- those that pass a test
+  unfoldable pub those : (A → Bool) → List A → List A
+  those p [] = []
+  those p (x ∷ xs) = cond (p x) (x ∷ those p xs) (those p xs)
+
+  unfoldable pub all : (A → Bool) → List A → Bool
+  all p [] = true
+  all p (x ∷ xs) = p x && all p xs
+
+  -- what holds of each element
+  unfoldable pub All : (A → Type 0) → List A → Type 0
+  All P [] = Unit {0}
+  All P (x ∷ xs) = P x × All P xs
+
+-- each element's image, with its index
+unfoldable pub numbered : {A B : Type 0} → (ℕ → A → B) → List A → List B
+numbered f [] = []
+numbered f (x ∷ xs) = f 0 x ∷ numbered (λ i. f (suc i)) xs
+
+-- ---- totals of integers
+module _ {A : Type 0} where
+  pub total-ext : (p : A → Bool) (f g : A → ℤ) → ((x : A) → p x ≡ true → f x ≡ g x) → (xs : List A) → all p xs ≡ true → total f xs ≡ total g xs
+  unfolding total all
+  total-ext p f g e [] h = refl
+  total-ext p f g e (x ∷ xs) h =
+      let b = both (p x) (all p xs) h in
+      ap₂ _+ℤ_ (e x (b .0)) (total-ext p f g e xs (b .1))
+
+  pub total-same : (f g : A → ℤ) → ((x : A) → f x ≡ g x) → (xs : List A) → total f xs ≡ total g xs
+  unfolding total
+  total-same f g e [] = refl
+  total-same f g e (x ∷ xs) = ap₂ _+ℤ_ (e x) (total-same f g e xs)
+
+  pub total-zero : (xs : List A) → total (λ x. pos 0) xs ≡ pos 0
+  unfolding total
+  total-zero [] = refl
+  total-zero (x ∷ xs) = rw (total-zero xs)
+
+  pub total-plus : (f g : A → ℤ) (xs : List A) → total (λ x. f x +ℤ g x) xs ≡ total f xs +ℤ total g xs
+  unfolding total
+  total-plus f g [] = refl
+  total-plus f g (x ∷ xs) = rw (total-plus f g xs) (+ℤ-cross (f x) (g x) (total f xs) (total g xs))
+
+  pub total-negation : (f : A → ℤ) (xs : List A) → total (λ x. negℤ (f x)) xs ≡ negℤ (total f xs)
+  unfolding total
+  total-negation f [] = refl
+  total-negation f (x ∷ xs) = rw (total-negation f xs) (sym (negℤ-+ℤ (f x) (total f xs)))
+
+  pub total-scale : (k : ℤ) (f : A → ℤ) (xs : List A) → total (λ x. k *ℤ f x) xs ≡ k *ℤ total f xs
+  unfolding total
+  total-scale k f [] = sym (*ℤ-zero k)
+  total-scale k f (x ∷ xs) = rw (total-scale k f xs) (sym (*ℤ-+ℤ k (f x) (total f xs)))
+
+  pub total-++ : (f : A → ℤ) (xs ys : List A) → total f (xs ++ ys) ≡ total f xs +ℤ total f ys
+  unfolding total
+  total-++ f [] ys = sym (+ℤ-idl _)
+  total-++ f (x ∷ xs) ys = rw (total-++ f xs ys) (sym (+ℤ-assoc (f x) (total f xs) (total f ys)))
+
+  -- one more element at the end
+  pub total-more : (f : A → ℤ) (xs : List A) (x : A) → total f (xs ++ (x ∷ [])) ≡ total f xs +ℤ f x
+  unfolding total
+  total-more f xs x = total-++ f xs (x ∷ []) ∙ ap (λ (z : ℤ). total f xs +ℤ z) (+ℤ-idr (f x))
+
+  -- the total of those that pass is a total of all
+  pub total-those : (p : A → Bool) (f : A → ℤ) (xs : List A) → total f (those p xs) ≡ total (λ x. when (p x) (f x)) xs
+  unfolding total those
+  total-those p f [] = refl
+  total-those p f (x ∷ xs) = go (total-those p f xs) (p x)
+    where
+      go : total f (those p xs) ≡ total (λ x. when (p x) (f x)) xs → (t : Bool) → total f (cond t (x ∷ those p xs) (those p xs)) ≡ when t (f x) +ℤ total (λ x. when (p x) (f x)) xs
+      go ih true = ap (λ (z : ℤ). f x +ℤ z) ih
+      go ih false = ih ∙ sym (+ℤ-idl _)
+
+  -- indexes and list change places
+  pub total-swap : (n : ℕ) (f : A → ℕ → ℤ) (xs : List A) → sum n (λ t. total (λ x. f x t) xs) ≡ total (λ x. sum n (f x)) xs
+  unfolding total
+  total-swap n f [] = sum-zero n
+  total-swap n f (x ∷ xs) = sum-plus n (f x) (λ t. total (λ x. f x t) xs) ∙ ap (λ (z : ℤ). sum n (f x) +ℤ z) (total-swap n f xs)
+
+  -- what stands above zero, less what stands below, is the total
+  pub total-parts : (f : A → ℤ) (xs : List A) → gain (total f xs) + totalℕ (λ x. loss (f x)) xs ≡ totalℕ (λ x. gain (f x)) xs + loss (total f xs)
+  unfolding total totalℕ
+  total-parts f [] = refl
+  total-parts f (x ∷ xs) = omega (arith, total-parts f xs, add-is (f x) (total f xs))
+
+-- ---- totals of naturals
+module _ {A : Type 0} where
+  pub totalℕ-≤ : (f g : A → ℕ) → ((x : A) → f x ≤ g x) → (xs : List A) → totalℕ f xs ≤ totalℕ g xs
+  unfolding totalℕ
+  totalℕ-≤ f g h [] = omega arith
+  totalℕ-≤ f g h (x ∷ xs) = omega (arith, h x, totalℕ-≤ f g h xs)
+
+  pub totalℕ-++ : (f : A → ℕ) (xs ys : List A) → totalℕ f (xs ++ ys) ≡ totalℕ f xs + totalℕ f ys
+  unfolding totalℕ
+  totalℕ-++ f [] ys = omega arith
+  totalℕ-++ f (x ∷ xs) ys = omega (arith, totalℕ-++ f xs ys)
+
+  -- at most k each is at most k times the length, also of those that pass a test
+  pub totalℕ-those-≤ : (P : A → Type 0) (k : ℕ) (p : A → Bool) (f : A → ℕ) → ((x : A) → P x → f x ≤ k) → (xs : List A) → All P xs → totalℕ f (those p xs) ≤ length xs * k
+  unfolding All totalℕ those
+  totalℕ-those-≤ P k p f h [] a = omega arith
+  totalℕ-those-≤ P k p f h (x ∷ xs) a = go (totalℕ-those-≤ P k p f h xs (a .1)) (p x)
+    where
+      go : totalℕ f (those p xs) ≤ length xs * k → (t : Bool) → totalℕ f (cond t (x ∷ those p xs) (those p xs)) ≤ suc (length xs) * k
+      go ih true = omega (arith, h x (a .0), add-mul 1 (length xs) k)
+      go ih false = omega (arith, add-mul 1 (length xs) k)
+
+-- ---- over an image, over two lists joined, over indexes
+pub all-++ : {A : Type 0} (p : A → Bool) (xs ys : List A) → all p (xs ++ ys) ≡ all p xs && all p ys
+unfolding all
+all-++ p [] ys = refl
+all-++ p (x ∷ xs) ys = ap (λ (t : Bool). p x && t) (all-++ p xs ys) ∙ assoc (p x) (all p xs) (all p ys)
+  where
+    assoc : (r s t : Bool) → r && (s && t) ≡ r && s && t
+    assoc true s t = refl
+    assoc false s t = refl
+
+pub all-map : {A B : Type 0} (p : B → Bool) (f : A → B) (xs : List A) → all p (map f xs) ≡ all (λ x. p (f x)) xs
+unfolding all
+all-map p f [] = refl
+all-map p f (x ∷ xs) = ap (λ (t : Bool). p (f x) && t) (all-map p f xs)
+
+pub total-map : {A B : Type 0} (g : B → ℤ) (f : A → B) (xs : List A) → total g (map f xs) ≡ total (λ x. g (f x)) xs
+unfolding total
+total-map g f [] = refl
+total-map g f (x ∷ xs) = ap (λ (z : ℤ). g (f x) +ℤ z) (total-map g f xs)
+
+pub totalℕ-map : {A B : Type 0} (g : B → ℕ) (f : A → B) (xs : List A) → totalℕ g (map f xs) ≡ totalℕ (λ x. g (f x)) xs
+unfolding totalℕ
+totalℕ-map g f [] = refl
+totalℕ-map g f (x ∷ xs) = ap (λ (z : ℕ). g (f x) + z) (totalℕ-map g f xs)
+
+pub those-++ : {A : Type 0} (p : A → Bool) (xs ys : List A) → those p (xs ++ ys) ≡ those p xs ++ those p ys
+unfolding those
+those-++ p [] ys = refl
+those-++ p (x ∷ xs) ys = go (those-++ p xs ys) (p x)
+  where
+    go : those p (xs ++ ys) ≡ those p xs ++ those p ys → (t : Bool) → cond t (x ∷ those p (xs ++ ys)) (those p (xs ++ ys)) ≡ cond t (x ∷ those p xs) (those p xs) ++ those p ys
+    go ih true = ap (λ (l : List _). x ∷ l) ih
+    go ih false = ih
+
+-- a list's total is the sum over its indexes
+pub total-indexes : (ws : List ℕ) → sumℕ (length ws) (λ i. getD ws i 0) ≡ totalℕ (λ w. w) ws
+unfolding totalℕ sumℕ
+total-indexes [] = refl
+total-indexes (w ∷ ws) = sumℕ-front (length ws) (λ i. getD (w ∷ ws) i 0) ∙ ap (λ (z : ℕ). w + z) (total-indexes ws)
+
+-- numbers that depend on the index alone
+pub numbered-sum : {A B : Type 0} (f : B → ℕ) (g : ℕ → A → B) (h : ℕ → ℕ) → ((i : ℕ) (x : A) → f (g i x) ≡ h i) → (xs : List A) → totalℕ f (numbered g xs) ≡ sumℕ (length xs) h
+unfolding totalℕ numbered sumℕ
+numbered-sum f g h e [] = refl
+numbered-sum f g h e (x ∷ xs) =
+    ap₂ _+_ (e 0 x) (numbered-sum f (λ i. g (suc i)) (λ i. h (suc i)) (λ i y. e (suc i) y) xs) ∙ sym (sumℕ-front (length xs) h)
+
+pub numbered-length : {A B : Type 0} (g : ℕ → A → B) (xs : List A) → length (numbered g xs) ≡ length xs
+unfolding numbered
+numbered-length g [] = refl
+numbered-length g (x ∷ xs) = ap suc (numbered-length (λ i. g (suc i)) xs)
+
+-- what stands at an index
+pub numbered-at : {A B : Type 0} (g : ℕ → A → B) (xs : List A) (i : ℕ) (a : A) (b : B) → i < length xs → getD (numbered g xs) i b ≡ g i (getD xs i a)
+unfolding numbered
+numbered-at g [] i a b h = absurd (no i h)
+  where
+    no : (i : ℕ) → i < 0 → ⊥
+    no i h = omega arith
+numbered-at g (x ∷ xs) zero a b h = refl
+numbered-at g (x ∷ xs) (suc i) a b h = numbered-at (λ j. g (suc j)) xs i a b (omega arith)
