@@ -1,0 +1,63 @@
+-- Members (01, The rules): a requirement's members are the units of its regions in roster order, then one residual.
+use mathlib.Core.Bool.{Bool, not, _||_}
+use mathlib.Core.List.{List, [], _∷_, _++_, map}
+use Prim.Native.Nat.{ℕ}
+use lib.IntN.{ℤ}
+use Rattle.integers.specs.Sums.{sum, every, when}
+use Rattle.rules.specs.declared.Direction.{Direction}
+use Rattle.rules.specs.declared.Standing.{Standing}
+use Rattle.rules.specs.declared.Reason.the-variants.{NoGoodUnit}
+use Rattle.rules.specs.Quantities.{regions}
+use Rattle.rules.specs.Book.{by, Defaults, Unit, Requirement, covers, Book, regionOf}
+use Rattle.rules.specs.Reliability.{reliable-in}
+use Rattle.rules.specs.Deviation.{units-in}
+use Rattle.rules.specs.Performance.{unit-performance, residual-performance}
+use Rattle.rules.specs.Standings.{standing, unit-standing, some-good-or-none, residual-standing, is-live, live-or}
+
+pub data Name : Type 0 where
+  unit : ℕ → Name
+  residual : Name
+
+-- a member, with the numbers that its shares go by: its performance, or the default that stands in, for payment and for use; its unused default
+pub record Member : Type 0 where
+  pub name : Name
+  pub standing : Standing
+  pub payment : ℤ
+  pub used : ℤ
+  pub unused : ℤ
+
+unfoldable pub unit-member : Book → Direction → Unit → Member
+unit-member b d u =
+    let s = unit-standing b d u in
+    let p = unit-performance b d u in
+    let f = by d (u .defaults) in
+    record { name = unit (u .number); standing = s; payment = live-or s p (f .payment); used = live-or s p (f .used); unused = f .unused }
+
+-- over the regions of a requirement: a sum, and a test that each has to pass
+abbrev pub over-regions : Requirement → (ℕ → ℤ) → ℤ
+over-regions q f = sum regions (λ r. when (covers q r) (f r))
+
+abbrev pub each-region : Requirement → (ℕ → Bool) → Bool
+each-region q p = every regions (λ r. not (covers q r) || p r)
+
+-- a region's residual, live or default
+abbrev pub residual-or : Book → Direction → (Defaults → ℤ) → ℕ → ℤ
+residual-or b d field r = live-or (residual-standing b d r) (residual-performance b d r) (field (by d (regionOf b r .defaults)))
+
+-- one residual, whose performance is the sum of its regions' residuals, live or default, and whose unused default is the sum of theirs; it counts as default if any is
+unfoldable pub residual-member : Book → Requirement → Member
+residual-member b q =
+    let d = q .direction in
+    record {
+      name = residual;
+      standing = standing (each-region q (reliable-in b d)) (each-region q (some-good-or-none b)) NoGoodUnit;
+      payment = over-regions q (residual-or b d (λ f. f .payment));
+      used = over-regions q (residual-or b d (λ f. f .used));
+      unused = over-regions q (λ r. by d (regionOf b r .defaults) .unused);
+    }
+
+abbrev pub unit-members : Book → Requirement → List Unit
+unit-members b q = units-in (covers q) (b .roster)
+
+unfoldable pub members : Book → Requirement → List Member
+members b q = map (unit-member b (q .direction)) (unit-members b q) ++ (residual-member b q ∷ [])

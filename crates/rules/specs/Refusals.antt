@@ -1,0 +1,60 @@
+-- The numbers that the box can say no with (01, Numbers the box can say no with), and an answer that may be a refusal.
+use mathlib.Core.Bool.{Bool, cond}
+use Prim.Native.Nat.{ℕ}
+use Rattle.rules.specs.declared.Refusal.{Refusal}
+use Rattle.rules.specs.declared.Refusal.the-variants.{
+  EndsEarly,
+  WrongMark,
+  WrongTable,
+  BytesFollow,
+  WrongCount,
+  SettingsField,
+  FrequencyField,
+  UnitField,
+  UnitNotRising,
+  RequirementField,
+  OutOfTurn,
+  TooShort,
+  LeftOvers,
+}
+
+-- each given exactly when
+abbrev pub number : Refusal → ℕ
+-- the bytes end before the 56, or before the end of the record that the call takes
+number EndsEarly = 1
+-- the mark differs
+number WrongMark = 2
+-- a table entry, the entry count or the zero field is wrong
+number WrongTable = 3
+-- bytes follow the last body
+number BytesFollow = 4
+-- an item count is over or under its limit; in a share, T or W is over
+number WrongCount = 5
+-- a settings, frequency or unit field breaks its rule
+number SettingsField = 6
+number FrequencyField = 7
+number UnitField = 8
+-- a unit number does not rise
+number UnitNotRising = 9
+-- a requirement field breaks its rule, or its number does not rise
+number RequirementField = 10
+-- a call out of turn, or a tally out of range
+number OutOfTurn = 11
+-- a lent buffer is too short for its answer
+number TooShort = 12
+-- in a share with W above 0, the left-overs are not fewer than the members with weight
+number LeftOvers = 13
+
+-- what is asked for, or the refusal alone
+pub data Reply (A : Type 0) : Type 0 where
+  taken : A → Reply A
+  refused : Refusal → Reply A
+
+-- a test that has to hold, the refusal where it does not, and what comes after it
+abbrev pub unless : {A : Type 0} → Bool → Refusal → Reply A → Reply A
+unless test refusal rest = cond test rest (refused refusal)
+
+-- the first refusal is the answer
+abbrev pub _>>=_ : {A B : Type 0} → Reply A → (A → Reply B) → Reply B
+_>>=_ (taken a) f = f a
+_>>=_ (refused r) f = refused r

@@ -1,0 +1,65 @@
+-- The share (01, The rules): a total T over n weights, w 0 to w (n - 1), summing to W.
+use mathlib.Core.Bool.{Bool, cond, _&&_, _||_}
+use mathlib.Core.List.{List}
+use Prim.Native.Nat.{ℕ, _+_, _*_, _-_, _/_, _%_}
+use lib.Dec.{leb, ltb, eqb}
+use lib.ListN.{length, getD}
+use Rattle.integers.specs.Sums.{one, sumℕ, count}
+use Rattle.rules.specs.declared.Refusal.the-variants.{TooShort, WrongCount, LeftOvers}
+use Rattle.rules.specs.Quantities.{total-limit, weight-limit}
+use Rattle.rules.specs.Refusals.{Reply, taken, unless}
+use Rattle.rules.specs.Bytes.{listed}
+
+-- W
+abbrev pub weight-sum : ℕ → (ℕ → ℕ) → ℕ
+weight-sum n w = sumℕ n w
+
+module _ (T n : ℕ) (w : ℕ → ℕ) where
+  -- the whole part of T·weight/W, and its remainder
+  abbrev pub whole : ℕ → ℕ
+  whole i = T * w i / weight-sum n w
+
+  abbrev pub remainder : ℕ → ℕ
+  remainder i = T * w i % weight-sum n w
+
+  -- who comes first for what is left over: the larger remainder, ties to the earlier member
+  abbrev pub ahead : ℕ → ℕ → Bool
+  ahead j i = ltb (remainder i) (remainder j) || eqb (remainder i) (remainder j) && ltb j i
+
+  -- what is left over
+  unfoldable pub left-over : ℕ
+  left-over = T - sumℕ n whole
+
+  -- it goes one each to the largest remainders: to those that fewer members than are left over come before
+  unfoldable pub given : ℕ → Bool
+  given i = ltb (count n (λ j. ahead j i)) left-over
+
+  -- if W is 0 all get 0
+  unfoldable pub amount : ℕ → ℕ
+  amount i = cond (eqb (weight-sum n w) 0) 0 (whole i + one (given i))
+
+  -- and T is unplaced
+  unfoldable pub unplaced : ℕ
+  unplaced = cond (eqb (weight-sum n w) 0) T 0
+
+  abbrev pub with-weight : ℕ
+  with-weight = count n (λ i. ltb 0 (w i))
+
+-- the same over a list of weights
+abbrev pub weight-at : List ℕ → ℕ → ℕ
+weight-at ws i = getD ws i 0
+
+abbrev pub share-of : ℕ → List ℕ → ℕ → ℕ
+share-of T ws i = amount T (length ws) (weight-at ws) i
+
+abbrev pub unplaced-of : ℕ → List ℕ → ℕ
+unplaced-of T ws = unplaced T (length ws) (weight-at ws)
+
+-- what a call that shares T over ws into room for so many amounts answers: how much is unplaced, or the refusal
+unfoldable pub share-reply : ℕ → List ℕ → ℕ → Reply ℕ
+share-reply T ws room =
+    let W = weight-sum (length ws) (weight-at ws) in
+    unless (leb (length ws) room) TooShort
+    (unless (leb T total-limit && leb W weight-limit) WrongCount
+    (unless (eqb W 0 || ltb (left-over T (length ws) (weight-at ws)) (with-weight T (length ws) (weight-at ws))) LeftOvers
+    (taken (unplaced-of T ws))))
