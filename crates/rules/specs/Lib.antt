@@ -28,3 +28,5 @@ pub mod Writing
 pub mod Computing
 pub mod PaperBook
 pub mod PaperListing
+-- Laws of the definitions
+pub mod ShareLaws

@@ -14,6 +14,10 @@ use Rattle.rules.specs.Bytes.{listed}
 abbrev pub weight-sum : ℕ → (ℕ → ℕ) → ℕ
 weight-sum n w = sumℕ n w
 
+-- who comes first for what is left over: j before i if its remainder is larger; ties to the earlier member
+abbrev pub ahead : (ℕ → ℕ) → ℕ → ℕ → Bool
+ahead r j i = ltb (r i) (r j) || eqb (r i) (r j) && ltb j i
+
 module _ (T n : ℕ) (w : ℕ → ℕ) where
   -- the whole part of T·weight/W, and its remainder
   abbrev pub whole : ℕ → ℕ
@@ -22,17 +26,13 @@ module _ (T n : ℕ) (w : ℕ → ℕ) where
   abbrev pub remainder : ℕ → ℕ
   remainder i = T * w i % weight-sum n w
 
-  -- who comes first for what is left over: the larger remainder, ties to the earlier member
-  abbrev pub ahead : ℕ → ℕ → Bool
-  ahead j i = ltb (remainder i) (remainder j) || eqb (remainder i) (remainder j) && ltb j i
-
   -- what is left over
   unfoldable pub left-over : ℕ
   left-over = T - sumℕ n whole
 
   -- it goes one each to the largest remainders: to those that fewer members than are left over come before
   unfoldable pub given : ℕ → Bool
-  given i = ltb (count n (λ j. ahead j i)) left-over
+  given i = ltb (count n (λ j. ahead remainder j i)) left-over
 
   -- if W is 0 all get 0
   unfoldable pub amount : ℕ → ℕ
