@@ -29,4 +29,9 @@ pub mod Computing
 pub mod PaperBook
 pub mod PaperListing
 -- Laws of the definitions
+pub mod Limits
+pub mod LimitsLaws
+pub mod MeasureLaws
+pub mod DeviationLaws
+pub mod PerformanceLaws
 pub mod ShareLaws

@@ -55,6 +55,7 @@ abbrev pub unless : {A : Type 0} → Bool → Refusal → Reply A → Reply A
 unless test refusal rest = cond test rest (refused refusal)
 
 -- the first refusal is the answer
+infixl 1 _>>=_
 abbrev pub _>>=_ : {A B : Type 0} → Reply A → (A → Reply B) → Reply B
 _>>=_ (taken a) f = f a
 _>>=_ (refused r) f = refused r
