@@ -77,6 +77,16 @@ neg-is (pos zero) = refl
 neg-is (pos (suc n)) = omega arith
 neg-is (negsuc n) = omega arith
 
+pub gain-negation : (a : ℤ) → gain (negℤ a) ≡ loss a
+gain-negation (pos zero) = refl
+gain-negation (pos (suc n)) = refl
+gain-negation (negsuc n) = refl
+
+pub loss-negation : (a : ℤ) → loss (negℤ a) ≡ gain a
+loss-negation (pos zero) = refl
+loss-negation (pos (suc n)) = refl
+loss-negation (negsuc n) = refl
+
 pub add-is : (a b : ℤ) → gain (a +ℤ b) + (loss a + loss b) ≡ (gain a + gain b) + loss (a +ℤ b)
 add-is (pos a) (pos b) = omega arith
 add-is (pos a) (negsuc b) = omega (arith, sub-both a (suc b))

@@ -2,12 +2,12 @@
 use mathlib.Core.Path.{_≡_, refl, sym, _∙_, ap, ap₂}
 use mathlib.Core.Bool.{Bool, true, false, cond, _&&_}
 use mathlib.Core.List.{List, [], _∷_, _++_, map}
-use Prim.Native.Nat.{ℕ, zero, suc, _+_, _*_, _≤_, _<_}
+use Prim.Native.Nat.{ℕ, zero, suc, _+_, _*_, _≤_, _<_, max}
 use native.Mathlib.Nat.{add-mul}
 use native.Mathlib.Omega.{arith}
-use lib.IntN.{ℤ, pos, negℤ, natAbs, _+ℤ_, _*ℤ_, +ℤ-idl, +ℤ-idr, +ℤ-assoc, *ℤ-zero, negℤ-+ℤ}
+use lib.IntN.{ℤ, pos, negsuc, negℤ, natAbs, _+ℤ_, _*ℤ_, +ℤ-idl, +ℤ-idr, +ℤ-assoc, *ℤ-zero, negℤ-+ℤ}
 use lib.ListN.{length, getD}
-use Rattle.integers.specs.Pairs.{gain, loss, add-is}
+use Rattle.integers.specs.Pairs.{gain, loss, add-is, gain-negation}
 use Rattle.integers.specs.Order.{*ℤ-+ℤ, +ℤ-cross}
 use Rattle.integers.specs.Bounds.{Within, abs-add}
 use Rattle.integers.specs.Sums.{sum, sumℕ, one, when, both, sum-zero, sum-plus, sumℕ-front}
@@ -107,6 +107,14 @@ module _ {A : Type 0} where
   total-parts f [] = refl
   total-parts f (x ∷ xs) = omega (arith, total-parts f xs, add-is (f x) (total f xs))
 
+  -- what stands above zero, with what is needed to make up for what stands below, is the larger of the two
+  pub total-larger : (f : A → ℤ) (xs : List A) → totalℕ (λ x. gain (f x)) xs + gain (negℤ (total f xs)) ≡ max (totalℕ (λ x. gain (f x)) xs) (totalℕ (λ x. loss (f x)) xs)
+  total-larger f xs = rw (gain-negation (total f xs)) (go (total f xs) (total-parts f xs))
+    where
+      go : (z : ℤ) → gain z + totalℕ (λ x. loss (f x)) xs ≡ totalℕ (λ x. gain (f x)) xs + loss z → totalℕ (λ x. gain (f x)) xs + loss z ≡ max (totalℕ (λ x. gain (f x)) xs) (totalℕ (λ x. loss (f x)) xs)
+      go (pos n) e = omega arith
+      go (negsuc n) e = omega arith
+
 -- ---- totals of naturals
 module _ {A : Type 0} where
   pub totalℕ-≤ : (f g : A → ℕ) → ((x : A) → f x ≤ g x) → (xs : List A) → totalℕ f xs ≤ totalℕ g xs
@@ -128,6 +136,27 @@ module _ {A : Type 0} where
       go : totalℕ f (those p xs) ≤ length xs * k → (t : Bool) → totalℕ f (cond t (x ∷ those p xs) (those p xs)) ≤ suc (length xs) * k
       go ih true = omega (arith, h x (a .0), add-mul 1 (length xs) k)
       go ih false = omega (arith, add-mul 1 (length xs) k)
+
+-- ---- those that pass
+module _ {A : Type 0} where
+  pub those-length : (p : A → Bool) (xs : List A) → length (those p xs) ≤ length xs
+  unfolding those
+  those-length p [] = omega arith
+  those-length p (x ∷ xs) = go (those-length p xs) (p x)
+    where
+      go : length (those p xs) ≤ length xs → (t : Bool) → length (cond t (x ∷ those p xs) (those p xs)) ≤ suc (length xs)
+      go ih true = omega arith
+      go ih false = omega arith
+
+  -- what holds of all holds of those
+  pub all-those : (P : A → Type 0) (p : A → Bool) (xs : List A) → All P xs → All P (those p xs)
+  unfolding All those
+  all-those P p [] h = tt
+  all-those P p (x ∷ xs) h = go (all-those P p xs (h .1)) (p x)
+    where
+      go : All P (those p xs) → (t : Bool) → All P (cond t (x ∷ those p xs) (those p xs))
+      go ih true = (h .0, ih)
+      go ih false = ih
 
 -- ---- over an image, over two lists joined, over indexes
 pub all-++ : {A : Type 0} (p : A → Bool) (xs ys : List A) → all p (xs ++ ys) ≡ all p xs && all p ys

@@ -28,10 +28,16 @@ pub mod Writing
 pub mod Computing
 pub mod PaperBook
 pub mod PaperListing
+pub mod Edges
+pub mod WorkedBooks
+pub mod WorkedAnswers
 -- Laws of the definitions
 pub mod Limits
 pub mod LimitsLaws
 pub mod MeasureLaws
 pub mod DeviationLaws
 pub mod PerformanceLaws
+pub mod RcrLaws
+pub mod MembersLaws
 pub mod ShareLaws
+pub mod CentsLaws

@@ -1,0 +1,153 @@
+-- Further worked books, for what the paper's listing does not use: lower, several regions, each default reason, bad points, a region without units, an
+-- unreliable region, generation weights that turn the sign, used over enabled, unplaced amounts, ties. Their figures (WorkedListings) are the second
+-- program's, which shares nothing with these definitions; tests/worked/ has each book described, as bytes and with its listing.
+use mathlib.Core.Bool.{Bool, true, false, not, cond, _&&_}
+use mathlib.Core.List.{List, [], _∷_}
+use Prim.Native.Nat.{ℕ, _+_, _*_, _-_}
+use lib.Dec.{eqb, leb}
+use lib.IntN.{ℤ, pos, negℤ, _-ℤ_}
+use Rattle.rules.specs.declared.Direction.{Direction}
+use Rattle.rules.specs.declared.Direction.the-variants.{Raise, Lower}
+use Rattle.rules.specs.declared.Kind.{Kind}
+use Rattle.rules.specs.declared.Kind.the-variants.{Generation, Load}
+use Rattle.rules.specs.Bytes.{listed}
+use Rattle.rules.specs.Book.{ByDirection, Settings, Defaults, Region, Unit, Requirement, Book}
+use Rattle.rules.specs.Writing.{flat}
+use Rattle.rules.specs.PaperBook.{zeros}
+
+-- ---- what the books are made of: `t` is the paper's, 1 to 75
+abbrev series : {A : Type 0} → (ℕ → A) → List A
+series f = listed 1 75 f
+
+abbrev between : ℕ → ℕ → ℕ → Bool
+between low high t = leb low t && leb t high
+
+-- six defaults, each given by its size
+abbrev minus : ℕ → ℕ → ℕ → ℕ → ℕ → ℕ → ByDirection Defaults
+minus p u n p′ u′ n′ =
+    record {
+      raise = record { payment = negℤ (pos p); used = negℤ (pos u); unused = negℤ (pos n) };
+      lower = record { payment = negℤ (pos p′); used = negℤ (pos u′); unused = negℤ (pos n′) };
+    }
+
+abbrev settings : ℕ → ℕ → ℕ → Settings
+settings smoothing percent interval = record { smoothing = smoothing; limit = 10; percent = percent; interval = interval }
+
+-- all points good, FM before 0
+abbrev region : ℕ → ByDirection Defaults → List ℕ → Region
+region generation defaults frequency = record { separation = false; quality = flat true; before = pos 0; generation = generation; defaults = defaults; frequency = frequency }
+
+abbrev quiet : Region
+quiet = region 0 zeros (flat 50_000_000)
+
+abbrev unit : ℕ → ℕ → Kind → ℤ → ℤ → ByDirection Defaults → List Bool → List ℤ → Unit
+unit number r kind start end defaults quality reading = record { number = number; region = r; kind = kind; start = start; end = end; defaults = defaults; quality = quality; reading = reading }
+
+-- a unit on a flat trajectory, all points good
+abbrev steady : ℕ → ℕ → Kind → ℕ → ByDirection Defaults → List ℤ → Unit
+steady number r kind power defaults reading = unit number r kind (pos power) (pos power) defaults (flat true) reading
+
+abbrev requirement : ℕ → ℕ → Direction → ℕ → ℕ → ℕ → ℕ → Requirement
+requirement number set direction price cost enabled used = record { number = number; set = set; direction = direction; price = price; cost = cost; enabled = enabled; used = used }
+
+abbrev book : Settings → List Region → List Unit → List Requirement → Book
+book s rs us qs = record { settings = s; regions = rs; roster = us; requirements = qs }
+
+-- ---- lower over two regions in one set, generation and load; one region alone; raise where no FM is above 0
+abbrev pub lower-two-regions : Book
+lower-two-regions =
+    book (settings 10_000 20 101)
+    (quiet ∷ region 300_000 (minus 500 50 5 400 40 4) (flat 50_020_000) ∷ region 100_000 (minus 300 30 3 200 20 2) (flat 50_030_000) ∷ quiet ∷ quiet ∷ [])
+    (steady 1 1 Generation 10_000 (minus 100 200 300 400 500 600) (flat (pos 9_900))
+    ∷ steady 2 2 Load 5_000 (minus 10 20 30 40 50 60) (flat (pos 5_040))
+    ∷ steady 3 2 Generation 2_000 (minus 1 2 3 4 5 6) (flat (pos 2_010))
+    ∷ steady 4 1 Load 8_000 (minus 0 0 0 7 8 9) (flat (pos 7_970))
+    ∷ [])
+    (requirement 3 6 Lower 3_000 5_000 2_000 1_250 ∷ requirement 4 2 Lower 1_199 777 1_000 500 ∷ requirement 9 6 Raise 3_000 1_000 2_000 2_000 ∷ [])
+
+-- ---- each default reason: a bad unit, regions unreliable by separation and by FM 10,000, a region with no good unit; one with no unit stays live
+abbrev pub default-reasons : Book
+default-reasons =
+    book (settings 10_000 50 102)
+    (region 100_000 (minus 1_000 2_000 3_000 0 0 0) (flat 49_980_000)
+    ∷ record { separation = true; quality = flat true; before = pos 0; generation = 100_000; defaults = minus 2_000 4_000 6_000 0 0 0; frequency = flat 49_980_000 }
+    ∷ region 100_000 (minus 3_000 6_000 9_000 0 0 0) (flat 49_980_000)
+    ∷ region 100_000 (minus 4_000 8_000 12_000 0 0 0) (flat 49_980_000)
+    ∷ region 100_000 (minus 5_000 10_000 15_000 0 0 0) (flat 49_990_000)
+    ∷ [])
+    (steady 10 0 Generation 1_000 (minus 11 12 13 0 0 0) (flat (pos 1_010))
+    ∷ unit 20 0 Generation (pos 1_000) (pos 1_000) (minus 75_000_000 375_000_000 23 0 0 0) (series (λ t. not (eqb t 75))) (series (λ t. cond (eqb t 75) (pos 0) (pos 3_000)))
+    ∷ steady 30 1 Load 1_000 (minus 31 32 33 0 0 0) (flat (pos 900))
+    ∷ unit 40 2 Load (pos 1_000) (pos 1_000) (minus 41 42 43 0 0 0) (flat false) (flat (pos 0))
+    ∷ [])
+    (requirement 1 9 Raise 9_000 1_000 400 100 ∷ requirement 2 5 Raise 9_000 1_000 400 100 ∷ requirement 3 31 Raise 9_000 1_000 400 100 ∷ [])
+
+-- ---- a 5,000 from FM -20,000 towards 40,000; ten bad points, the limit, where FM stays; eleven make the region unreliable
+abbrev gap : ℕ → Region
+gap last =
+    record {
+      separation = false;
+      quality = series (λ t. not (between 3 last t));
+      before = negℤ (pos 20_000);
+      generation = 100_000;
+      defaults = minus 7 8 9 0 0 0;
+      frequency = series (λ t. cond (between 3 last t) 0 49_960_000);
+    }
+
+abbrev pub bad-frequency-points : Book
+bad-frequency-points =
+    book (settings 5_000 20 103)
+    (gap 12 ∷ quiet ∷ quiet ∷ gap 13 ∷ quiet ∷ [])
+    (steady 1 0 Generation 0 (minus 1 1 1 0 0 0) (flat (pos 1)) ∷ steady 2 3 Generation 0 (minus 2 2 2 0 0 0) (flat (pos 1)) ∷ steady 3 0 Load 0 (minus 3 3 3 0 0 0) (flat (pos 2)) ∷ [])
+    (requirement 1 1 Raise 10_000_000 100 3 1 ∷ requirement 2 8 Raise 10_000_000 100 3 1 ∷ [])
+
+-- ---- generation weights turn the sign; used over enabled
+abbrev pub sign-turned : Book
+sign-turned =
+    book (settings 10_000 20 104)
+    (region 100_000 zeros (series (λ t. cond (leb t 60) 49_980_000 50_020_000)) ∷ region 200_000 zeros (series (λ t. cond (leb t 10) 49_985_000 50_030_000)) ∷ quiet ∷ quiet ∷ quiet ∷ [])
+    (steady 1 0 Generation 0 zeros (series (λ t. pos (10 * t))) ∷ steady 2 1 Generation 500 zeros (flat (pos 400)) ∷ steady 3 1 Load 0 zeros (flat (pos 5)) ∷ [])
+    (requirement 1 3 Raise 1_800 999 600 900 ∷ requirement 2 1 Raise 1_800 999 600 600 ∷ requirement 3 3 Lower 1_800 999 600 0 ∷ [])
+
+-- ---- no weight anywhere; enabled 0; a region whose only unit is bad, a negative side alone
+abbrev pub unplaced-amounts : Book
+unplaced-amounts =
+    book (settings 10_000 100 105)
+    (region 1 zeros (flat 49_980_000) ∷ quiet ∷ region 1 zeros (flat 49_980_000) ∷ quiet ∷ quiet ∷ [])
+    (unit 1 0 Generation (pos 0) (pos 75) zeros (flat true) (series (λ t. pos t))
+    ∷ unit 2 0 Load (pos 75) (pos 0) zeros (flat true) (series (λ t. pos (75 - t)))
+    ∷ unit 3 2 Generation (pos 0) (pos 0) (minus 5 0 7 0 0 0) (series (λ t. not (eqb t 1))) (flat (pos 0))
+    ∷ [])
+    (requirement 1 1 Raise 5_000 1_001 2 1 ∷ requirement 2 1 Raise 5_000 1_001 0 1 ∷ requirement 3 4 Raise 5_000 1_001 2 1 ∷ [])
+
+-- ---- trajectories that fall between whole cMW and are not rounded; a load that ramps down; FM of both signs; the highest unit number
+abbrev pub ramp : Book
+ramp =
+    book (settings 10_000 20 106)
+    (quiet ∷ quiet ∷ quiet ∷ quiet ∷ region 5_000 zeros (series (λ t. 49_970_000 + 800 * t)) ∷ [])
+    (unit 1 4 Generation (pos 0) (pos 100) zeros (flat true) (flat (pos 0))
+    ∷ unit 2 4 Load (pos 1_000) (pos 900) zeros (flat true) (flat (pos 950))
+    ∷ unit 65_535 4 Generation (negℤ (pos 100)) (pos 100) zeros (flat true) (series (λ t. pos (2 * t) -ℤ pos 50))
+    ∷ [])
+    (requirement 1 16 Raise 900 10 3 2 ∷ requirement 2 16 Lower 900 10 3 2 ∷ [])
+
+-- ---- equal weights and left-overs; a member without weight
+abbrev pub ties : Book
+ties =
+    book (settings 10_000 20 107)
+    (region 1 (minus 0 0 1 0 0 0) (flat 49_980_000) ∷ quiet ∷ quiet ∷ quiet ∷ quiet ∷ [])
+    (steady 1 0 Generation 0 (minus 0 0 1 0 0 0) (flat (negℤ (pos 1)))
+    ∷ steady 2 0 Generation 0 (minus 0 0 1 0 0 0) (flat (negℤ (pos 1)))
+    ∷ steady 3 0 Generation 0 zeros (flat (pos 0))
+    ∷ steady 4 0 Load 0 (minus 0 0 1 0 0 0) (flat (pos 1))
+    ∷ steady 5 0 Load 0 (minus 0 0 1 0 0 0) (flat (negℤ (pos 3)))
+    ∷ [])
+    (requirement 6 1 Raise 4_000 14 14 2 ∷ [])
+
+-- ---- roster 0: live residuals at 0; used unplaced; a region at 50 Hz is unreliable
+abbrev pub no-units : Book
+no-units =
+    book (settings 10_000 20 0)
+    (region 10 (minus 0 0 0 9 9 2) (flat 50_011_000) ∷ region 10 (minus 0 0 0 9 9 2) (flat 50_011_000) ∷ quiet ∷ quiet ∷ quiet ∷ [])
+    []
+    (requirement 0 3 Lower 100 50 10 4 ∷ requirement 1 7 Lower 100 50 10 4 ∷ [])

@@ -1,0 +1,131 @@
+-- The listings of the worked books, each from its bytes to its text. The figures are the second program's (tests/worked/).
+use mathlib.Core.Path.{_≡_, refl}
+use mathlib.Core.List.{_++_}
+use Rattle.rules.specs.Text.{text}
+use Rattle.rules.specs.Listing.{settle}
+use Rattle.rules.specs.Writing.{book-bytes}
+use Rattle.rules.specs.Computing.{computing}
+use Rattle.rules.specs.WorkedBooks.{lower-two-regions, default-reasons, bad-frequency-points, sign-turned, unplaced-amounts, ramp, ties, no-units}
+
+pub lower-two-regions-listing : settle (book-bytes lower-two-regions)
+    ≡ text "interval 101\n"
+    ++ (text "requirement 3 lower 10500 350 3125 1875 0 0\n"
+    ++ (text "unit 1 live 11250000000 625000000 219 0 -1652\n"
+    ++ (text "unit 2 live 6750000000 375000000 131 0 -165\n"
+    ++ (text "unit 3 live -1687500000 -93750000 -33 -293 -17\n"
+    ++ (text "unit 4 live -3375000000 -187500000 -66 -586 -25\n"
+    ++ (text "residual live -12937500000 -718750000 -251 -2246 -16\n"
+    ++ (text "requirement 4 lower 7500 100 389 388 0 0\n"
+    ++ (text "unit 1 live 11250000000 1000000000 100 0 -380\n"
+    ++ (text "unit 4 live -3375000000 -300000000 -30 -117 -6\n"
+    ++ (text "residual live -7875000000 -700000000 -70 -272 -2\n"
+    ++ (text "requirement 9 raise 0 0 0 1000 0 0\n"
+    ++ (text "unit 1 default -100 -109769484 0 0 -880\n"
+    ++ (text "unit 2 default -10 -10976948 0 0 -88\n"
+    ++ (text "unit 3 default -1 -1097695 0 0 -9\n"
+    ++ (text "unit 4 default 0 0 0 0 0\n"
+    ++ text "residual default -800 -878155873 0 0 -23\n")))))))))))))))
+unfolding computing
+lower-two-regions-listing = refl
+
+pub default-reasons-listing : settle (book-bytes default-reasons)
+    ≡ text "interval 102\n"
+    ++ (text "requirement 1 raise 750 75 250 750 0 0\n"
+    ++ (text "unit 10 live 1125000000 1000000000 75 0 -1\n"
+    ++ (text "unit 20 default -75000000 -62500000 -5 -63 -1\n"
+    ++ (text "residual live -1125000000 -937500000 -70 -187 -748\n"
+    ++ (text "requirement 2 raise 0 0 250 750 0 0\n"
+    ++ (text "unit 10 live 1125000000 1000000000 0 0 -1\n"
+    ++ (text "unit 20 default -75000000 -62499842 0 -62 -1\n"
+    ++ (text "unit 40 default -41 -34 0 0 -3\n"
+    ++ (text "residual default -1125003000 -937500124 0 -188 -745\n"
+    ++ (text "requirement 3 raise 0 0 0 1000 0 0\n"
+    ++ (text "unit 10 live 1125000000 1000000000 0 0 0\n"
+    ++ (text "unit 20 default -75000000 -62499475 0 0 0\n"
+    ++ (text "unit 30 default -31 -26 0 0 -1\n"
+    ++ (text "unit 40 default -41 -34 0 0 -1\n"
+    ++ text "residual default -1125010000 -937500465 0 0 -998\n"))))))))))))))
+unfolding computing
+default-reasons-listing = refl
+
+pub bad-frequency-points-listing : settle (book-bytes bad-frequency-points)
+    ≡ text "interval 103\n"
+    ++ (text "requirement 1 raise 150 16667 33 67 0 0\n"
+    ++ (text "unit 1 live 209250525 500000000 8334 0 -5\n"
+    ++ (text "unit 3 live -418501050 -1000000000 -16667 -33 -16\n"
+    ++ (text "residual live 209250525 500000000 8333 0 -46\n"
+    ++ (text "requirement 2 raise 0 0 0 100 0 0\n"
+    ++ (text "unit 2 default -2 -222222222 0 0 -18\n"
+    ++ text "residual default -7 -777777778 0 0 -82\n"))))))
+unfolding computing
+bad-frequency-points-listing = refl
+
+pub sign-turned-listing : settle (book-bytes sign-turned)
+    ≡ text "interval 104\n"
+    ++ (text "requirement 1 raise 7875 158 999 0 0 0\n"
+    ++ (text "unit 1 live 27450000000 1000000000 158 0 0\n"
+    ++ (text "unit 2 live -1125000000 -40983607 -7 -41 0\n"
+    ++ (text "unit 3 live -56250000 -2049180 0 -2 0\n"
+    ++ (text "residual live -26268750000 -956967213 -151 -956 0\n"
+    ++ (text "requirement 2 raise 45000 900 999 0 0 0\n"
+    ++ (text "unit 1 live 27450000000 1000000000 900 0 0\n"
+    ++ (text "residual live -27450000000 -1000000000 -900 -999 0\n"
+    ++ (text "requirement 3 lower 56250 1125 0 999 0 999\n"
+    ++ (text "unit 1 live -15300000000 -996336996 -1121 0 0\n"
+    ++ (text "unit 2 live 14625000000 952380952 1071 0 0\n"
+    ++ (text "unit 3 live 731250000 47619048 54 0 0\n"
+    ++ text "residual live -56250000 -3663004 -4 0 0\n"))))))))))))
+unfolding computing
+sign-turned-listing = refl
+
+pub unplaced-amounts-listing : settle (book-bytes unplaced-amounts)
+    ≡ text "interval 105\n"
+    ++ (text "requirement 1 raise 0 0 501 500 501 500\n"
+    ++ (text "unit 1 live 0 0 0 0 0\n"
+    ++ (text "unit 2 live 0 0 0 0 0\n"
+    ++ (text "residual live 0 0 0 0 0\n"
+    ++ (text "requirement 2 raise 0 0 0 1001 0 1001\n"
+    ++ (text "unit 1 live 0 0 0 0 0\n"
+    ++ (text "unit 2 live 0 0 0 0 0\n"
+    ++ (text "residual live 0 0 0 0 0\n"
+    ++ (text "requirement 3 raise 0 0 501 500 501 0\n"
+    ++ (text "unit 3 default -5 -1000000000 0 0 -500\n"
+    ++ text "residual default 0 0 0 0 0\n"))))))))))
+unfolding computing
+unplaced-amounts-listing = refl
+
+pub ramp-listing : settle (book-bytes ramp)
+    ≡ text "interval 106\n"
+    ++ (text "requirement 1 raise 7350 74 7 3 0 3\n"
+    ++ (text "unit 1 live -703000000 -230303030 -17 -2 0\n"
+    ++ (text "unit 2 live 1350500000 442424242 33 0 0\n"
+    ++ (text "unit 65535 live 1702000000 557575758 41 0 0\n"
+    ++ (text "residual live -2349500000 -769696970 -57 -5 0\n"
+    ++ (text "requirement 2 lower 11250 113 7 3 0 3\n"
+    ++ (text "unit 1 live 3629000000 712686567 81 0 0\n"
+    ++ (text "unit 2 live 1463000000 287313433 32 0 0\n"
+    ++ (text "unit 65535 live -351500000 -69029851 -8 0 0\n"
+    ++ text "residual live -4740500000 -930970149 -105 -7 0\n")))))))))
+unfolding computing
+ramp-listing = refl
+
+pub ties-listing : settle (book-bytes ties)
+    ≡ text "interval 107\n"
+    ++ (text "requirement 6 raise 225 10 2 12 0 0\n"
+    ++ (text "unit 1 live -112500000 -333333334 -4 -1 -3\n"
+    ++ (text "unit 2 live -112500000 -333333333 -3 -1 -3\n"
+    ++ (text "unit 3 live 0 0 0 0 0\n"
+    ++ (text "unit 4 live -112500000 -333333333 -3 0 -2\n"
+    ++ (text "unit 5 live 337500000 1000000000 10 0 -2\n"
+    ++ text "residual live 0 0 0 0 -2\n"))))))
+unfolding computing
+ties-listing = refl
+
+pub no-units-listing : settle (book-bytes no-units)
+    ≡ text "interval 0\n"
+    ++ (text "requirement 0 lower 0 0 20 30 20 0\n"
+    ++ (text "residual live 0 0 0 0 -30\n"
+    ++ (text "requirement 1 lower 0 0 0 50 0 0\n"
+    ++ text "residual default 0 0 0 0 -50\n")))
+unfolding computing
+no-units-listing = refl

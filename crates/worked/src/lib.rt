@@ -1,0 +1,1 @@
+// worked: further worked books, from their bytes to their listings, as theorems by computing. It holds no code; specs/Listings.antt has the theorems.
