@@ -28,10 +28,12 @@ pub mod Writing
 pub mod Computing
 pub mod PaperBook
 pub mod PaperListing
+pub mod RefusedBooks
 pub mod Edges
 pub mod WorkedBooks
 pub mod WorkedAnswers
 -- Laws of the definitions
+pub mod RefusalLaws
 pub mod Limits
 pub mod LimitsLaws
 pub mod MeasureLaws

@@ -9,12 +9,13 @@ use Rattle.rules.specs.declared.Standing.the-variants.{Live, Default}
 use Rattle.rules.specs.declared.Reason.the-variants.{UnreliableRegion, BadUnit, NoGoodUnit}
 use Rattle.rules.specs.Book.{Requirement, Book}
 use Rattle.rules.specs.Members.{members}
+use Rattle.rules.specs.Rcr.{rcr}
 use Rattle.rules.specs.Answer.{answer}
 use Rattle.rules.specs.Text.{text}
 use Rattle.rules.specs.Listing.{answer-lines}
 use Rattle.rules.specs.PaperBook.{requirement}
 use Rattle.rules.specs.Computing.{computing}
-use Rattle.rules.specs.WorkedBooks.{lower-two-regions, default-reasons, bad-frequency-points, sign-turned, no-units}
+use Rattle.rules.specs.WorkedBooks.{lower-two-regions, default-reasons, bad-frequency-points, sign-turned, weights-decide, no-units}
 
 -- a requirement by its place in the book, from 0
 abbrev at : Book → ℕ → Requirement
@@ -81,6 +82,11 @@ pub empty : answered no-units 0
     ++ text "residual live 0 0 0 0 -30\n"
 unfolding computing
 empty = refl
+
+-- raise is wanted at every point, so the largest response is at t = 75: 75·75; by the sum of FM alone it would be at t = 10
+pub weighed : rcr weights-decide (at weights-decide 0) ≡ 5_625
+unfolding computing
+weighed = refl
 
 -- each reason, unreliable named first
 pub record Reasons : Type 0 where

@@ -109,6 +109,14 @@ sign-turned =
     (steady 1 0 Generation 0 zeros (series (λ t. pos (10 * t))) ∷ steady 2 1 Generation 500 zeros (flat (pos 400)) ∷ steady 3 1 Load 0 zeros (flat (pos 5)) ∷ [])
     (requirement 1 3 Raise 1_800 999 600 900 ∷ requirement 2 1 Raise 1_800 999 600 600 ∷ requirement 3 3 Lower 1_800 999 600 0 ∷ [])
 
+-- ---- generation weights alone decide the sign: from t = 11 on region 0's FM is 20,000 and region 1's -30,000, weighing 300,000 and 100,000
+abbrev pub weights-decide : Book
+weights-decide =
+    book (settings 10_000 20 108)
+    (region 300_000 zeros (flat 49_980_000) ∷ region 100_000 zeros (series (λ t. cond (leb t 10) 49_980_000 50_030_000)) ∷ quiet ∷ quiet ∷ quiet ∷ [])
+    (steady 1 0 Generation 0 zeros (series (λ t. pos t)) ∷ [])
+    (requirement 1 3 Raise 1_200 0 0 0 ∷ [])
+
 -- ---- no weight anywhere; enabled 0; a region whose only unit is bad, a negative side alone
 abbrev pub unplaced-amounts : Book
 unplaced-amounts =
