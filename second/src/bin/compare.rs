@@ -1,0 +1,130 @@
+//! `compare BOOKS [FIRST_SEED]`: makes and damages books, tests the invariants on
+//! the second program, and compares its output byte for byte with the library's
+//! `settle`, where that is built. A difference is kept under target/differences.
+//! Run from the top of the repository, see tests/compare.
+
+use std::collections::BTreeMap;
+use std::fs;
+use std::path::Path;
+use std::process::ExitCode;
+
+use second::book::{read_book, Refusal};
+use second::cents::settle_book;
+use second::library::{announcement, library_command, library_output};
+use second::listing::write_listing;
+use second::{damage, invariants, make, write};
+
+const DIFFERENCES: &str = "target/differences";
+
+/// A book to try, and how to make it again.
+struct Trial {
+    name: String,
+    bytes: Vec<u8>,
+    whole: bool,
+}
+
+/// Every second book is damaged; a large roster comes about once in sixteen.
+fn trial(turn: u64) -> Trial {
+    let (class, _) = make::CLASSES[((turn / 2) % make::CLASSES.len() as u64) as usize];
+    let large = [76, 477, 509, 511, 512];
+    let small = [0, 1, 5, 7, 13, 2, 3];
+    let spread = turn.wrapping_mul(0x9E37_79B9_7F4A_7C15) >> 32;
+    let roster = if spread.is_multiple_of(16) {
+        large[(spread / 16 % large.len() as u64) as usize]
+    } else {
+        small[(spread / 16 % small.len() as u64) as usize]
+    };
+    let book = make::make(turn, class, Some(roster)).expect("a class of the list");
+    let bytes = write::to_bytes(&book);
+    let whole = turn.is_multiple_of(2);
+    if whole {
+        Trial { name: format!("{turn}-{class}-{roster}"), bytes, whole }
+    } else {
+        let bytes = damage::damage(turn, &bytes);
+        Trial { name: format!("{turn}-{class}-{roster}-damaged"), bytes, whole }
+    }
+}
+
+/// The second program's output, with its invariants tested on the way.
+fn second_output(trial: &Trial, turn: u64) -> Result<String, String> {
+    let settled = read_book(&trial.bytes).and_then(|book| Ok((settle_book(&book)?, book)));
+    match settled {
+        Ok((all, book)) => {
+            if write::to_bytes(&book) != trial.bytes {
+                return Err("the book read is not the book given".to_string());
+            }
+            invariants::check(&book, &all)?;
+            invariants::splits_close(&book, &all, turn as usize)?;
+            Ok(write_listing(book.settings.interval, &all))
+        }
+        Err(Refusal(number)) if trial.whole => Err(format!("a made book is refused {number}")),
+        Err(Refusal(number)) if !(1..=10).contains(&number) => Err(format!("refused {number}")),
+        Err(Refusal(number)) => Ok(format!("refused {number}\n")),
+    }
+}
+
+fn keep(name: &str, ending: &str, bytes: &[u8]) {
+    let path = format!("{DIFFERENCES}/{name}.{ending}");
+    fs::write(&path, bytes).expect("a place for differences");
+    println!("kept {path}");
+}
+
+/// One book through both programs: what the second program said, or what is wrong.
+fn try_book(trial: &Trial, turn: u64, command: Option<&[String]>, scratch: &Path) -> Result<String, String> {
+    let ours = std::panic::catch_unwind(|| second_output(trial, turn))
+        .unwrap_or_else(|_| Err("the second program crashed".to_string()))?;
+    if let Some(command) = command {
+        let theirs = library_output(command, &trial.bytes, scratch)?;
+        if theirs != ours.as_bytes() {
+            keep(&trial.name, "second", ours.as_bytes());
+            keep(&trial.name, "library", &theirs);
+            return Err("the outputs differ".to_string());
+        }
+    }
+    Ok(ours)
+}
+
+fn outcome_of(output: &str) -> String {
+    if output.starts_with("refused ") {
+        output.trim_end().to_string()
+    } else {
+        "listing".to_string()
+    }
+}
+
+fn main() -> ExitCode {
+    let mut words = std::env::args().skip(1);
+    let books: u64 =
+        words.next().map_or(400, |word| word.parse().expect("usage: compare BOOKS [FIRST_SEED]"));
+    let first: u64 = words.next().map_or(0, |word| word.parse().expect("usage: compare BOOKS [FIRST_SEED]"));
+    fs::create_dir_all(DIFFERENCES).expect("run from the top of the repository");
+    let scratch = Path::new(DIFFERENCES).join(format!("in-work-{}", std::process::id()));
+    let command = library_command();
+    println!("{}", announcement(command.as_deref()));
+    let mut outcomes: BTreeMap<String, u64> = BTreeMap::new();
+    let (mut passed, mut failed) = (0, 0);
+    for turn in first..first + books {
+        let trial = trial(turn);
+        match try_book(&trial, turn, command.as_deref(), &scratch) {
+            Ok(output) => {
+                *outcomes.entry(outcome_of(&output)).or_default() += 1;
+                passed += 1;
+            }
+            Err(what) => {
+                keep(&trial.name, "book", &trial.bytes);
+                println!("FAILED {}: {what}", trial.name);
+                failed += 1;
+            }
+        }
+    }
+    let _ = fs::remove_file(&scratch);
+    for (outcome, count) in &outcomes {
+        println!("  {outcome}: {count}");
+    }
+    println!("compare: {passed} passed, {failed} failed");
+    if failed == 0 {
+        ExitCode::SUCCESS
+    } else {
+        ExitCode::FAILURE
+    }
+}

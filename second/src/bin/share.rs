@@ -1,0 +1,8 @@
+//! `share`: lines on standard input, one answer each; see README.md.
+
+fn main() -> std::io::Result<()> {
+    for line in std::io::stdin().lines() {
+        println!("{}", second::records::share_line(&line?));
+    }
+    Ok(())
+}

@@ -1,0 +1,30 @@
+//! The independent second program, written from document 01 alone.
+//!
+//! The whole book is held in memory and every figure is an i128, in the most
+//! obvious way, so that it shares no shape with the library it is compared to.
+//! The modules stand in the order of document 01.
+
+pub mod quantities;
+pub mod book;
+pub mod measure;
+pub mod reliability;
+pub mod deviation;
+pub mod performance;
+pub mod members;
+pub mod share;
+pub mod rcr;
+pub mod cents;
+pub mod listing;
+
+pub mod invariants;
+
+pub mod write;
+pub mod describe;
+pub mod worked;
+pub mod chance;
+pub mod make;
+pub mod damage;
+pub mod records;
+pub mod sweep;
+pub mod vectors;
+pub mod library;

@@ -1,0 +1,365 @@
+//! Small worked books whose figures can be checked by hand.
+
+use crate::book::*;
+use crate::quantities::*;
+use crate::write::*;
+
+/// A worked book: its name, what it shows, and the book.
+pub struct Worked {
+    pub name: &'static str,
+    pub shows: &'static str,
+    pub book: Book,
+}
+
+fn along(value: impl Fn(i128) -> i128) -> [i128; POINTS] {
+    let mut all = [0; POINTS];
+    for (point, place) in all.iter_mut().enumerate() {
+        *place = value(point as i128 + 1);
+    }
+    all
+}
+
+/// A unit that holds `start` to `end` while its readings follow a formula.
+fn unit(
+    number: i128,
+    region: usize,
+    load: bool,
+    start: i128,
+    end: i128,
+    reading: impl Fn(i128) -> i128,
+) -> Unit {
+    let mut unit = base_unit(number, region);
+    unit.load = load;
+    unit.start = start;
+    unit.end = end;
+    unit.readings = along(reading);
+    unit
+}
+
+fn with_defaults(mut unit: Unit, defaults: [i128; 6]) -> Unit {
+    unit.defaults = defaults;
+    unit
+}
+
+/// Makes the points from first to last (t from 1) bad, with value 0.
+fn spoil(good: &mut [bool; POINTS], values: &mut [i128; POINTS], first: usize, last: usize) {
+    for point in first - 1..last {
+        good[point] = false;
+        values[point] = 0;
+    }
+}
+
+fn with_bad_readings(mut unit: Unit, first: usize, last: usize) -> Unit {
+    spoil(&mut unit.good, &mut unit.readings, first, last);
+    unit
+}
+
+/// A requirement of one region.
+fn regional(
+    region: usize,
+    number: i128,
+    direction: Direction,
+    price: i128,
+    cost: i128,
+    enabled: i128,
+    used: i128,
+) -> Requirement {
+    requirement(number, 1 << region, direction, price, cost, enabled, used)
+}
+
+fn requirement(
+    number: i128,
+    region_set: u8,
+    direction: Direction,
+    price: i128,
+    cost: i128,
+    enabled: i128,
+    used: i128,
+) -> Requirement {
+    Requirement { number, region_set, direction, price, cost, enabled, used }
+}
+
+/// The book of document 01's listing.
+pub fn listing_book() -> Book {
+    let mut book = base_book();
+    book.frequencies[0].generation = 100_000;
+    book.frequencies[0].frequencies = along(|_| 49_980_000);
+    book.frequencies[0].defaults = [0, 0, -1_000, 0, 0, 0];
+    book.units = vec![
+        with_defaults(unit(1, 0, false, 10_000, 10_000, |_| 10_100), [0, 0, -1_000, 0, 0, 0]),
+        with_defaults(unit(2, 0, true, 5_000, 5_000, |_| 5_030), [0, 0, -1_000, 0, 0, 0]),
+    ];
+    book.requirements = vec![regional(0, 1, Direction::Raise, 1_200, 1_000, 1_000, 333)];
+    book
+}
+
+fn lower_two_regions() -> Book {
+    let mut book = base_book();
+    book.settings.interval = 101;
+    book.frequencies[1].generation = 300_000;
+    book.frequencies[1].frequencies = along(|_| 50_020_000);
+    book.frequencies[1].defaults = [-500, -50, -5, -400, -40, -4];
+    book.frequencies[2].generation = 100_000;
+    book.frequencies[2].frequencies = along(|_| 50_030_000);
+    book.frequencies[2].defaults = [-300, -30, -3, -200, -20, -2];
+    book.units = vec![
+        with_defaults(unit(1, 1, false, 10_000, 10_000, |_| 9_900), [-100, -200, -300, -400, -500, -600]),
+        with_defaults(unit(2, 2, true, 5_000, 5_000, |_| 5_040), [-10, -20, -30, -40, -50, -60]),
+        with_defaults(unit(3, 2, false, 2_000, 2_000, |_| 2_010), [-1, -2, -3, -4, -5, -6]),
+        with_defaults(unit(4, 1, true, 8_000, 8_000, |_| 7_970), [0, 0, 0, -7, -8, -9]),
+    ];
+    book.requirements = vec![
+        requirement(3, 0b00110, Direction::Lower, 3_000, 5_000, 2_000, 1_250),
+        requirement(4, 0b00010, Direction::Lower, 1_199, 777, 1_000, 500),
+        requirement(9, 0b00110, Direction::Raise, 3_000, 1_000, 2_000, 2_000),
+    ];
+    book
+}
+
+fn default_reasons() -> Book {
+    let mut book = base_book();
+    book.settings.bad_unit_percent = 50;
+    book.settings.interval = 102;
+    for region in 0..REGIONS {
+        book.frequencies[region].generation = 100_000;
+        book.frequencies[region].frequencies = along(|_| 49_980_000);
+        let step = region as i128 + 1;
+        book.frequencies[region].defaults = [-1_000 * step, -2_000 * step, -3_000 * step, 0, 0, 0];
+    }
+    book.frequencies[1].separation = true;
+    book.frequencies[4].frequencies = along(|_| 49_990_000);
+    book.units = vec![
+        with_defaults(unit(10, 0, false, 1_000, 1_000, |_| 1_010), [-11, -12, -13, 0, 0, 0]),
+        with_bad_readings(
+            with_defaults(
+                unit(20, 0, false, 1_000, 1_000, |_| 3_000),
+                [-75_000_000, -375_000_000, -23, 0, 0, 0],
+            ),
+            75,
+            75,
+        ),
+        with_defaults(unit(30, 1, true, 1_000, 1_000, |_| 900), [-31, -32, -33, 0, 0, 0]),
+        with_bad_readings(
+            with_defaults(unit(40, 2, true, 1_000, 1_000, |_| 900), [-41, -42, -43, 0, 0, 0]),
+            1,
+            75,
+        ),
+    ];
+    book.requirements = vec![
+        requirement(1, 0b01001, Direction::Raise, 9_000, 1_000, 400, 100),
+        requirement(2, 0b00101, Direction::Raise, 9_000, 1_000, 400, 100),
+        requirement(3, 0b11111, Direction::Raise, 9_000, 1_000, 400, 100),
+    ];
+    book
+}
+
+fn bad_frequency_points() -> Book {
+    let mut book = base_book();
+    book.settings.smoothing = 5_000;
+    book.settings.interval = 103;
+    for region in [0, 3] {
+        book.frequencies[region].measure_before = -20_000;
+        book.frequencies[region].generation = 100_000;
+        book.frequencies[region].frequencies = along(|_| 49_960_000);
+        book.frequencies[region].defaults = [-7, -8, -9, 0, 0, 0];
+    }
+    let limit = &mut book.frequencies[0];
+    spoil(&mut limit.good, &mut limit.frequencies, 3, 12);
+    let over = &mut book.frequencies[3];
+    spoil(&mut over.good, &mut over.frequencies, 3, 13);
+    book.units = vec![
+        with_defaults(unit(1, 0, false, 0, 0, |_| 1), [-1, -1, -1, 0, 0, 0]),
+        with_defaults(unit(2, 3, false, 0, 0, |_| 1), [-2, -2, -2, 0, 0, 0]),
+        with_defaults(unit(3, 0, true, 0, 0, |_| 2), [-3, -3, -3, 0, 0, 0]),
+    ];
+    book.requirements = vec![
+        regional(0, 1, Direction::Raise, 10_000_000, 100, 3, 1),
+        regional(3, 2, Direction::Raise, 10_000_000, 100, 3, 1),
+    ];
+    book
+}
+
+fn sign_turned() -> Book {
+    let mut book = base_book();
+    book.settings.interval = 104;
+    book.frequencies[0].generation = 100_000;
+    book.frequencies[0].frequencies = along(|t| if t <= 60 { 49_980_000 } else { 50_020_000 });
+    book.frequencies[1].generation = 200_000;
+    book.frequencies[1].frequencies = along(|t| if t <= 10 { 49_985_000 } else { 50_030_000 });
+    book.units = vec![
+        unit(1, 0, false, 0, 0, |t| 10 * t),
+        unit(2, 1, false, 500, 500, |_| 400),
+        unit(3, 1, true, 0, 0, |_| 5),
+    ];
+    book.requirements = vec![
+        requirement(1, 0b00011, Direction::Raise, 1_800, 999, 600, 900),
+        requirement(2, 0b00001, Direction::Raise, 1_800, 999, 600, 600),
+        requirement(3, 0b00011, Direction::Lower, 1_800, 999, 600, 0),
+    ];
+    book
+}
+
+fn unplaced() -> Book {
+    let mut book = base_book();
+    book.settings.interval = 105;
+    book.settings.bad_unit_percent = 100;
+    for region in [0, 2] {
+        book.frequencies[region].generation = 1;
+        book.frequencies[region].frequencies = along(|_| 49_980_000);
+    }
+    book.units = vec![
+        unit(1, 0, false, 0, 75, |t| t),
+        unit(2, 0, true, 75, 0, |t| 75 - t),
+        with_bad_readings(with_defaults(unit(3, 2, false, 0, 0, |_| 0), [-5, 0, -7, 0, 0, 0]), 1, 1),
+    ];
+    book.requirements = vec![
+        regional(0, 1, Direction::Raise, 5_000, 1_001, 2, 1),
+        regional(0, 2, Direction::Raise, 5_000, 1_001, 0, 1),
+        regional(2, 3, Direction::Raise, 5_000, 1_001, 2, 1),
+    ];
+    book
+}
+
+fn ramp() -> Book {
+    let mut book = base_book();
+    book.settings.interval = 106;
+    book.frequencies[4].generation = 5_000;
+    book.frequencies[4].frequencies = along(|t| 49_970_000 + 800 * t);
+    book.units = vec![
+        unit(1, 4, false, 0, 100, |_| 0),
+        unit(2, 4, true, 1_000, 900, |_| 950),
+        unit(65_535, 4, false, -100, 100, |t| 2 * t - 50),
+    ];
+    book.requirements = vec![
+        regional(4, 1, Direction::Raise, 900, 10, 3, 2),
+        regional(4, 2, Direction::Lower, 900, 10, 3, 2),
+    ];
+    book
+}
+
+fn ties() -> Book {
+    let mut book = base_book();
+    book.settings.interval = 107;
+    book.frequencies[0].generation = 1;
+    book.frequencies[0].frequencies = along(|_| 49_980_000);
+    book.frequencies[0].defaults = [0, 0, -1, 0, 0, 0];
+    let equal = [0, 0, -1, 0, 0, 0];
+    book.units = vec![
+        with_defaults(unit(1, 0, false, 0, 0, |_| -1), equal),
+        with_defaults(unit(2, 0, false, 0, 0, |_| -1), equal),
+        unit(3, 0, false, 0, 0, |_| 0),
+        with_defaults(unit(4, 0, true, 0, 0, |_| 1), equal),
+        with_defaults(unit(5, 0, true, 0, 0, |_| -3), equal),
+    ];
+    book.requirements = vec![regional(0, 6, Direction::Raise, 4_000, 14, 14, 2)];
+    book
+}
+
+fn no_units() -> Book {
+    let mut book = base_book();
+    book.settings.interval = 0;
+    for region in [0, 1] {
+        book.frequencies[region].generation = 10;
+        book.frequencies[region].frequencies = along(|_| 50_011_000);
+        book.frequencies[region].defaults = [0, 0, 0, -9, -9, -2];
+    }
+    book.requirements = vec![
+        requirement(0, 0b00011, Direction::Lower, 100, 50, 10, 4),
+        requirement(1, 0b00111, Direction::Lower, 100, 50, 10, 4),
+    ];
+    book
+}
+
+fn one_side() -> Book {
+    let mut book = base_book();
+    book.settings.interval = 108;
+    book.settings.bad_unit_percent = 100;
+    book.frequencies[0].generation = 1;
+    book.frequencies[0].frequencies = along(|t| if t <= 7 { 49_980_000 } else { 50_020_000 });
+    for region in [1, 2] {
+        book.frequencies[region].generation = 10;
+        book.frequencies[region].frequencies = along(|_| 49_980_000);
+        book.frequencies[region].defaults = [-20, -30, 0, 0, 0, 0];
+    }
+    book.units = vec![
+        unit(1, 0, false, 0, 0, |t| if t <= 7 { 0 } else { 100 }),
+        with_bad_readings(with_defaults(unit(2, 1, false, 0, 0, |_| 50), [-5, -10, -1, 0, 0, 0]), 8, 8),
+    ];
+    book.requirements = vec![
+        requirement(1, 0b00011, Direction::Raise, 1_200, 100, 4, 1),
+        requirement(2, 0b00101, Direction::Raise, 1_200, 100, 4, 1),
+        requirement(3, 0b00001, Direction::Raise, 1_200, 100, 4, 1),
+        requirement(4, 0b00001, Direction::Lower, 1_200, 100, 4, 1),
+    ];
+    book
+}
+
+pub fn all() -> Vec<Worked> {
+    vec![
+        Worked { name: "listing", shows: "Document 01's listing in full.", book: listing_book() },
+        Worked {
+            name: "lower_two_regions",
+            shows: "Lower over two regions in one set, generation and load, one RCR over the set;\n\
+                    then one region alone; then raise in the same regions, where no point has FM\n\
+                    above 0, so every member stands on its raise defaults and all cost is unused.",
+            book: lower_two_regions(),
+        },
+        Worked {
+            name: "default_reasons",
+            shows: "Each default reason: unit 20 is a bad unit, region 1 is unreliable by separation,\n\
+                    region 2 has no good unit, region 4 is unreliable by FM 10000 at all points.\n\
+                    Region 3 has no unit and its residual is live. Requirement 1: one bad of two at\n\
+                    percent 50 keeps RCR. Requirement 2: two bad of three makes RCR 0. Requirement 3:\n\
+                    unreliable regions make RCR and used pool 0.",
+            book: default_reasons(),
+        },
+        Worked {
+            name: "bad_frequency_points",
+            shows: "a 5000 from FM -20000 towards 40000; region 0 has ten bad points (the limit) where\n\
+                    FM stays 25000; region 3 has eleven and is unreliable.",
+            book: bad_frequency_points(),
+        },
+        Worked {
+            name: "sign_turned",
+            shows: "Generation weights turn the sign: both regions need raise at t 1 to 10; at t 11 to 60\n\
+                    region 0 needs raise, but region 1 weighs more and needs lower. Requirement 1 takes\n\
+                    its RCR at t 10, requirement 2 (region 0 alone) at t 60. Requirement 1 has used over\n\
+                    enabled, requirement 3 used 0.",
+            book: sign_turned(),
+        },
+        Worked {
+            name: "unplaced",
+            shows: "Requirement 1: both units on their trajectory, no weight anywhere, used and unused\n\
+                    unplaced. Requirement 2: enabled 0. Requirement 3: a region whose only unit is bad,\n\
+                    a negative side alone, no used weight.",
+            book: unplaced(),
+        },
+        Worked {
+            name: "ramp",
+            shows: "FM 30000 - 800·t, so raise to t 37 and lower from t 38; trajectories that fall between\n\
+                    whole cMW and are not rounded; a load that ramps down; the highest unit number.",
+            book: ramp(),
+        },
+        Worked {
+            name: "ties",
+            shows: "Equal weights and left-overs: ties go to the earlier member; a member without weight\n\
+                    gets nothing.",
+            book: ties(),
+        },
+        Worked {
+            name: "one_side",
+            shows: "RCR above 0, yet no pool: unit 1 moves at t 8 to 75 only, where its region needs lower\n\
+                    but the set, by the weight of the other region, raise. Requirement 1: only a\n\
+                    negative side, by the defaults of unit 2 and of region 1's residual. Requirement 2:\n\
+                    no side at all, used and unused unplaced. Requirement 3: region 0 alone, where RCR\n\
+                    is 0 too. Requirement 4: lower, where unit 1 hinders and the residual helps.",
+            book: one_side(),
+        },
+        Worked {
+            name: "no_units",
+            shows: "Roster 0: live residuals at 0; used unplaced; the unused pool on the residual alone;\n\
+                    requirement 1 adds a region at 50 Hz, which is unreliable.",
+            book: no_units(),
+        },
+    ]
+}

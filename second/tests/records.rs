@@ -1,0 +1,54 @@
+//! The line programs `share` and `records`.
+
+use second::book::UNITS_AT;
+use second::records::{record_line, share_line};
+use second::sweep::put;
+use second::worked::listing_book;
+use second::write::to_bytes;
+
+fn hex(bytes: &[u8]) -> String {
+    bytes.iter().map(|byte| format!("{byte:02x}")).collect()
+}
+
+#[test]
+fn share_lines() {
+    assert_eq!(share_line("10 1 1 1"), "4 3 3 unplaced 0");
+    assert_eq!(share_line("5 0 0"), "0 0 unplaced 5");
+    assert_eq!(share_line("5"), "unplaced 5");
+    assert_eq!(share_line("1000000000001 1"), "refused 5");
+    assert_eq!(share_line("1 6010000000000000000 1"), "refused 5");
+    assert_eq!(share_line("1 x"), "bad line");
+    assert_eq!(share_line(""), "bad line");
+    assert_eq!(share_line("-1 1"), "bad line");
+}
+
+#[test]
+fn record_lines() {
+    let bytes = to_bytes(&listing_book());
+    assert_eq!(record_line(&format!("contents {}", hex(&bytes))), "2 1");
+    assert_eq!(record_line(&format!("contents {}", hex(&bytes[..55]))), "refused 1");
+    assert_eq!(record_line("settings 10270a1407000000"), "10000 10 20 7");
+    assert_eq!(record_line("settings 00000a1407000000"), "refused 6");
+    assert_eq!(record_line("settings -"), "refused 1");
+    let frequency = record_line(&format!("frequency {} 0", hex(&bytes[64..])));
+    assert!(frequency.starts_with("0 0 1111"), "{frequency}");
+    assert_eq!(frequency.split(' ').count(), 5 + 6 + 75);
+    assert_eq!(record_line(&format!("frequency {} 1", hex(&bytes[64..]))), "refused 7");
+    let unit = hex(&bytes[UNITS_AT..UNITS_AT + 372]);
+    let fields = record_line(&format!("unit {unit} -"));
+    assert!(fields.starts_with("1 0 0 10000 10000 0 0 -1000 0 0 0 1111"), "{fields}");
+    assert_eq!(record_line(&format!("unit {unit} 0")), fields);
+    assert_eq!(record_line(&format!("unit {unit} 1")), "refused 9");
+    let last = &bytes[UNITS_AT + 2 * 372..];
+    let requirement = "1 1 0 1200 1000 1000 333";
+    assert_eq!(record_line(&format!("requirement {} -", hex(last))), requirement);
+    assert_eq!(record_line(&format!("requirement {} 1", hex(last))), "refused 10");
+    let mut longer = last.to_vec();
+    longer.push(0);
+    assert_eq!(record_line(&format!("requirement {} -", hex(&longer))), requirement);
+    assert_eq!(record_line(&format!("requirement {} - last", hex(&longer))), "refused 4");
+    put(&mut longer, 3, 1, 2);
+    assert_eq!(record_line(&format!("requirement {} - last", hex(&longer))), "refused 10");
+    assert_eq!(record_line("requirement zz -"), "bad line");
+    assert_eq!(record_line("other 00"), "bad line");
+}
