@@ -15,7 +15,7 @@ use Rattle.rules.specs.Text.{text}
 use Rattle.rules.specs.Listing.{answer-lines}
 use Rattle.rules.specs.PaperBook.{requirement}
 use Rattle.rules.specs.Computing.{computing}
-use Rattle.rules.specs.WorkedBooks.{lower-two-regions, default-reasons, bad-frequency-points, sign-turned, weights-decide, no-units}
+use Rattle.rules.specs.WorkedBooks.{lower-two-regions, default-reasons, bad-frequency-points, sign-turned, weights-decide, no-units, one-side}
 
 -- a requirement by its place in the book, from 0
 abbrev at : Book → ℕ → Requirement
@@ -82,6 +82,15 @@ pub empty : answered no-units 0
     ++ text "residual live 0 0 0 0 -30\n"
 unfolding computing
 empty = refl
+
+-- RCR above 0 and a negative side alone: factors, and no pool
+pub one-sided : answered one-side 0
+    ≡ text "requirement 1 raise 7500 0 25 75 0 0\n"
+    ++ (text "unit 1 live 0 0 0 0 0\n"
+    ++ (text "unit 2 default -5 -200000000 0 -6 -75\n"
+    ++ text "residual default -20 -800000000 0 -19 0\n"))
+unfolding computing
+one-sided = refl
 
 -- raise is wanted at every point, so the largest response is at t = 75: 75·75; by the sum of FM alone it would be at t = 10
 pub weighed : rcr weights-decide (at weights-decide 0) ≡ 5_625

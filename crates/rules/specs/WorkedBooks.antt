@@ -159,3 +159,13 @@ no-units =
     (region 10 (minus 0 0 0 9 9 2) (flat 50_011_000) ∷ region 10 (minus 0 0 0 9 9 2) (flat 50_011_000) ∷ quiet ∷ quiet ∷ quiet ∷ [])
     []
     (requirement 0 3 Lower 100 50 10 4 ∷ requirement 1 7 Lower 100 50 10 4 ∷ [])
+
+-- ---- RCR above 0, yet no pool: unit 1 moves where its region needs lower but the set, by the other region's weight, raise
+abbrev pub one-side : Book
+one-side =
+    book (settings 10_000 100 108)
+    (region 1 zeros (series (λ t. cond (leb t 7) 49_980_000 50_020_000)) ∷ region 10 (minus 20 30 0 0 0 0) (flat 49_980_000) ∷ region 10 (minus 20 30 0 0 0 0) (flat 49_980_000) ∷ quiet ∷ quiet ∷ [])
+    (steady 1 0 Generation 0 zeros (series (λ t. cond (leb t 7) (pos 0) (pos 100)))
+    ∷ unit 2 1 Generation (pos 0) (pos 0) (minus 5 10 1 0 0 0) (series (λ t. not (eqb t 8))) (series (λ t. cond (eqb t 8) (pos 0) (pos 50)))
+    ∷ [])
+    (requirement 1 3 Raise 1_200 100 4 1 ∷ requirement 2 5 Raise 1_200 100 4 1 ∷ requirement 3 1 Raise 1_200 100 4 1 ∷ requirement 4 1 Lower 1_200 100 4 1 ∷ [])

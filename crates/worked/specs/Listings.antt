@@ -5,7 +5,7 @@ use Rattle.rules.specs.Text.{text}
 use Rattle.rules.specs.Listing.{settle}
 use Rattle.rules.specs.Writing.{book-bytes}
 use Rattle.rules.specs.Computing.{computing}
-use Rattle.rules.specs.WorkedBooks.{lower-two-regions, default-reasons, bad-frequency-points, sign-turned, unplaced-amounts, ramp, ties, no-units}
+use Rattle.rules.specs.WorkedBooks.{lower-two-regions, default-reasons, bad-frequency-points, sign-turned, unplaced-amounts, ramp, ties, no-units, one-side}
 
 pub lower-two-regions-listing : settle (book-bytes lower-two-regions)
     ≡ text "interval 101\n"
@@ -129,3 +129,21 @@ pub no-units-listing : settle (book-bytes no-units)
     ++ text "residual default 0 0 0 0 -50\n")))
 unfolding computing
 no-units-listing = refl
+
+pub one-side-listing : settle (book-bytes one-side)
+    ≡ text "interval 108\n"
+    ++ (text "requirement 1 raise 7500 0 25 75 0 0\n"
+    ++ (text "unit 1 live 0 0 0 0 0\n"
+    ++ (text "unit 2 default -5 -200000000 0 -6 -75\n"
+    ++ (text "residual default -20 -800000000 0 -19 0\n"
+    ++ (text "requirement 2 raise 7500 0 25 75 25 75\n"
+    ++ (text "unit 1 live 0 0 0 0 0\n"
+    ++ (text "residual live 0 0 0 0 0\n"
+    ++ (text "requirement 3 raise 0 0 25 75 25 75\n"
+    ++ (text "unit 1 live 0 0 0 0 0\n"
+    ++ (text "residual live 0 0 0 0 0\n"
+    ++ (text "requirement 4 lower 7500 100 25 75 0 75\n"
+    ++ (text "unit 1 live -10200000000 -1000000000 -100 -25 0\n"
+    ++ text "residual live 10200000000 1000000000 100 0 0\n"))))))))))))
+unfolding computing
+one-side-listing = refl
