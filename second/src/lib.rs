@@ -25,6 +25,7 @@ pub mod chance;
 pub mod make;
 pub mod damage;
 pub mod records;
+pub mod lines;
 pub mod sweep;
 pub mod vectors;
 pub mod library;

@@ -1,0 +1,108 @@
+//! Lines for `share` and `records`: what the library's own programs are held to, line by line.
+
+use crate::chance::Chance;
+use crate::damage::damage;
+use crate::make::{make, CLASSES};
+use crate::write::to_bytes;
+
+const TOTAL_LIMIT: i128 = 1_000_000_000_000;
+const WEIGHT_LIMIT: i128 = 6_010_000_000_000_000_000;
+const SIZES: [usize; 10] = [0, 1, 2, 3, 5, 7, 13, 76, 477, 513];
+
+/// The nth share: edges first, then drawn ones.
+pub fn share(seed: u64, nth: usize) -> String {
+    let mut chance = Chance::new(seed.wrapping_add(nth as u64));
+    let weights = match nth % 8 {
+        0 => sum_to(&mut chance, WEIGHT_LIMIT),
+        1 => sum_to(&mut chance, WEIGHT_LIMIT + 1),
+        2 => equal(&mut chance),
+        3 => one_alone(&mut chance),
+        4 => vec![0; chance.pick(&SIZES)],
+        5 => vec![i128::from(u64::MAX); chance.pick(&SIZES)],
+        _ => drawn(&mut chance),
+    };
+    let total = match chance.between(0, 5) {
+        0 => TOTAL_LIMIT,
+        1 => TOTAL_LIMIT + 1,
+        2 => 1_000_000_000,
+        _ => chance.any_size(TOTAL_LIMIT),
+    };
+    let words: Vec<String> = std::iter::once(total).chain(weights).map(|n| n.to_string()).collect();
+    words.join(" ")
+}
+
+/// Weights of many sizes whose sum is exactly `whole`.
+fn sum_to(chance: &mut Chance, whole: i128) -> Vec<i128> {
+    let n = chance.pick(&SIZES).max(1);
+    let mut weights: Vec<i128> = (1..n).map(|_| chance.any_size(whole / n as i128)).collect();
+    weights.push(whole - weights.iter().sum::<i128>());
+    weights
+}
+
+fn equal(chance: &mut Chance) -> Vec<i128> {
+    let n = chance.pick(&SIZES);
+    vec![chance.any_size(WEIGHT_LIMIT / n.max(1) as i128); n]
+}
+
+fn one_alone(chance: &mut Chance) -> Vec<i128> {
+    let mut weights = vec![0; chance.pick(&SIZES).max(1)];
+    let place = chance.place(weights.len());
+    weights[place] = chance.any_size(WEIGHT_LIMIT);
+    weights
+}
+
+fn drawn(chance: &mut Chance) -> Vec<i128> {
+    let n = chance.pick(&SIZES);
+    let most = chance.any_size(WEIGHT_LIMIT / n.max(1) as i128);
+    (0..n).map(|_| chance.any_size(most.max(1))).collect()
+}
+
+/// The nth record line of a kind: bytes of any kind, or a record of a made book, whole, damaged, cut or with bytes after it.
+pub fn record(kind: &str, seed: u64, nth: usize) -> String {
+    let mut chance = Chance::new(seed.wrapping_add(nth as u64));
+    let part = if nth % 2 == 0 { any_bytes(&mut chance) } else { made_part(kind, &mut chance) };
+    let hex: String = if part.is_empty() {
+        "-".to_string()
+    } else {
+        part.iter().map(|byte| format!("{byte:02x}")).collect()
+    };
+    let before = if chance.one_in(2) { "-".to_string() } else { chance.any_size(65_535).to_string() };
+    match kind {
+        "frequency" => format!("frequency {hex} {}", region_due(&part, &mut chance)),
+        "unit" => format!("unit {hex} {before}"),
+        "requirement" if chance.one_in(2) => format!("requirement {hex} {before} last"),
+        "requirement" => format!("requirement {hex} {before}"),
+        _ => format!("{kind} {hex}"),
+    }
+}
+
+/// Mostly the region that the record names.
+fn region_due(part: &[u8], chance: &mut Chance) -> i128 {
+    match part.first() {
+        Some(&region) if region < 5 && !chance.one_in(5) => i128::from(region),
+        _ => chance.between(0, 4),
+    }
+}
+
+fn any_bytes(chance: &mut Chance) -> Vec<u8> {
+    let length = chance.between(0, 400);
+    (0..length).map(|_| chance.between(0, 255) as u8).collect()
+}
+
+fn made_part(kind: &str, chance: &mut Chance) -> Vec<u8> {
+    let (class, _) = chance.pick(&CLASSES);
+    let book = make(chance.draw(), class, Some(5)).expect("a class of CLASSES");
+    let mut bytes = to_bytes(&book);
+    if chance.one_in(2) {
+        bytes = damage(chance.draw(), &bytes);
+    }
+    let (start, size) = match kind {
+        "contents" => (0, 56),
+        "settings" => (56, 8),
+        "frequency" => (64 + 368 * chance.place(5), 368),
+        "unit" => (1_904 + 372 * chance.place(5), 372),
+        _ => (1_904 + 372 * 5, 24),
+    };
+    let length = if chance.one_in(4) { chance.between(0, size as i128 + 30) as usize } else { size };
+    bytes.into_iter().skip(start).take(length).collect()
+}
