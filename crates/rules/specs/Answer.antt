@@ -1,4 +1,5 @@
 -- The answer to one requirement: what the listing prints of it (01, One listing in full).
+use mathlib.Core.Bool.{Bool}
 use mathlib.Core.List.{List}
 use Prim.Native.Nat.{ℕ, _-_}
 use lib.IntN.{ℤ}
@@ -48,13 +49,11 @@ lines-of pool used-pool unused-pool ms =
       unused = charge unused-pool (unused-weights ms) i;
     }) ms
 
--- unused pool: cost less used pool
-unfoldable pub answer : Book → Requirement → Answer
-answer b q =
-    let ms = members b q in
-    let r = rcr b q in
+-- from RCR, whether all its regions are reliable, and its members. Unused pool: cost less used pool
+unfoldable pub answered : Requirement → ℕ → Bool → List Member → Answer
+answered q r reliable ms =
     let pool = pool-of q r ms in
-    let used-pool = used-pool-of q (all-reliable b q) in
+    let used-pool = used-pool-of q reliable in
     let unused-pool = q .cost - used-pool in
     record {
       number = q .number;
@@ -67,3 +66,6 @@ answer b q =
       unplaced-unused = unplaced-of unused-pool (unused-weights ms);
       lines = lines-of pool used-pool unused-pool ms;
     }
+
+unfoldable pub answer : Book → Requirement → Answer
+answer b q = answered q (rcr b q) (all-reliable b q) (members b q)

@@ -23,7 +23,7 @@ use Rattle.rules.specs.Factors.{helpful, unhelpful}
 use Rattle.rules.specs.Rcr.{rcr, all-reliable}
 use Rattle.rules.specs.RcrLaws.{rcr-within}
 use Rattle.rules.specs.Cents.{priced, any-weight, pool-of, used-pool-of, charge}
-use Rattle.rules.specs.Answer.{Line, Answer, lines-of, answer}
+use Rattle.rules.specs.Answer.{Line, Answer, lines-of, answered, answer}
 use Rattle.rules.specs.Limits.{RequirementFits, BookFits}
 
 -- ---- the pools are within the limit of T
@@ -131,14 +131,14 @@ module _ (b : Book) (q : Requirement) where
 
   -- what is credited, and what is debited, is the pool
   pub credits-are-the-pool : totalℕ (λ l. gain (l .payment)) (answer b q .lines) ≡ answer b q .pool
-  unfolding answer lines-of
+  unfolding answer answered lines-of
   credits-are-the-pool =
       numbered-sum (λ l. gain (l .payment)) _ (share-of pool (helpful ms)) (λ i m. credit-is _ _ (one-share pool ms i)) ms
       ∙ over-members pool (λ m. gain (m .payment)) ms
       ∙ credits-full
 
   pub debits-are-the-pool : totalℕ (λ l. loss (l .payment)) (answer b q .lines) ≡ answer b q .pool
-  unfolding answer lines-of
+  unfolding answer answered lines-of
   debits-are-the-pool =
       numbered-sum (λ l. loss (l .payment)) _ (share-of pool (unhelpful ms)) (λ i m. debit-is _ _ (one-share pool ms i)) ms
       ∙ over-members pool (λ m. loss (m .payment)) ms
@@ -146,14 +146,14 @@ module _ (b : Book) (q : Requirement) where
 
   -- the charges with what is unplaced are their pools
   pub used-charges : totalℕ (λ l. loss (l .used)) (answer b q .lines) + answer b q .unplaced-used ≡ answer b q .used-pool
-  unfolding answer lines-of
+  unfolding answer answered lines-of
   used-charges = charged (used-pool-of q (all-reliable b q)) (λ m. loss (m .used)) (λ l. l .used) _ ms (λ i m. refl)
 
   pub unused-charges : totalℕ (λ l. loss (l .unused)) (answer b q .lines) + answer b q .unplaced-unused ≡ answer b q .unused-pool
-  unfolding answer lines-of
+  unfolding answer answered lines-of
   unused-charges = charged (q .cost - used-pool-of q (all-reliable b q)) (λ m. loss (m .unused)) (λ l. l .unused) _ ms (λ i m. refl)
 
   -- and the two pools are the cost
   pub pools-are-the-cost : answer b q .used-pool + answer b q .unused-pool ≡ q .cost
-  unfolding answer
+  unfolding answer answered
   pools-are-the-cost = omega (arith, used-pool-≤ q (all-reliable b q))

@@ -17,11 +17,11 @@ use Rattle.rules.specs.Standings.{some-good-or-none}
 use Rattle.rules.specs.Members.{unit-member, residual-member, members}
 use Rattle.rules.specs.Share.{left-over, given, amount, unplaced, share-reply}
 use Rattle.rules.specs.Rcr.{weighed-measure, response, all-reliable, rcr}
-use Rattle.rules.specs.Answer.{lines-of, answer}
+use Rattle.rules.specs.Answer.{lines-of, answered, answer}
 use Rattle.rules.specs.Text.{text, digits, words}
 use Rattle.rules.specs.Listing.{joined, answer-lines, listing, settle}
 use Rattle.rules.specs.Writing.{bytes, concat, bits, regions-bytes, book-bytes}
 
 unfoldable pub computing : Unit {0}
-unfolding sum sumℕ every largest total totalℕ those numbered little listed contents settings region-in frequency-record unit-in unit-record requirement-in requirement-record frequency-body unit-body requirement-body book measure-after reliable reliable-in deviation good performance unit-performance residual-performance some-good-or-none unit-member residual-member members left-over given amount unplaced share-reply weighed-measure response all-reliable rcr lines-of answer text digits words joined answer-lines listing settle bytes concat bits regions-bytes book-bytes
+unfolding sum sumℕ every largest total totalℕ those numbered little listed contents settings region-in frequency-record unit-in unit-record requirement-in requirement-record frequency-body unit-body requirement-body book measure-after reliable reliable-in deviation good performance unit-performance residual-performance some-good-or-none unit-member residual-member members left-over given amount unplaced share-reply weighed-measure response all-reliable rcr lines-of answered answer text digits words joined answer-lines listing settle bytes concat bits regions-bytes book-bytes
 computing = tt
