@@ -6,13 +6,14 @@ use native.Mathlib.Omega.{arith}
 use lib.Dec.{T, ltb, leb→le}
 use lib.IntN.{ℤ, pos, negsuc, negℤ, natAbs, _+ℤ_, _-ℤ_, +ℤ-idl}
 use lib.Signed.{_≤ℤ_, _<ℤ_, nonNeg, mag, yes-nonNeg, pos-natAbs, quotZ, remZ, mag-rem}
-use borrow.Author.Tests.{lt-ltb}
+use borrow.Author.Tests.{lt-ltb, le-ltb}
 use mir.Syntax.{Width}
 use mir.Val.{Fits, SFits, hbits, bits, toZ, ofZ, sel}
 use mir.Facts.{fits-natAbs, toZ-ofZ}
 use mir.ValLaws.{sfits-le}
 use native.Mathlib.Nat.{div-le-self}
-use Rattle.integers.specs.Pairs.{lt-in}
+use Rattle.integers.specs.Pairs.{v, _⊖_, ring, lt-in}
+use Rattle.integers.specs.Bounds.{fits! }
 
 -- `z as u64`
 pub to-unsigned : {w w′ : Width} {z : ℤ} → T (ltb (hbits w) (bits w′)) → SFits w z → pos 0 ≤ℤ z → T (nonNeg z) × Fits w′ (natAbs z)
@@ -79,3 +80,19 @@ back w f e = toZ-ofZ (record { sfits = f }) ∙ e
 -- an element's bound, at its own width and at a wider one
 pub elem : (w : Width) (z : ℤ) → mag z < 2 ^ hbits w → SFits w z
 elem w z f = record { sfits = f }
+
+-- ---- an unsigned number's upper half read as below zero: `-((MAX - x) as i64) - 1`, where y is MAX - x
+pub turned-fits : (w : Width) (y : ℕ) → y < 2 ^ hbits w → SFits w (pos 0 -ℤ pos y)
+turned-fits w y h = fits! w (v (pos 0) ⊖ v (pos y)) (omega arith) (omega arith)
+
+pub turned-next-fits : (w : Width) (y : ℕ) → y < 2 ^ hbits w → SFits w ((pos 0 -ℤ pos y) -ℤ pos 1)
+turned-next-fits w y h = fits! w ((v (pos 0) ⊖ v (pos y)) ⊖ v (pos 1)) (omega arith) (omega arith)
+
+pub toZ-upper : (w : Width) (x y : ℕ) → 2 ^ hbits w ≤ x → x + y + 1 ≡ 2 ^ bits w → (pos 0 -ℤ pos y) -ℤ pos 1 ≡ toZ w x
+toZ-upper w x y h e =
+    ring ((v (pos 0) ⊖ v (pos y)) ⊖ v (pos 1)) (v (negsuc (2 ^ bits w - suc x))) (omega arith)
+    ∙ ap (λ t. sel t (pos x) (negsuc (2 ^ bits w - suc x))) (sym (le-ltb x (2 ^ hbits w) h))
+
+-- the same as the machine has it, with each step's number read back from its bits
+pub turned-back : (w : Width) (x y : ℕ) → y < 2 ^ hbits w → 2 ^ hbits w ≤ x → x + y + 1 ≡ 2 ^ bits w → toZ w (ofZ w (toZ w (ofZ w (pos 0 -ℤ toZ w y)) -ℤ pos 1)) ≡ toZ w x
+turned-back w x y h l e = rw (toZ-small w {n = y} h, toZ-ofZ (turned-fits w y h)) (toZ-ofZ (turned-next-fits w y h) ∙ toZ-upper w x y l e)

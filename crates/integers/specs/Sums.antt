@@ -61,6 +61,10 @@ pub every-step : (n : ℕ) (p : ℕ → Bool) → every n p ≡ true → p n ≡
 unfolding every
 every-step n p h e = rw (add-one n) (rw (h, e))
 
+pub every-more : (n : ℕ) (p : ℕ → Bool) → every (n + 1) p ≡ every n p && p n
+unfolding every
+every-more n p = rw (add-one n)
+
 pub every-none : (p : ℕ → Bool) → every 0 p ≡ true
 unfolding every
 every-none p = refl

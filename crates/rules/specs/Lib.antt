@@ -41,5 +41,7 @@ pub mod DeviationLaws
 pub mod PerformanceLaws
 pub mod RcrLaws
 pub mod MembersLaws
+pub mod BytesLaws
+pub mod RecordLaws
 pub mod ShareLaws
 pub mod CentsLaws

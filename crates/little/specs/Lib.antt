@@ -1,0 +1,2 @@
+-- What the readers of single numbers promise
+pub mod Numbers
