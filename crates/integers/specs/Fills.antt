@@ -1,5 +1,5 @@
 -- Lists that a loop writes from the front, one store a turn, and lists to which it adds, number by number.
-use mathlib.Core.Path.{_≡_, refl, sym, _∙_, ap}
+use mathlib.Core.Path.{_≡_, refl, sym, _∙_, ap, ap₂}
 use mathlib.Core.Bool.{Bool, true, false, cond}
 use mathlib.Core.List.{List, [], _∷_}
 use Prim.Native.Nat.{ℕ, zero, suc, _+_, _<_, _≤_}
@@ -43,6 +43,10 @@ module _ {A : Type 0} where
   -- one store more
   pub filled-more : (n : ℕ) (g : ℕ → A) (xs : List A) → set (filled n g xs) n (g n) ≡ filled (n + 1) g xs
   filled-more n g xs = store n g xs ∙ ap (λ (m : ℕ). filled m g xs) (sym (add-one n))
+
+  -- the same of what a turn has in hand
+  pub filled-store : (n : ℕ) (g : ℕ → A) (xs ys : List A) (z : A) → ys ≡ filled n g xs → z ≡ g n → set ys n z ≡ filled (n + 1) g xs
+  filled-store n g xs ys z e f = ap₂ (λ (l : List A) (y : A). set l n y) e f ∙ filled-more n g xs
 
   pub filled-length : (n : ℕ) (g : ℕ → A) (xs : List A) → length (filled n g xs) ≡ length xs
   unfolding filled

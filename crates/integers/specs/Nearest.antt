@@ -3,9 +3,9 @@ use mathlib.Core.Path.{_≡_, refl, sym, _∙_, ap}
 use Prim.Native.Nat.{ℕ, zero, suc, _+_, _*_, _-_, _/_, _≤_, _<_}
 use native.Mathlib.Nat.{div-lt-iff-lt-mul, div-mul-le-self, lt-div-mul-add, mul-le-mul-left}
 use native.Mathlib.Omega.{arith}
-use lib.IntN.{ℤ, pos, negsuc, negℤ, natAbs, _-ℤ_, _*ℤ_}
-use lib.Signed.{_≤ℤ_, _<ℤ_}
-use Rattle.integers.specs.Pairs.{lt-in, le!, le?, v, neg, _⊖_, _⊗_}
+use lib.IntN.{ℤ, pos, negsuc, negℤ, natAbs, _+ℤ_, _-ℤ_, _*ℤ_}
+use lib.Signed.{_≤ℤ_, _<ℤ_, quotZ}
+use Rattle.integers.specs.Pairs.{lt-in, ring, le!, le?, v, neg, _⊖_, _⊗_}
 use Rattle.integers.specs.Bounds.{Within, within-both, within-high, within-low, within-natural, within-negation, abs-neg}
 use Rattle.integers.specs.Sums.{none-below}
 use Rattle.integers.specs.Division.{Divided, quotient}
@@ -80,3 +80,23 @@ nearest-only (negsuc a) d (negsuc b) hd near away =
 pub nearest-within : (n : ℤ) (d k : ℕ) → 0 < d → Within (d * k) n → Within k (nearest n d)
 nearest-within (pos a) d k p h = within-natural (nearestℕ-≤ a d p k (h .size))
 nearest-within (negsuc a) d k p h = within-negation (within-natural (nearestℕ-≤ (suc a) d p k (h .size)))
+
+-- ---- by a division that cuts off toward zero, as the machine's: half of the divisor is added first, away from zero
+halves : (a h : ℕ) → 0 < h → nearestℕ a (2 * h) ≡ (a + h) / (2 * h)
+halves a h p =
+    let q : 0 < 2 * h = omega arith in
+    go ((a + h) / (2 * h)) (div-mul-le-self (a + h) (2 * h)) (lt-div-mul-add {a = a + h} q)
+  where
+    go : (q : ℕ) → q * (2 * h) ≤ a + h → a + h < q * (2 * h) + 2 * h → nearestℕ a (2 * h) ≡ q
+    go q low high = nearestℕ-only a (2 * h) (omega arith) q (omega arith) (omega arith)
+
+pub nearest-up : (n : ℤ) (h : ℕ) → 0 < h → pos 0 ≤ℤ n → quotZ (n +ℤ pos h) (pos (2 * h)) ≡ nearest n (2 * h)
+nearest-up (pos a) h p l = ap pos (sym (halves a h p))
+nearest-up (negsuc a) h p l = absurd (l .le)
+
+pub nearest-down : (n : ℤ) (h : ℕ) → 0 < h → n <ℤ pos 0 → quotZ (n -ℤ pos h) (pos (2 * h)) ≡ nearest n (2 * h)
+nearest-down (pos a) h p l = none-below a (omega (arith, lt-in l))
+nearest-down (negsuc a) h p l =
+    let e : negsuc a -ℤ pos h ≡ negsuc (a + h) = ring (v (negsuc a) ⊖ v (pos h)) (v (negsuc (a + h))) (omega arith) in
+    let s : suc (a + h) ≡ suc a + h = omega arith in
+    rw (e, s) (ap (λ (k : ℕ). negℤ (pos k)) (sym (halves (suc a) h p)))

@@ -45,3 +45,4 @@ pub mod BytesLaws
 pub mod RecordLaws
 pub mod ShareLaws
 pub mod CentsLaws
+pub mod SeriesLaws

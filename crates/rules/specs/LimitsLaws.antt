@@ -71,11 +71,11 @@ defaults-fit limit f e = side
     side Raise = three (f .raise) (both (three-fine limit (f .raise)) (three-fine limit (f .lower)) e .0)
     side Lower = three (f .lower) (both (three-fine limit (f .raise)) (three-fine limit (f .lower)) e .1)
 
-size-fits : (limit : ℕ) (x : ℤ) → sized limit x ≡ true → Within limit x
+pub size-fits : (limit : ℕ) (x : ℤ) → sized limit x ≡ true → Within limit x
 size-fits limit x e = record { size = leb-true (natAbs x) limit e }
 
 -- a frequency within its limits is within 5,000,000 of 50,000,000
-frequency-fits : (f : ℕ) → lowest-frequency ≤ f → f ≤ highest-frequency → Within measure-limit (pos nominal -ℤ pos f)
+pub frequency-fits : (f : ℕ) → lowest-frequency ≤ f → f ≤ highest-frequency → Within measure-limit (pos nominal -ℤ pos f)
 frequency-fits f low high =
     within-both (le! (neg (v (pos measure-limit))) (v (pos nominal) ⊖ v (pos f)) (omega arith)) (le! (v (pos nominal) ⊖ v (pos f)) (v (pos measure-limit)) (omega arith))
 
