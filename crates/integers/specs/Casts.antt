@@ -12,7 +12,7 @@ use mir.Val.{Fits, SFits, hbits, bits, toZ, ofZ, sel}
 use mir.Facts.{fits-natAbs, toZ-ofZ}
 use mir.ValLaws.{sfits-le}
 use native.Mathlib.Nat.{div-le-self}
-use Rattle.integers.specs.Pairs.{v, _⊖_, ring, lt-in}
+use Rattle.integers.specs.Pairs.{gain, loss, le-in, lt-in, ring, v, _⊕_, _⊖_}
 use Rattle.integers.specs.Bounds.{fits! }
 
 -- `z as u64`
@@ -27,11 +27,11 @@ toZ-small w {n} h = ap (λ t. sel t (pos n) (negsuc (2 ^ bits w - suc n))) (lt-l
 pub size-pos : (z : ℤ) → pos 0 ≤ℤ z → z ≡ pos (natAbs z)
 size-pos z h = sym (pos-natAbs z (yes-nonNeg h))
 
+not-below : (n : ℕ) → pos n <ℤ pos 0 → ⊥
+not-below n h = omega (arith, lt-in h)
+
 pub size-neg : (z : ℤ) → z <ℤ pos 0 → pos 0 -ℤ z ≡ pos (natAbs z)
-size-neg (pos n) h = absurd (no n (lt-in h))
-  where
-    no : (n : ℕ) → n + 0 < 0 + 0 → ⊥
-    no n h = omega arith
+size-neg (pos n) h = absurd (not-below n h)
 size-neg (negsuc n) h = +ℤ-idl (pos (suc n))
 
 pub size-lt : {w : Width} (z : ℤ) → SFits w z → pos 0 ≤ℤ z → natAbs z < 2 ^ hbits w
@@ -41,6 +41,35 @@ size-lt (negsuc n) f h = absurd (h .le)
 pub size-0< : (z : ℤ) → pos 0 <ℤ z → 0 < natAbs z
 size-0< (pos n) h = omega (arith, lt-in h)
 size-0< (negsuc n) h = omega arith
+
+-- the size of a number below zero, from the negative of one more, which every width has
+pub turned : (z : ℤ) → z <ℤ pos 0 → pos 0 -ℤ (z +ℤ pos 1) ≡ pos (loss z - 1)
+turned (pos n) h = absurd (not-below n h)
+turned (negsuc n) h = ring (v (pos 0) ⊖ (v (negsuc n) ⊕ v (pos 1))) (v (pos (suc n - 1))) (omega arith)
+
+pub fits-up : {w : Width} (z : ℤ) → z <ℤ pos 0 → SFits w z → SFits w (z +ℤ pos 1)
+fits-up {w} (pos n) h f = absurd (not-below n h)
+fits-up {w} (negsuc n) h f = fits! w (v (negsuc n) ⊕ v (pos 1)) (omega (arith, f .sfits)) (omega (arith, f .sfits))
+
+pub fits-loss : {w : Width} (z : ℤ) → z <ℤ pos 0 → SFits w z → loss z - 1 < 2 ^ hbits w
+fits-loss (pos n) h f = absurd (not-below n h)
+fits-loss (negsuc n) h f = omega (arith, f .sfits)
+
+pub gain-pos : (z : ℤ) → pos 0 ≤ℤ z → natAbs z ≡ gain z
+gain-pos (pos n) h = refl
+gain-pos (negsuc n) h = absurd (h .le)
+
+pub no-gain : (z : ℤ) → z ≤ℤ pos 0 → gain z ≡ 0
+no-gain (pos n) h = omega (arith, le-in h)
+no-gain (negsuc n) h = refl
+
+pub no-loss : (z : ℤ) → pos 0 ≤ℤ z → loss z ≡ 0
+no-loss (pos n) h = refl
+no-loss (negsuc n) h = absurd (h .le)
+
+pub some-loss : (z : ℤ) → z <ℤ pos 0 → 0 < loss z
+some-loss (pos n) h = absurd (not-below n h)
+some-loss (negsuc n) h = omega arith
 
 -- ---- `x == y` tells of the bits
 pub same-bits : {w : Width} {x y : ℤ} → SFits w x → SFits w y → ofZ w x ≡ ofZ w y → x ≡ y

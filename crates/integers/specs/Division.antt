@@ -2,7 +2,7 @@
 use mathlib.Core.Path.{_≡_, refl, sym, _∙_, ap}
 use Prim.Native.Nat.{ℕ, zero, suc, _+_, _*_, _-_, _/_, _%_, _≤_, _<_}
 use native.Mathlib.Omega.{arith}
-use native.Mathlib.Nat.{mul-add-div-right, mul-add-mod-self-right, div-eq-of-lt, mod-eq-of-lt, mul-le-mul-right, add-mul, mul-assoc, le-of-mul-le-mul-right, div-add-mod', mod-lt}
+use native.Mathlib.Nat.{mul-add-div-right, mul-add-mod-self-right, div-eq-of-lt, mod-eq-of-lt, mul-le-mul-left, mul-le-mul-right, add-mul, mul-assoc, le-of-mul-le-mul-right, div-add-mod', mod-lt}
 
 -- x is q times W, and r, which is less than W
 pub record Divided (x W q r : ℕ) : Type 0 where
@@ -39,3 +39,18 @@ pub taken-rest : (T S W R : ℕ) → 0 < W → T * W ≡ S * W + R → (T - S) *
 taken-rest T S W R h e =
     let k : S + (T - S) ≡ T = omega (arith, taken-≤ T S W R h e) in
     omega (arith, rw k at (add-mul S (T - S) W))
+
+-- division by hand, in base D: the upper parts alone give the estimate q, and c remains of them. q times the divisor is what is divided, but
+-- for what the lower parts add and take away
+pub estimated : (D b xh xl wh wl Wh Wl q c : ℕ) → q * Wh + c ≡ xh * D + b * wh → q * (Wh * D + Wl) + (c * D + (xl * D + b * wl)) ≡ (xh * D + xl) * D + b * (wh * D + wl) + q * Wl
+estimated D b xh xl wh wl Wh Wl q c e = omega (arith, ap (λ (z : ℕ). z * D) e)
+
+-- T in two digits of base D, each divided in turn
+pub two-digits : (D high low w : ℕ) {W p r q s : ℕ} → Divided (high * w) W p r → Divided (r * D + low * w) W q s → Divided ((high * D + low) * w) W (p * D + q) s
+two-digits D high low w {W} {p} {r} {q} {s} f g =
+    record { is = omega (arith, ap (λ (z : ℕ). z * D) (f .is), g .is); small = g .small }
+
+-- T times a part of the whole has at most T wholes
+pub quotient-≤ : (T w : ℕ) {W q r : ℕ} → w ≤ W → Divided (T * w) W q r → q ≤ T
+quotient-≤ T w {W} {q} {r} h d =
+    le-of-mul-le-mul-right {k = W} (omega (arith, d .is, mul-le-mul-left T h)) (omega (arith, d .small))

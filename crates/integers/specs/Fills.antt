@@ -76,6 +76,13 @@ module _ {A : Type 0} where
   filled-ext (suc n) f g [] e = refl
   filled-ext (suc n) f g (x ∷ xs) e = rw (e 0 (omega arith), filled-ext n (λ i. f (suc i)) (λ i. g (suc i)) xs (λ i h. e (suc i) (omega arith)))
 
+  -- what is filled again is as if it had been filled once
+  pub filled-again : (n : ℕ) (f g : ℕ → A) (xs : List A) → filled n f (filled n g xs) ≡ filled n f xs
+  unfolding filled
+  filled-again n f g [] = refl
+  filled-again zero f g (x ∷ xs) = refl
+  filled-again (suc n) f g (x ∷ xs) = ap (λ (l : List A). f 0 ∷ l) (filled-again n (λ i. f (suc i)) (λ i. g (suc i)) xs)
+
 -- ---- g i is added to the number at i, of every number
 unfoldable pub added : (ℕ → ℤ) → List ℤ → List ℤ
 added g [] = []

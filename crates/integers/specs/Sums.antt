@@ -5,9 +5,9 @@ use Prim.Native.Nat.{ℕ, zero, suc, _+_, _*_, _≤_, _<_, max}
 use native.Mathlib.Numerals.{add-one}
 use native.Mathlib.Nat.{add-mul, mul-add}
 use native.Mathlib.Omega.{arith}
-use lib.Dec.{eqb, ltb}
+use lib.Dec.{eqb, leb, ltb}
 use lib.IntN.{ℤ, pos, negsuc, negℤ, natAbs, _+ℤ_, _-ℤ_, _*ℤ_, +ℤ-idl, +ℤ-idr, *ℤ-zero, negℤ-+ℤ}
-use borrow.Author.Tests.{ltb-true, ltb-false, eqb-true, eqb-false, ne-eqb}
+use borrow.Author.Tests.{ltb-true, ltb-false, lt-ltb, le-ltb, leb-true, leb-false, eqb-true, eqb-false, ne-eqb}
 use Rattle.integers.specs.Order.{*ℤ-+ℤ, +ℤ-cross}
 use Rattle.integers.specs.Bounds.{Within, within-natural, within-sum, within-wider, abs-add}
 
@@ -249,6 +249,16 @@ sumℕ-term (suc n) f i h = go (λ l. sumℕ-term n f i l) (ltb i n) refl
     go ih true c = omega (arith, ih (ltb-true i n c))
     go ih false c = let q : i ≡ n = omega (arith, ltb-false i n c) in omega (arith, ap f q)
 
+-- and so is the sum of the first terms
+pub sumℕ-prefix : (i n : ℕ) (f : ℕ → ℕ) → i ≤ n → sumℕ i f ≤ sumℕ n f
+unfolding sumℕ
+sumℕ-prefix i zero f h = let e : i ≡ 0 = omega arith in rw e (omega arith)
+sumℕ-prefix i (suc n) f h = go (λ l. sumℕ-prefix i n f l) (ltb n i) refl
+  where
+    go : (i ≤ n → sumℕ i f ≤ sumℕ n f) → (t : Bool) → ltb n i ≡ t → sumℕ i f ≤ sumℕ n f + f n
+    go ih true c = let e : i ≡ suc n = omega (arith, ltb-true n i c) in rw e (omega arith)
+    go ih false c = omega (arith, ih (ltb-false n i c))
+
 -- a sum above zero has a term above zero
 pub some-term : (n : ℕ) (f : ℕ → ℕ) → 0 < sumℕ n f → (i : ℕ) × (i < n) × (0 < f i)
 unfolding sumℕ
@@ -288,3 +298,29 @@ count-one (suc n) k = go (count-one n k) (eqb n k) refl
     go : count n (λ i. eqb i k) ≤ 1 → (t : Bool) → eqb n k ≡ t → count n (λ i. eqb i k) + one t ≤ 1
     go ih true e = omega (arith, none n (omega (arith, eqb-true n k e)))
     go ih false e = omega arith
+
+-- the count of the first i is one of more indexes, by their order
+pub count-below : (n i : ℕ) (p : ℕ → Bool) → i ≤ n → count n (λ j. p j && ltb j i) ≡ count i p
+unfolding sumℕ
+count-below n i p h = go n h
+  where
+    same : count i (λ j. p j && ltb j i) ≡ count i p
+    same = sumℕ-ext i _ _ (λ j l. rw (lt-ltb j i l) (ap one (and-true (p j))))
+      where
+        and-true : (t : Bool) → t && true ≡ t
+        and-true true = refl
+        and-true false = refl
+
+    and-false : (t : Bool) → one (t && false) ≡ 0
+    and-false true = refl
+    and-false false = refl
+
+    go : (n : ℕ) → i ≤ n → count n (λ j. p j && ltb j i) ≡ count i p
+    go zero h = let e : i ≡ 0 = omega arith in ap (λ (m : ℕ). count m (λ j. p j && ltb j i)) (sym e) ∙ same
+    go (suc n) h = by (λ l. go n l) (leb i n) refl
+      where
+        by : (i ≤ n → count n (λ j. p j && ltb j i) ≡ count i p) → (t : Bool) → leb i n ≡ t → count n (λ j. p j && ltb j i) + one (p n && ltb n i) ≡ count i p
+        by ih true e =
+            let l : i ≤ n = leb-true i n e in
+            rw (le-ltb n i l) (omega (arith, ih l, and-false (p n)))
+        by ih false e = let q : suc n ≡ i = omega (arith, leb-false i n e) in ap (λ (m : ℕ). count m (λ j. p j && ltb j i)) q ∙ same

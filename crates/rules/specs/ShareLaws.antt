@@ -1,15 +1,16 @@
 -- Laws of the share: it adds up, each amount is less than one unit away from its exact share, weight 0 gets 0, and refusal 13 is never met.
--- Of the order among remainders the laws use `first-come`, that it is strict and total, and `is-ahead`: nothing else looks at `ahead`.
+-- Of the order among remainders the laws use `first-come`, that it is strict and total, `is-ahead`, and the ranks above, at and below a bound:
+-- nothing else looks at `ahead`.
 use mathlib.Core.Path.{_≡_, refl, sym, _∙_, ap}
 use mathlib.Core.Bool.{Bool, true, false, not, cond, _&&_, _||_}
 use mathlib.Core.List.{List}
 use Prim.Native.Nat.{ℕ, zero, suc, _+_, _*_, _-_, _/_, _%_, _≤_, _<_}
 use native.Mathlib.Omega.{arith}
 use native.Mathlib.Nat.{div-add-mod', mod-lt, le-of-mul-le-mul-right, lt-of-mul-lt-mul-right, add-mul, mul-zero, zero-mod}
-use lib.Dec.{ltb, eqb}
+use lib.Dec.{leb, ltb, eqb}
 use lib.ListN.{length, getD}
-use borrow.Author.Tests.{ltb-true, ltb-false, lt-ltb, le-ltb, eqb-true, eqb-false, ne-eqb}
-use Rattle.integers.specs.Sums.{one, sumℕ, count, sumℕ-ext, sumℕ-zero, sumℕ-plus, sumℕ-times, sumℕ-scale, sumℕ-≤, sumℕ-<, some-term, one-≤, one-mono, count-≤}
+use borrow.Author.Tests.{ltb-true, ltb-false, lt-ltb, le-ltb, leb-true, eqb-true, eqb-false, ne-eqb}
+use Rattle.integers.specs.Sums.{one, sumℕ, count, sumℕ-ext, sumℕ-zero, sumℕ-plus, sumℕ-times, sumℕ-scale, sumℕ-≤, sumℕ-<, some-term, one-≤, one-mono, count-≤, count-below}
 use Rattle.integers.specs.Ranks.{rank, Total, ranked}
 use Rattle.integers.specs.Division.{taken-≤, taken-rest}
 use Rattle.rules.specs.Share.{weight-sum, whole, remainder, left-over, ahead, given, amount, unplaced, with-weight}
@@ -61,6 +62,38 @@ module _ (r : ℕ → ℕ) where
           go true e false f p q = omega arith
           go false e t f p q = omega (arith, one-≤ t)
 
+  -- before a member above a bound come fewer than are above it
+  pub rank-above : (n i bound : ℕ) → i < n → bound < r i → rank (ahead r) n i < count n (λ j. ltb bound (r j))
+  rank-above n i bound h l =
+      sumℕ-< n _ _ (λ j _. one-mono (ahead r j i) (ltb bound (r j)) (λ p. lt-ltb bound (r j) (omega (arith, ahead-means j i p, one-≤ (ltb j i))))) i h (rw (first-come .nobody i, lt-ltb bound (r i) l) (omega arith))
+
+  -- before one at the bound come those above it, and the earlier ones at it
+  pub rank-at : (n i bound : ℕ) → i < n → r i ≡ bound → rank (ahead r) n i ≡ count n (λ j. ltb bound (r j)) + count i (λ j. eqb (r j) bound)
+  rank-at n i bound h e =
+      sumℕ-ext n _ _ (λ j _. ap one (ahead-is j i) ∙ ap (λ (b : ℕ). one (ltb b (r j + one (ltb j i)))) e ∙ apart bound (r j) (ltb j i))
+      ∙ sumℕ-plus n (λ j. one (ltb bound (r j))) (λ j. one (eqb (r j) bound && ltb j i))
+      ∙ ap (λ (m : ℕ). count n (λ j. ltb bound (r j)) + m) (count-below n i (λ j. eqb (r j) bound) (omega arith))
+    where
+      apart : (b x : ℕ) (t : Bool) → one (ltb b (x + one t)) ≡ one (ltb b x) + one (eqb x b && t)
+      apart b x t = go t (ltb b x) refl (eqb x b) refl
+        where
+          go : (t s : Bool) → ltb b x ≡ s → (q : Bool) → eqb x b ≡ q → one (ltb b (x + one t)) ≡ one s + one (q && t)
+          go t true e true f = absurd (omega (arith, ltb-true b x e, eqb-true x b f))
+          go t true e false f = ap one (lt-ltb b (x + one t) (omega (arith, ltb-true b x e)))
+          go true false e true f = ap one (lt-ltb b (x + 1) (omega (arith, eqb-true x b f)))
+          go true false e false f =
+              ap one (le-ltb b (x + 1) (less x b (ltb-false b x e) (eqb-false x b f)))
+            where
+              less : (x b : ℕ) → x ≤ b → (x ≡ b → ⊥) → x + 1 ≤ b
+              less x b l d = omega arith
+          go false false e true f = ap one (le-ltb b (x + 0) (omega (arith, ltb-false b x e)))
+          go false false e false f = ap one (le-ltb b (x + 0) (omega (arith, ltb-false b x e)))
+
+  -- before one below it come all at it or above
+  pub rank-below : (n i bound : ℕ) → r i < bound → count n (λ j. leb bound (r j)) ≤ rank (ahead r) n i
+  rank-below n i bound l =
+      sumℕ-≤ n _ _ (λ j _. one-mono (leb bound (r j)) (ahead r j i) (λ p. is-ahead j i (omega (arith, leb-true bound (r j) p))))
+
 -- ---- the share
 module _ (T n : ℕ) (w : ℕ → ℕ) (h : 0 < weight-sum n w) where
   -- T·W is what the whole parts take, and the remainders
@@ -77,8 +110,8 @@ module _ (T n : ℕ) (w : ℕ → ℕ) (h : 0 < weight-sum n w) where
   left-over-is = taken-rest T _ _ _ h split
 
   -- what is left over is at most the number of members with a remainder
-  few : left-over T n w ≤ count n (λ i. ltb 0 (remainder T n w i))
-  few =
+  pub left-overs-remain : left-over T n w ≤ count n (λ i. ltb 0 (remainder T n w i))
+  left-overs-remain =
       le-of-mul-le-mul-right (rw (left-over-is, ← sumℕ-times n (weight-sum n w) (λ i. one (ltb 0 (remainder T n w i)))) (sumℕ-≤ n _ _ (λ i _. part (remainder T n w i) (mod-lt (T * w i) h)))) h
     where
       part : (r : ℕ) → r < weight-sum n w → r ≤ one (ltb 0 r) * weight-sum n w
@@ -96,9 +129,9 @@ module _ (T n : ℕ) (w : ℕ → ℕ) (h : 0 < weight-sum n w) where
   pub given-count : count n (given T n w) ≡ left-over T n w
   unfolding given
   given-count =
-      ranked (ahead (remainder T n w)) (first-come (remainder T n w)) n (left-over T n w) (omega (arith, few, count-≤ n (λ i. ltb 0 (remainder T n w i))))
+      ranked (ahead (remainder T n w)) (first-come (remainder T n w)) n (left-over T n w) (omega (arith, left-overs-remain, count-≤ n (λ i. ltb 0 (remainder T n w i))))
 
-  whole-and-rest : sumℕ n (whole T n w) + left-over T n w ≡ T
+  pub whole-and-rest : sumℕ n (whole T n w) + left-over T n w ≡ T
   unfolding left-over
   whole-and-rest = omega (arith, taken-≤ T _ _ _ h split)
 
@@ -121,7 +154,7 @@ module _ (T n : ℕ) (w : ℕ → ℕ) (h : 0 < weight-sum n w) where
           let z = ltb-false 0 (remainder T n w i) e in
           let m : count n (λ j. ltb 0 (remainder T n w j)) ≤ rank (ahead (remainder T n w)) n i =
           sumℕ-≤ n _ _ (λ j _. one-mono (ltb 0 (remainder T n w j)) (ahead (remainder T n w) j i) (λ p. is-ahead (remainder T n w) j i (omega (arith, ltb-true 0 (remainder T n w j) p)))) in
-          absurd (omega (arith, few, ltb-true (rank (ahead (remainder T n w)) n i) (left-over T n w) g))
+          absurd (omega (arith, left-overs-remain, ltb-true (rank (ahead (remainder T n w)) n i) (left-over T n w) g))
 
   -- every amount is less than one unit away from its exact share T·weight/W
   pub amount-close : (i : ℕ) → (amount T n w i * weight-sum n w < T * w i + weight-sum n w) × (T * w i < amount T n w i * weight-sum n w + weight-sum n w)
@@ -146,6 +179,40 @@ module _ (T n : ℕ) (w : ℕ → ℕ) (h : 0 < weight-sum n w) where
           go false e =
               let z : w i ≡ 0 = omega (arith, ltb-false 0 (w i) e) in
               rw (z, mul-zero T, zero-mod (weight-sum n w)) (omega arith)
+
+-- ---- a cut among the remainders: those above it are no more than are left over, those at it or above no fewer
+module _ (T n : ℕ) (w : ℕ → ℕ) where
+  pub record Cut (bound above : ℕ) : Type 0 where
+    pub exact : above ≡ count n (λ j. ltb bound (remainder T n w j))
+    pub few : above ≤ left-over T n w
+    pub enough : left-over T n w ≤ count n (λ j. leb bound (remainder T n w j))
+
+-- one more to a remainder above the cut, and to one at it whose place is among those that are left over
+abbrev pub one-more : ℕ → ℕ → ℕ → ℕ → Bool
+one-more rest bound place left = ltb bound rest || eqb rest bound && ltb place left
+
+module _ (T n : ℕ) (w : ℕ → ℕ) {bound above : ℕ} (c : Cut T n w bound above) where
+  -- so the cut says who gets one more
+  pub given-by-cut : (i : ℕ) → i < n → given T n w i ≡ one-more (remainder T n w i) bound (above + count i (λ j. eqb (remainder T n w j) bound)) (left-over T n w)
+  unfolding given
+  given-by-cut i h = go (ltb bound (r i)) refl (eqb (r i) bound) refl
+    where
+      r : ℕ → ℕ
+      r = remainder T n w
+
+      place : ℕ
+      place = above + count i (λ j. eqb (r j) bound)
+
+      go : (s : Bool) → ltb bound (r i) ≡ s → (t : Bool) → eqb (r i) bound ≡ t → ltb (rank (ahead r) n i) (left-over T n w) ≡ (s || t && ltb place (left-over T n w))
+      go true e t f =
+          lt-ltb (rank (ahead r) n i) (left-over T n w) (omega (arith, rank-above r n i bound h (ltb-true bound (r i) e), c .exact, c .few))
+      go false e true f =
+          ap (λ (m : ℕ). ltb m (left-over T n w)) (rank-at r n i bound h (eqb-true (r i) bound f) ∙ ap (λ (m : ℕ). m + count i (λ j. eqb (r j) bound)) (sym (c .exact)))
+      go false e false f =
+          le-ltb (rank (ahead r) n i) (left-over T n w) (omega (arith, rank-below r n i bound (less (r i) bound (ltb-false bound (r i) e) (eqb-false (r i) bound f)), c .enough))
+        where
+          less : (x b : ℕ) → x ≤ b → (x ≡ b → ⊥) → x < b
+          less x b l d = omega arith
 
 -- ---- at any weights
 pub not-zero : (m : ℕ) → eqb m 0 ≡ false → 0 < m

@@ -1,0 +1,80 @@
+/* Instructions of one share: the library's, and C with 128-bit integers by the same cut among the remainders.
+   share N SHAPE WHICH: N weights; SHAPE random, equal, one or two; WHICH lib or c. Prints a sum of the amounts, to compare the two. */
+#include <stdint.h>
+#include <stdio.h>
+#include <stdlib.h>
+#include <string.h>
+
+uint32_t share_amounts(uint64_t total, const uint64_t *weights, size_t n, int64_t *amounts, size_t room, uint64_t *unplaced);
+
+#define TOTAL_LIMIT 1000000000000ull
+#define WEIGHT_LIMIT 6010000000000000000ull
+
+static uint64_t count_from(const int64_t *rests, size_t n, int64_t bound) {
+    uint64_t found = 0;
+    for (size_t i = 0; i < n; i++) found += rests[i] >= bound;
+    return found;
+}
+
+__attribute__((noinline)) uint32_t share_in_c(uint64_t total, const uint64_t *w, size_t n, int64_t *out, size_t room, uint64_t *unplaced) {
+    if (room < n) return 12;
+    if (total > TOTAL_LIMIT) return 5;
+    uint64_t sum = 0, left = total, place;
+    for (size_t i = 0; i < n; i++) {
+        if (w[i] > WEIGHT_LIMIT - sum) return 5;
+        sum += w[i];
+    }
+    *unplaced = 0;
+    if (sum == 0) {
+        memset(out, 0, n * sizeof *out);
+        *unplaced = total;
+        return 0;
+    }
+    for (size_t i = 0; i < n; i++) {
+        unsigned __int128 x = (unsigned __int128)total * w[i];
+        left -= (uint64_t)(x / sum);
+        out[i] = (int64_t)(x % sum);
+    }
+    int64_t low = 1, high = (int64_t)sum;
+    if (left == 0) low = high;
+    while (high - low > 1) {
+        int64_t middle = low + (high - low) / 2;
+        uint64_t found = count_from(out, n, middle);
+        if (found == left) {
+            low = middle - 1;
+            break;
+        }
+        if (found < left) high = middle;
+        else low = middle;
+    }
+    place = count_from(out, n, low + 1);
+    for (size_t i = 0; i < n; i++) {
+        int64_t rest = out[i];
+        out[i] = (int64_t)((unsigned __int128)total * w[i] / sum);
+        if (rest > low) out[i]++;
+        else if (rest == low && place++ < left) out[i]++;
+    }
+    return 0;
+}
+
+static uint64_t state = 88172645463325252ull;
+static uint64_t next(void) {
+    state ^= state << 13;
+    state ^= state >> 7;
+    return state ^= state << 17;
+}
+
+int main(int argc, char **argv) {
+    if (argc != 4) return 2;
+    size_t n = strtoull(argv[1], 0, 10);
+    uint64_t *w = calloc(n, sizeof *w), unplaced = 0, total = TOTAL_LIMIT - 1;
+    int64_t *out = calloc(n, sizeof *out), all = 0;
+    for (size_t i = 0; i < n; i++) {
+        uint64_t most = WEIGHT_LIMIT / n;
+        w[i] = !strcmp(argv[2], "random") ? next() % most : !strcmp(argv[2], "equal") ? most : !strcmp(argv[2], "two") ? most - i % 2 : i == n / 2;
+    }
+    uint32_t r = !strcmp(argv[3], "c") ? share_in_c(total, w, n, out, n, &unplaced) : share_amounts(total, w, n, out, n, &unplaced);
+    for (size_t i = 0; i < n; i++) all += out[i] * (int64_t)(i + 1);
+    printf("%u %llu %lld\n", r, (unsigned long long)unplaced, (long long)all);
+    return 0;
+}

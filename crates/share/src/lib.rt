@@ -1,0 +1,115 @@
+// share: a total over weights, to the unit, by largest remainder (document 01, The share), in words of 64 bits. The weights are lent, or
+// they are one side of the lent performances; nothing else is lent but the column that the amounts go to.
+mod left_overs;
+mod part;
+mod weights;
+
+use left_overs::clear;
+use left_overs::place;
+use left_overs::wholes;
+use rules::Refusal;
+use weights::Source;
+use weights::WEIGHT_LIMIT;
+use weights::members;
+use weights::sum_of;
+use weights::with_weight;
+ghost use mathlib.Core.Path.{_≡_};
+ghost use mathlib.Core.List.{map};
+ghost use Rattle.integers.specs.Pairs.{gain, loss};
+ghost use Rattle.share.specs.Weighing.{weighed, signed};
+ghost use Rattle.share.specs.Promises.{tested, credit, debit, SharedOut};
+
+const TOTAL_LIMIT: u64 = 1_000_000_000_000;
+
+// How much is unplaced, or the refusal.
+pub enum Shared {
+    Placed(u64),
+    Refused(Refusal),
+}
+
+// What the tests of a share find: W and what is left over, that no member has weight, or the refusal.
+enum Tested {
+    Ready(u64, u64),
+    Weightless,
+    Unfit(Refusal),
+}
+
+// Room first, then T and W, then what is left over. Nothing is written.
+fn test_share(
+    source: Source,
+    total: u64,
+    weights: &[u64],
+    performances: &[i64],
+    room: usize,
+) -> Tested
+    ensures { λ r. ⌜ r ≡ tested total (weighed source (now (weights .entry)) (now (performances .entry))) room ⌝ }
+{
+    if room < members(source, weights, performances) {
+        return Tested::Unfit(Refusal::TooShort);
+    }
+    if TOTAL_LIMIT < total {
+        return Tested::Unfit(Refusal::WrongCount);
+    }
+    let sum = sum_of(source, weights, performances);
+    if WEIGHT_LIMIT < sum {
+        return Tested::Unfit(Refusal::WrongCount);
+    }
+    if sum == 0 {
+        return Tested::Weightless;
+    }
+    let left = total - wholes(source, total, weights, performances, sum);
+    if left < with_weight(source, weights, performances) {
+        return Tested::Ready(sum, left);
+    }
+    Tested::Unfit(Refusal::LeftOvers)
+}
+
+fn share_from(
+    source: Source,
+    total: u64,
+    weights: &[u64],
+    performances: &[i64],
+    amounts: &mut [i64],
+) -> Shared
+    ensures { λ r. ⌜ SharedOut (signed source) total (weighed source (now (weights .entry)) (now (performances .entry))) (now (amounts .entry)) r (now (amounts .exit)) ⌝ }
+{
+    let room = amounts.len();
+    let n = members(source, weights, performances);
+    match test_share(source, total, weights, performances, room) {
+        Tested::Ready(sum, left) => {
+            clear(amounts, n);
+            place(source, total, weights, performances, sum, left, amounts);
+            Shared::Placed(0)
+        }
+        Tested::Weightless => {
+            clear(amounts, n);
+            Shared::Placed(total)
+        }
+        Tested::Unfit(refusal) => Shared::Refused(refusal),
+    }
+}
+
+// The total over the weights: each member's amount is written, or refused is TooShort (12) where the amounts have less room than there are
+// weights, then WrongCount (5) where the total or the sum of the weights is over its limit, then LeftOvers (13). A refusal writes nothing.
+pub fn share(total: u64, weights: &[u64], amounts: &mut [i64]) -> Shared
+    ensures { λ r. ⌜ SharedOut credit total (now (weights .entry)) (now (amounts .entry)) r (now (amounts .exit)) ⌝ }
+{
+    let none = [0i64; 1];
+    share_from(Source::Lent, total, weights, &none, amounts)
+}
+
+// The same over the positive performances.
+pub fn share_helpful(total: u64, performances: &[i64], amounts: &mut [i64]) -> Shared
+    ensures { λ r. ⌜ SharedOut credit total (map gain (now (performances .entry))) (now (amounts .entry)) r (now (amounts .exit)) ⌝ }
+{
+    let none = [0u64; 1];
+    share_from(Source::Helpful, total, &none, performances, amounts)
+}
+
+// The same over the negative performances, the amounts with a minus sign.
+pub fn share_unhelpful(total: u64, performances: &[i64], amounts: &mut [i64]) -> Shared
+    ensures { λ r. ⌜ SharedOut debit total (map loss (now (performances .entry))) (now (amounts .entry)) r (now (amounts .exit)) ⌝ }
+{
+    let none = [0u64; 1];
+    share_from(Source::Unhelpful, total, &none, performances, amounts)
+}
