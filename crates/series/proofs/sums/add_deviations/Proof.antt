@@ -1,8 +1,8 @@
 -- `series::sums::add_deviations` meets its contract: each early return is one test of `add-reply`; past the last one the parts are added. Fewer than
 -- 512 units of 15,000,000 each keep every sum small enough to add to.
-use mathlib.Core.Path.{_≡_, sym, _∙_, ap}
+use mathlib.Core.Path.{_≡_, sym, _∙_}
 use mathlib.Core.Bool.{true}
-use Prim.Native.Nat.{ℕ, _*_, _≤_, _<_}
+use Prim.Native.Nat.{_*_, _≤_}
 use native.Mathlib.Omega.{arith}
 use borrow.Author.Needs.{needs}
 use borrow.Author.Tests.{lt-leb, le-leb, lt-ltb, le-ltb, not-true, not-false}

@@ -1,27 +1,20 @@
 -- `series::sums::add_parts` meets its contract. Before point t the first t numbers of each list have their part of the deviation added, the others
 -- are as they came: a turn reads the sum that came, adds a part of at most 15,000,000 and stores it.
 use mathlib.Core.Path.{_≡_, sym, _∙_, ap}
-use mathlib.Core.List.{List}
-use Prim.Native.Nat.{ℕ, _+_, _-_, _≤_, _<_}
+use Prim.Native.Nat.{_-_, _≤_}
 use native.Mathlib.Omega.{arith}
 use borrow.Author.Needs.{needs, sfits-of}
-use lib.IntN.{ℤ, pos, _+ℤ_}
-use lib.ListN.{length, getD}
+use lib.ListN.{length}
 use mir.Syntax.{w64}
-use mir.Val.{SFits, toZ, ofZ}
+use mir.Val.{SFits}
 use mir.Facts.{toZ-ofZ}
-use Rattle.integers.specs.Bounds.{within-sum, fits-within}
-use Rattle.integers.specs.Fills.{filled, filled-none, filled-store, filled-length, filled-past}
-use Rattle.rules.specs.declared.Direction.{Direction}
+use Rattle.integers.specs.Fills.{filled, filled-none, filled-length}
 use Rattle.rules.specs.declared.Direction.the-variants.{Raise, Lower}
 use Rattle.rules.specs.Performance.{wanted}
-use Rattle.rules.specs.PerformanceLaws.{wanted-within}
-use Rattle.series.specs.Replies.{at, PointsWithin}
+use Rattle.series.specs.Replies.{at}
 use Rattle.series.specs.Sums.{sum-with, Grown, grown}
 use Rattle.series.proofs.sums.add_parts.Statement.{statement}
 use Rattle.series.proofs.sums.add_parts.Tie as tie
-use Rattle.series.proofs.sums.add_parts.Reads as reads
-use Rattle.series.proofs.sums.add_parts.Lts as lts
 
 abbrev Inv-loop : tie.InvT-loop
 Inv-loop deviations positive₀ negative₀ t₀ positive negative t = (t ≤ 75) × (positive ≡ filled t (sum-with Raise deviations positive₀) positive₀) × (negative ≡ filled t (sum-with Lower deviations negative₀) negative₀)
