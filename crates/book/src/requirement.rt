@@ -1,7 +1,6 @@
 // A requirement record, 24 bytes. After the last one no byte may follow.
 ghost use mathlib.Core.Path.{_≡_};
 ghost use mathlib.Core.Bool.{not, _&&_, _||_};
-ghost use Prim.Native.Nat.{_≤_};
 ghost use lib.Dec.{leb, eqb};
 ghost use lib.ListN.{length};
 ghost use Rattle.rules.specs.Bytes.{number-at};

@@ -1,9 +1,7 @@
 -- Each entry answers by itself; the first that is wrong is the table's refusal, and one that is fine lets the next speak.
 use mathlib.Core.Path.{_≡_, sym, _∙_, ap}
 use Prim.Native.Nat.{ℕ, _+_, _*_}
-use lib.ListN.{length}
-use Rattle.rules.specs.Contents.{items}
-use Rattle.book.specs.declared.contents.Checked.the-variants.{Fine, Wrong}
+use Rattle.book.specs.declared.contents.Checked.the-variants.{Fine}
 use Rattle.book.specs.Contents.{settings-entry, frequency-entry, unit-entry, requirement-entry, entry-answer, entries-passed}
 use borrow.Author.Needs.{needs}
 use Rattle.book.proofs.contents.read_entries.Statement.{statement}

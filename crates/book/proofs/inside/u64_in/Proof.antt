@@ -1,6 +1,5 @@
 -- Four bytes, and four after them.
 use native.Mathlib.Omega.{arith}
-use Prim.Native.Nat.{_+_}
 use Rattle.rules.specs.BytesLaws.{number-parts}
 use borrow.Author.Needs.{needs}
 use Rattle.book.proofs.inside.u64_in.Statement.{statement}

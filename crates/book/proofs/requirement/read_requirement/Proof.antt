@@ -1,6 +1,6 @@
 -- Length, fields, and what follows the last, in this order.
 use mathlib.Core.Path.{_≡_, sym, _∙_, ap}
-use mathlib.Core.Bool.{true, false}
+use mathlib.Core.Bool.{true}
 use mathlib.Core.Bool.{not, _&&_, _||_}
 use lib.Dec.{leb, eqb}
 use lib.ListN.{length}

@@ -1,6 +1,5 @@
 -- Each field is read where the definition reads it.
-use mathlib.Core.Path.{_≡_, sym, _∙_, ap}
-use mathlib.Core.Bool.{true, false}
+use mathlib.Core.Path.{_∙_, ap}
 use Rattle.rules.specs.RequirementRecord.{requirement-in, direction-of}
 use borrow.Author.Needs.{needs}
 use Rattle.book.proofs.requirement.requirement_fields.Statement.{statement}

@@ -1,6 +1,6 @@
 -- Each branch settles one test of the rule, in its order.
 use mathlib.Core.Path.{_≡_, sym, _∙_, ap}
-use mathlib.Core.Bool.{true, false}
+use mathlib.Core.Bool.{true}
 use lib.Dec.{leb}
 use borrow.Author.Tests.{le-leb, lt-leb, not-true, not-false}
 use Rattle.rules.specs.Bytes.{number-at}

@@ -1,6 +1,4 @@
 -- Each branch settles one test of the rule, in its order.
-use mathlib.Core.Path.{_≡_, sym, _∙_, ap}
-use mathlib.Core.Bool.{true, false}
 use borrow.Author.Tests.{le-leb, lt-leb}
 use Rattle.book.proofs.settings.settings_fine.Statement.{statement}
 use Rattle.book.proofs.settings.settings_fine.Tie as tie
