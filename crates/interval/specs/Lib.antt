@@ -1,0 +1,20 @@
+-- What the calls keep, and what each answers and leaves
+pub mod Tally
+pub mod TallyLaws
+pub mod Lent
+pub mod LentLaws
+pub mod Calls
+pub mod Promises
+pub mod ChainLaws
+pub mod Taken
+pub mod Chain
+pub mod ChainSteps
+pub mod ChainTheorem
+pub mod ChainValues
+pub mod Honest
+pub mod BookRecords
+pub mod BookChain
+pub mod UnitLaws
+pub mod UnitAnswer
+pub mod Frequency
+pub mod FrequencyLaws

@@ -1,0 +1,45 @@
+// interval: the calculator step by step, as the firmware calls it. A book's records are handed in one by one, in its order:
+// contents, settings, five frequency records, the units, the requirements. Each call takes the tally, hands it on or back, and writes to
+// what is lent only where it refuses nothing.
+use rules::Refusal;
+
+pub mod contents;
+pub mod frequency;
+mod lent;
+mod points;
+pub mod requirement;
+pub mod settings;
+mod steps;
+mod turns;
+pub mod unit;
+
+// How far the book is. `records` counts what was taken after the table of contents: the settings, five frequency records, the
+// units, the requirements. `least` is the least number that the next unit or requirement may have.
+pub struct Tally {
+    pub units: u16,
+    pub requirements: u16,
+    pub records: u16,
+    pub least: u32,
+    pub smoothing: u16,
+    pub limit: u8,
+    pub percent: u8,
+    pub interval: u32,
+}
+
+// What the table of contents starts, or the refusal alone.
+pub enum Opened {
+    Taken(Tally),
+    Refused(Refusal),
+}
+
+// A record was taken, or the refusal.
+pub enum Taking {
+    Taken,
+    Refused(Refusal),
+}
+
+// The tally after a call: one record further, or as it came.
+pub struct Step {
+    pub tally: Tally,
+    pub taking: Taking,
+}
