@@ -65,7 +65,7 @@ room c = mul-le-mul-right (c .before .args .weight) (omega arith)
 known : (c : tie.Else1) → Estimate (c .before .args .before) (c .before .args .digit) (c .before .args .weight) (c .before .args .sum)
 known c =
     let s = c .before in
-    estimate (s .args .before) (s .args .digit) (s .args .weight) (s .args .sum) (s .pre .0) (s .pre .1) (s .pre .2) (c .if1 .left)
+    estimate (s .args .before) (s .args .digit) (s .args .weight) (s .args .sum) (s .pre .0) (s .pre .1) (s .pre .2) (omega (arith, c .if1 .left))
 
 mul-all : tie.Need-mul-all
 mul-all c = search needs

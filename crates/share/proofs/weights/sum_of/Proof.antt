@@ -47,7 +47,7 @@ weight-requires : tie.Need-weight-requires Inv-loop μ-loop
 weight-requires c κs = omega (arith, c .before .loop .inv .all)
 
 sub-if1 : tie.Need-sub-if1 Inv-loop μ-loop
-sub-if1 c = c .before .before .loop .inv .small
+sub-if1 c = omega (arith, c .before .before .loop .inv .small)
 
 add-result : tie.Need-add-result Inv-loop μ-loop
 add-result c = search needs
