@@ -59,7 +59,7 @@ module _ (bs : List ℕ) where
       rw (le-ltb m 1 (omega arith), le-ltb m before-units (omega arith), le-ltb m (before-units + counts-in bs .units) h) (sym (drop-drop (requirement-size * (m - (before-units + counts-in bs .units))) (requirement-start (counts-in bs .units)) bs))
 
 -- ---- a body, record by record
-drop-step : (size i : ℕ) (bs : List ℕ) → drop (size * i) (drop size bs) ≡ drop (size * suc i) bs
+pub drop-step : (size i : ℕ) (bs : List ℕ) → drop (size * i) (drop size bs) ≡ drop (size * suc i) bs
 drop-step size i bs = drop-drop (size * i) size bs ∙ ap (λ (k : ℕ). drop k bs) (more size i)
   where
     more : (size i : ℕ) → size + size * i ≡ size * suc i
@@ -94,11 +94,11 @@ unfoldable pub least-from : ℕ → ℕ → List ℕ → ℕ → ℕ
 least-from size least bs zero = least
 least-from size least bs (suc i) = suc (number-at 2 0 (drop (size * i) bs))
 
-least-first : (size least : ℕ) (bs : List ℕ) → least-from size least bs 0 ≡ least
+pub least-first : (size least : ℕ) (bs : List ℕ) → least-from size least bs 0 ≡ least
 unfolding least-from
 least-first size least bs = refl
 
-least-later : (size : ℕ) (bs : List ℕ) (i : ℕ) → least-from size (suc (number-at 2 0 bs)) (drop size bs) i ≡ least-from size 0 bs (suc i)
+pub least-later : (size : ℕ) (bs : List ℕ) (i : ℕ) → least-from size (suc (number-at 2 0 bs)) (drop size bs) i ≡ least-from size 0 bs (suc i)
 unfolding least-from
 least-later size bs zero = ap (λ (k : ℕ). suc (number-at 2 0 (drop k bs))) (none size)
   where
@@ -106,7 +106,7 @@ least-later size bs zero = ap (λ (k : ℕ). suc (number-at 2 0 (drop k bs))) (n
     none size = omega arith
 least-later size bs (suc i) = ap (λ (b : List ℕ). suc (number-at 2 0 b)) (drop-step size i bs)
 
-least-any : (size a b : ℕ) (bs : List ℕ) (i : ℕ) → least-from size a bs (suc i) ≡ least-from size b bs (suc i)
+pub least-any : (size a b : ℕ) (bs : List ℕ) (i : ℕ) → least-from size a bs (suc i) ≡ least-from size b bs (suc i)
 unfolding least-from
 least-any size a b bs i = refl
 
@@ -175,7 +175,7 @@ book-read bs b e =
 
 -- ---- the format takes each record at its place, with the least number that a chain would allow it
 module _ (bs : List ℕ) where
-  unit-least-at : (i : ℕ) → i < counts-in bs .units → (m : ℕ) → m ≡ before-units + i → least-at (part-of bs) (counts-in bs .units) m ≡ least-from unit-size 0 (drop unit-start bs) i
+  pub unit-least-at : (i : ℕ) → i < counts-in bs .units → (m : ℕ) → m ≡ before-units + i → least-at (part-of bs) (counts-in bs .units) m ≡ least-from unit-size 0 (drop unit-start bs) i
   unfolding least-at least-from
   unit-least-at zero h m e = let f : m ≡ before-units = omega arith in rw f
   unit-least-at (suc i) h m e =
@@ -184,7 +184,7 @@ module _ (bs : List ℕ) where
       rw (f, le-ltb (before-units + i) before-units (omega arith), ne-eqb (before-units + i + 1) (before-units + counts-in bs .units) (λ q. omega arith), unit-part bs (before-units + i) (omega arith) (omega arith), g)
       (add-one (number-at 2 0 (drop (unit-size * i) (drop unit-start bs))))
 
-  requirement-least-at : (j m : ℕ) → m ≡ before-units + counts-in bs .units + j → least-at (part-of bs) (counts-in bs .units) m ≡ least-from requirement-size 0 (drop (requirement-start (counts-in bs .units)) bs) j
+  pub requirement-least-at : (j m : ℕ) → m ≡ before-units + counts-in bs .units + j → least-at (part-of bs) (counts-in bs .units) m ≡ least-from requirement-size 0 (drop (requirement-start (counts-in bs .units)) bs) j
   unfolding least-at least-from
   requirement-least-at zero m e =
       let f : m ≡ suc (5 + counts-in bs .units) = omega arith in
@@ -195,7 +195,7 @@ module _ (bs : List ℕ) where
       rw (f, le-ltb (before-units + counts-in bs .units + j) before-units (omega arith), ne-eqb (before-units + counts-in bs .units + j + 1) (before-units + counts-in bs .units) (λ q. omega arith), requirement-part bs (before-units + counts-in bs .units + j) (omega arith), g)
       (add-one (number-at 2 0 (drop (requirement-size * j) (drop (requirement-start (counts-in bs .units)) bs))))
 
-same-test : (a b c d : ℕ) → (a ≡ b → c ≡ d) → (c ≡ d → a ≡ b) → eqb a b ≡ eqb c d
+pub same-test : (a b c d : ℕ) → (a ≡ b → c ≡ d) → (c ≡ d → a ≡ b) → eqb a b ≡ eqb c d
 same-test a b c d f g = go (eqb a b) refl
   where
     go : (t : Bool) → eqb a b ≡ t → t ≡ eqb c d

@@ -12,7 +12,7 @@ use Rattle.integers.specs.Totals.{total, total-those}
 use Rattle.integers.specs.Fills.{filled, filled-at}
 use Rattle.rules.specs.declared.Direction.{Direction}
 use Rattle.rules.specs.declared.Direction.the-variants.{Raise, Lower}
-use Rattle.rules.specs.Quantities.{points, regions}
+use Rattle.rules.specs.Quantities.{points, regions, most-units}
 use Rattle.rules.specs.Bytes.{listed}
 use Rattle.rules.specs.Book.{Settings, Unit}
 use Rattle.rules.specs.Measure.{measure}
@@ -22,7 +22,7 @@ use Rattle.interval.specs.declared.Tally.{Tally}
 use Rattle.interval.specs.Tally.{settings-of, before-units, units-taken}
 use Rattle.interval.specs.Lent.{series-start, figures-each, figures-of, place-of, six}
 use Rattle.interval.specs.ChainLaws.{adds, listed-length, listed-total}
-use Rattle.interval.specs.Taken.{counts-in}
+use Rattle.interval.specs.Taken.{counts-in, contents-is}
 use Rattle.interval.specs.Chain.{Lent, Chain, Means, regions-among, units-among, the-settings, region, unit, measure-at, sum-at, performance-of, figure-at, default-at}
 use Rattle.interval.specs.ChainTheorem.{chain, same-lent}
 
@@ -76,6 +76,11 @@ module _ (head : List ℕ) (part : ℕ → List ℕ) (l₀ : Lent) {n : ℕ} {t 
   units-are-counted h =
       let m : units-among (counts-in head .units) n ≡ n - before-units = omega arith in
       ap (λ (k : ℕ). k - before-units) (w .records) ∙ sym m ∙ sym (listed-length 0 (units-among (counts-in head .units) n) (unit part))
+
+  -- and a roster has at most 512
+  pub roster-few : length roster ≤ most-units
+  roster-few =
+      omega (arith, listed-length 0 (units-among (counts-in head .units) n) (unit part), contents-is head (counts-in head) (w .table) .1 .units)
 
   -- ---- a region whose frequency record was taken
   module _ (r : ℕ) (h : r < regions-among n) where

@@ -5,6 +5,10 @@ pub mod Lent
 pub mod LentLaws
 pub mod Calls
 pub mod Promises
+pub mod Frequency
+pub mod FrequencyLaws
+pub mod UnitLaws
+pub mod UnitAnswer
 pub mod ChainLaws
 pub mod Taken
 pub mod Chain
@@ -14,7 +18,4 @@ pub mod ChainValues
 pub mod Honest
 pub mod BookRecords
 pub mod BookChain
-pub mod UnitLaws
-pub mod UnitAnswer
-pub mod Frequency
-pub mod FrequencyLaws
+pub mod BookEnd

@@ -15,7 +15,7 @@ use Rattle.rules.specs.Text.{text}
 use Rattle.rules.specs.Listing.{answer-lines}
 use Rattle.rules.specs.PaperBook.{requirement}
 use Rattle.rules.specs.Computing.{computing}
-use Rattle.rules.specs.WorkedBooks.{lower-two-regions, default-reasons, bad-frequency-points, sign-turned, weights-decide, no-units, one-side}
+use Rattle.rules.specs.WorkedBooks.{lower-two-regions, default-reasons, sign-turned, weights-decide, no-units, one-side}
 
 -- a requirement by its place in the book, from 0
 abbrev at : Book → ℕ → Requirement
@@ -48,15 +48,6 @@ pub turned : answered sign-turned 0
 unfolding computing
 turned = refl
 
--- one bad unit of two at percent 50 keeps RCR; a region without units is live
-pub kept : answered default-reasons 0
-    ≡ text "requirement 1 raise 750 75 250 750 0 0\n"
-    ++ (text "unit 10 live 1125000000 1000000000 75 0 -1\n"
-    ++ (text "unit 20 default -75000000 -62500000 -5 -63 -1\n"
-    ++ text "residual live -1125000000 -937500000 -70 -187 -748\n"))
-unfolding computing
-kept = refl
-
 -- two bad of three make RCR 0; a region without a good unit
 pub dropped : answered default-reasons 1
     ≡ text "requirement 2 raise 0 0 250 750 0 0\n"
@@ -66,15 +57,6 @@ pub dropped : answered default-reasons 1
     ++ text "residual default -1125003000 -937500124 0 -188 -745\n")))
 unfolding computing
 dropped = refl
-
--- ten bad points, where FM stays; rounding up and down
-pub smoothed : answered bad-frequency-points 0
-    ≡ text "requirement 1 raise 150 16667 33 67 0 0\n"
-    ++ (text "unit 1 live 209250525 500000000 8334 0 -5\n"
-    ++ (text "unit 3 live -418501050 -1000000000 -16667 -33 -16\n"
-    ++ text "residual live 209250525 500000000 8333 0 -46\n"))
-unfolding computing
-smoothed = refl
 
 -- roster 0, lower: a live residual of 0, used unplaced
 pub empty : answered no-units 0

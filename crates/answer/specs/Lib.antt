@@ -1,0 +1,6 @@
+-- What was kept of a book, and the answer from it
+pub mod Kept
+pub mod Keeps
+pub mod Laws
+pub mod AnswerIs
+pub mod BookAnswer
