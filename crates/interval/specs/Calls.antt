@@ -1,9 +1,9 @@
 -- What each call answers: what it takes of the book, or the refusal, tested in document 01's order: 11 for the tally, 12, 11 for lent numbers, 1,
 -- then content by place. The lent lists stand as they came.
 use mathlib.Core.Path.{_≡_, refl}
-use mathlib.Core.Bool.{Bool, true, false, cond, _&&_}
+use mathlib.Core.Bool.{Bool, cond, _&&_}
 use mathlib.Core.List.{List}
-use Prim.Native.Nat.{ℕ, suc, _+_, _*_}
+use Prim.Native.Nat.{ℕ, _+_, _*_}
 use lib.Dec.{eqb, leb, ltb}
 use lib.IntN.{ℤ}
 use lib.ListN.{length}

@@ -3,11 +3,10 @@ use mathlib.Core.Path.{_≡_, refl, sym, _∙_}
 use mathlib.Core.Bool.{Bool, true, false, _&&_, _||_}
 use Prim.Native.Nat.{ℕ, _+_, _-_, _≤_, _<_}
 use native.Mathlib.Omega.{arith}
-use lib.Dec.{eqb, leb, ltb}
+use lib.Dec.{leb, ltb}
 use borrow.Author.Tests.{leb-true, ltb-true, ltb-false, lt-ltb, le-ltb, ne-eqb}
 use Rattle.integers.specs.Sums.{both}
-use Rattle.rules.specs.Quantities.{points, most-units, most-requirements}
-use Rattle.rules.specs.SettingsRecord.{settings-fine}
+use Rattle.rules.specs.Quantities.{most-units, most-requirements}
 use Rattle.rules.specs.Limits.{SettingsFit}
 use Rattle.interval.specs.declared.Tally.{Tally}
 use Rattle.interval.specs.Tally.{settings-of, before-units, units-end, book-end, settings-kept, in-range, frequency-turn, requirement-turn}

@@ -1,9 +1,9 @@
 -- Before point t every point passed is in range in all three lists; the first that is not ends the loop.
 use mathlib.Core.Path.{_≡_, sym, _∙_}
 use mathlib.Core.Bool.{Bool, true}
-use Prim.Native.Nat.{ℕ, _+_, _-_, _≤_, _<_}
+use Prim.Native.Nat.{ℕ, _+_, _-_, _≤_}
 use native.Mathlib.Omega.{arith}
-use borrow.Author.Needs.{needs, sfits-of}
+use borrow.Author.Needs.{sfits-of}
 use borrow.Author.Tests.{not-true, not-false}
 use lib.IntN.{pos}
 use lib.ListN.{getD}

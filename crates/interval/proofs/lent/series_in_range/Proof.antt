@@ -1,8 +1,6 @@
 -- A region past the last reads nothing; else the loop's answer is that of the three lists one by one.
-use mathlib.Core.Path.{_≡_, _∙_}
-use mathlib.Core.Bool.{true, false}
+use mathlib.Core.Path.{_∙_}
 use native.Mathlib.Omega.{arith}
-use borrow.Author.Needs.{needs}
 use borrow.Author.Tests.{le-ltb, lt-ltb}
 use Rattle.interval.specs.Lent.{series-in-range}
 use Rattle.interval.specs.UnitLaws.{region-is}

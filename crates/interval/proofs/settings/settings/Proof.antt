@@ -1,6 +1,6 @@
 -- Out of turn is told at once. In turn the answer is the reader's: its fields make the tally, its refusal hands the tally back.
 use mathlib.Core.Path.{_≡_, sym, _∙_, ap}
-use mathlib.Core.Bool.{Bool, true, false, _&&_}
+use mathlib.Core.Bool.{true, _&&_}
 use borrow.Author.Tests.{not-true, not-false}
 use borrow.Author.Needs.{needs}
 use Rattle.rules.specs.SettingsRecord.{settings}

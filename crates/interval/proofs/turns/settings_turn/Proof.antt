@@ -1,6 +1,5 @@
 -- The range first, then the turn.
-use mathlib.Core.Path.{_≡_, sym, _∙_}
-use mathlib.Core.Bool.{true, false}
+use mathlib.Core.Path.{sym, _∙_}
 use borrow.Author.Tests.{not-true, not-false}
 use borrow.Author.Needs.{needs}
 use Rattle.interval.proofs.turns.settings_turn.Statement.{statement}
