@@ -1,7 +1,7 @@
 -- THE ANSWER: what was kept of a book gives the rules' answer, for every requirement. Rows are units by their index, so a sum or a count over rows is one over
 -- the roster; the sums of the regions are those over the requirement's units, since each unit is in one region; RCR's point is the larger of two sums.
 use mathlib.Core.Path.{_≡_, refl, sym, _∙_, ap, ap₂}
-use mathlib.Core.Bool.{Bool, true, false, cond, not, _&&_, _||_}
+use mathlib.Core.Bool.{Bool, true, false, cond, not, _&&_, _||_, false≢true}
 use mathlib.Core.List.{List, [], _∷_, _++_, map}
 use Prim.Native.Nat.{ℕ, zero, suc, _+_, _*_, _/_, _%_, _<_, max}
 use native.Mathlib.Omega.{arith}
@@ -10,8 +10,8 @@ use lib.IntN.{ℤ, pos, negsuc, negℤ, _*ℤ_}
 use lib.ListN.{length, getD}
 use lib.Signed.{ltZ}
 use Rattle.integers.specs.Pairs.{gain, loss, gain-negation, loss-negation}
-use Rattle.integers.specs.Sums.{sum, count, every, largest, when, one, sum-ext, every-ext, largest-ext}
-use Rattle.integers.specs.Totals.{total, totalℕ, those, All, total-same, total-those, total-negation}
+use Rattle.integers.specs.Sums.{sum, count, when, one, when-there, sum-ext, every-ext, largest-ext}
+use Rattle.integers.specs.Totals.{total, totalℕ, those, All, total-same, total-those, total-negation, total-classes, totalℕ-same, total-naturals, those-those, all-at, indexed-total, indexed-count}
 use Rattle.rules.specs.declared.Direction.{Direction}
 use Rattle.rules.specs.declared.Direction.the-variants.{Raise, Lower}
 use Rattle.rules.specs.declared.Reason.the-variants.{BadUnit, NoGoodUnit}
@@ -24,41 +24,29 @@ use Rattle.rules.specs.Reliability.{reliable, reliable-in}
 use Rattle.rules.specs.Deviation.{deviation, good, good-units}
 use Rattle.rules.specs.Performance.{wanted, performance, units-of, unit-performance, residual-performance}
 use Rattle.rules.specs.PerformanceLaws.{residual-is}
-use Rattle.rules.specs.Standings.{standing, unit-standing, some-good-or-none, residual-standing, live-or}
+use Rattle.rules.specs.Standings.{standing, unit-standing, some-good-or-none, live-or}
 use Rattle.rules.specs.Members.{Name, unit, residual, Member, unit-member, over-regions, each-region, residual-or, residual-member, unit-members, members}
 use Rattle.rules.specs.Rcr.{weighed-measure, response, all-reliable, few-bad, rcr}
 use Rattle.rules.specs.RcrLaws.{response-is}
 use Rattle.rules.specs.Answer.{answered, answer}
 use Rattle.interval.specs.Lent.{series-start}
-use Rattle.answer.specs.Kept.{
-  Kept,
-  generation-of,
-  reliable-of,
-  residual-default,
-  region-of,
-  good-of,
-  performance-of,
-  unit-default,
-  row-standing,
-  row-value,
-  row-member,
-  units-in-region,
-  good-in-region,
-  some-good-or-none-of,
-  residual-of,
-  residual-value,
-  residual-row,
-  rows,
-  kept-members,
-  kept-weighed,
-  kept-response,
-  kept-reliable,
-  kept-few-bad,
-  kept-rcr,
-  kept-answer,
-}
+use Rattle.interval.specs.ChainLaws.{listed-shift}
+use Rattle.answer.specs.Kept.{Kept, reliable-of, residual-default, region-of, good-of, performance-of, unit-default, row-standing, row-member, some-good-or-none-of, residual-of, residual-value, residual-row, rows, kept-members, kept-weighed, kept-response, kept-reliable, kept-few-bad, kept-rcr, kept-answer}
 use Rattle.answer.specs.Keeps.{Keeps}
-use Rattle.answer.specs.Laws.{when-there, totalℕ-same, total-naturals, those-those, all-at, total-classes, indexed-total, indexed-count, indexed-those}
+
+-- ---- the images of those indexes that pass are the images of those elements that pass
+indexed-those : {A B : Type 0} (e : ℕ → ℕ) (p : ℕ → Bool) (f : ℕ → B) (q : A → Bool) (g : A → B) (xs : List A) → ((j : ℕ) (z : A) → j < length xs → p (e j) ≡ q (getD xs j z)) → ((j : ℕ) (z : A) → j < length xs → f (e j) ≡ g (getD xs j z)) → map f (those p (listed 0 (length xs) e)) ≡ map g (those q xs)
+unfolding those listed
+indexed-those e p f q g [] hp hf = refl
+indexed-those {A} {B} e p f q g (x ∷ xs) hp hf =
+    ap (λ (l : List ℕ). map f (cond (p (e 0)) (e 0 ∷ those p l) (those p l))) (listed-shift 0 (length xs) e)
+    ∙ go (those p (listed 0 (length xs) (λ j. e (suc j)))) (p (e 0)) (q x) (hp 0 x (omega arith)) (hf 0 x (omega arith)) (indexed-those (λ j. e (suc j)) p f q g xs (λ j z l. hp (suc j) z (omega arith)) (λ j z l. hf (suc j) z (omega arith)))
+  where
+    go : (is : List ℕ) (s t : Bool) → s ≡ t → f (e 0) ≡ g x → map f is ≡ map g (those q xs) → map f (cond s (e 0 ∷ is) is) ≡ map g (cond t (x ∷ those q xs) (those q xs))
+    go is true true c h ih = ap₂ (λ (y : B) (ys : List B). y ∷ ys) h ih
+    go is true false c h ih = absurd (false≢true (sym c))
+    go is false true c h ih = absurd (false≢true c)
+    go is false false c h ih = ih
 
 -- ---- a place is twice the region, and 1 more where the unit is good
 place-region : (r : ℕ) (t : Bool) → (2 * r + one t) / 2 ≡ r

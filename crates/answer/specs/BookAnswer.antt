@@ -4,12 +4,12 @@ use mathlib.Core.Path.{_≡_, ap}
 use mathlib.Core.List.{List}
 use Prim.Native.Nat.{ℕ, _+_, _<_}
 use lib.ListN.{getD}
-use Rattle.integers.specs.Totals.{All}
+use Rattle.integers.specs.Totals.{All, all-so}
 use Rattle.rules.specs.Quantities.{regions}
 use Rattle.rules.specs.Refusals.{taken}
-use Rattle.rules.specs.Book.{Settings, Unit, Requirement, Book}
+use Rattle.rules.specs.Book.{Settings, Requirement, Book}
 use Rattle.rules.specs.WholeBook.{book}
-use Rattle.rules.specs.Limits.{UnitFits, BookFits}
+use Rattle.rules.specs.Limits.{UnitFits}
 use Rattle.rules.specs.LimitsLaws.{book-fits}
 use Rattle.rules.specs.Answer.{answer}
 use Rattle.interval.specs.declared.Tally.{Tally}
@@ -21,7 +21,6 @@ use Rattle.interval.specs.BookRecords.{part-of}
 use Rattle.interval.specs.BookChain.{BookMeans, book-chain, book-means}
 use Rattle.answer.specs.Kept.{Kept, kept-answer}
 use Rattle.answer.specs.Keeps.{Keeps}
-use Rattle.answer.specs.Laws.{all-so}
 use Rattle.answer.specs.AnswerIs.{answer-is}
 
 -- what tally and lent lists have kept

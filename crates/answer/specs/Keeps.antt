@@ -1,7 +1,7 @@
 -- What it is for lent lists to be kept of a book: each number in them is the rules' number of a region, by its place, or of a unit, by its place in the roster.
 use mathlib.Core.Path.{_≡_}
 use Prim.Native.Nat.{ℕ, _+_, _*_, _<_}
-use lib.IntN.{ℤ, pos}
+use lib.IntN.{pos}
 use lib.ListN.{getD, length}
 use Rattle.integers.specs.Totals.{total}
 use Rattle.rules.specs.declared.Direction.the-variants.{Raise, Lower}

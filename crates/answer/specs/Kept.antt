@@ -1,15 +1,15 @@
 -- What the calls of `interval` have kept of a book, read as what the rules ask for: regions by their figures, units by their rows. The members, RCR and
 -- the answer are then those of `rules`, over what is kept; that they are the answer over the book itself is the theorem `answer-is`.
-use mathlib.Core.Bool.{Bool, true, false, cond, not, _&&_, _||_}
+use mathlib.Core.Bool.{Bool, cond, not, _&&_, _||_}
 use mathlib.Core.List.{List, [], _∷_, _++_, map}
 use Prim.Native.Nat.{ℕ, _+_, _*_, _/_, _%_, max}
-use lib.Dec.{eqb, leb, ltb}
+use lib.Dec.{eqb, leb}
 use lib.IntN.{ℤ, pos, negℤ, _*ℤ_}
-use lib.ListN.{getD, length}
+use lib.ListN.{getD}
 use lib.Signed.{ltZ}
 use Rattle.integers.specs.Pairs.{gain, loss}
-use Rattle.integers.specs.Sums.{sum, every, count, largest, when}
-use Rattle.integers.specs.Totals.{total, those}
+use Rattle.integers.specs.Sums.{sum, count, largest, when}
+use Rattle.integers.specs.Totals.{those}
 use Rattle.rules.specs.declared.Direction.{Direction}
 use Rattle.rules.specs.declared.Direction.the-variants.{Raise, Lower}
 use Rattle.rules.specs.declared.Reason.the-variants.{BadUnit, NoGoodUnit}
@@ -18,7 +18,7 @@ use Rattle.rules.specs.Quantities.{points, regions}
 use Rattle.rules.specs.Bytes.{listed}
 use Rattle.rules.specs.Book.{toward, Requirement, covers}
 use Rattle.rules.specs.Standings.{standing, live-or}
-use Rattle.rules.specs.Members.{Name, unit, residual, Member, over-regions, each-region}
+use Rattle.rules.specs.Members.{unit, residual, Member, over-regions, each-region}
 use Rattle.rules.specs.Answer.{Answer, answered}
 use Rattle.interval.specs.Lent.{series-start, figures-each}
 

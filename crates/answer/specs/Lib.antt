@@ -1,6 +1,5 @@
 -- What was kept of a book, and the answer from it
 pub mod Kept
 pub mod Keeps
-pub mod Laws
 pub mod AnswerIs
 pub mod BookAnswer

@@ -83,6 +83,13 @@ module _ {A : Type 0} where
   filled-again zero f g (x ∷ xs) = refl
   filled-again (suc n) f g (x ∷ xs) = ap (λ (l : List A). f 0 ∷ l) (filled-again n (λ i. f (suc i)) (λ i. g (suc i)) xs)
 
+  -- filled with what is there already, nothing changes
+  pub filled-same : (n : ℕ) (d : A) (xs : List A) → filled n (λ i. getD xs i d) xs ≡ xs
+  unfolding filled
+  filled-same n d [] = refl
+  filled-same zero d (x ∷ xs) = refl
+  filled-same (suc n) d (x ∷ xs) = ap (λ (l : List A). x ∷ l) (filled-same n d xs)
+
 -- ---- g i is added to the number at i, of every number
 unfoldable pub added : (ℕ → ℤ) → List ℤ → List ℤ
 added g [] = []

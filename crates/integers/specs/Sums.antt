@@ -6,7 +6,7 @@ use native.Mathlib.Numerals.{add-one}
 use native.Mathlib.Nat.{add-mul, mul-add}
 use native.Mathlib.Omega.{arith}
 use lib.Dec.{eqb, leb, ltb}
-use lib.IntN.{ℤ, pos, negsuc, negℤ, natAbs, _+ℤ_, _-ℤ_, _*ℤ_, +ℤ-idl, +ℤ-idr, *ℤ-zero, negℤ-+ℤ}
+use lib.IntN.{ℤ, pos, negsuc, negℤ, natAbs, _+ℤ_, _-ℤ_, _*ℤ_, +ℤ-idl, +ℤ-idr, +ℤ-assoc, *ℤ-zero, negℤ-+ℤ}
 use borrow.Author.Tests.{ltb-true, ltb-false, lt-ltb, le-ltb, leb-true, leb-false, eqb-true, eqb-false, ne-eqb}
 use Rattle.integers.specs.Order.{*ℤ-+ℤ, +ℤ-cross}
 use Rattle.integers.specs.Bounds.{Within, within-natural, within-sum, within-wider, abs-add}
@@ -81,6 +81,21 @@ largest-none f = refl
 pub both : (s t : Bool) → s && t ≡ true → (s ≡ true) × (t ≡ true)
 both true t e = (refl, e)
 both false t e = absurd (false≢true e)
+
+-- two tests change places
+pub when-swap : (s t : Bool) (x : ℤ) → when s (when t x) ≡ when t (when s x)
+when-swap true true x = refl
+when-swap true false x = refl
+when-swap false true x = refl
+when-swap false false x = refl
+
+-- what is counted at one number alone is counted there
+pub when-there : (f : ℕ → ℤ) (m n : ℕ) → when (eqb m n) (f n) ≡ when (eqb m n) (f m)
+when-there f m n = go (eqb m n) refl
+  where
+    go : (t : Bool) → eqb m n ≡ t → when t (f n) ≡ when t (f m)
+    go true e = let q : m ≡ n = eqb-true m n e in ap f (sym q)
+    go false e = refl
 
 -- no index is below zero
 pub none-below : {A : Type 0} (i : ℕ) → i < 0 → A
@@ -186,6 +201,12 @@ sum-pick (suc n) k f h = go (λ l. sum-pick n k f l) (eqb n k) refl
     go : (k < n → sum n (λ i. when (eqb i k) (f i)) ≡ f k) → (t : Bool) → eqb n k ≡ t → sum n (λ i. when (eqb i k) (f i)) +ℤ when t (f n) ≡ f k
     go ih true e = let q : n ≡ k = eqb-true n k e in rw (none n (omega arith)) (+ℤ-idl (f n) ∙ ap f q)
     go ih false e = +ℤ-idr _ ∙ ih (other n k h e)
+
+-- the first term apart
+pub sum-front : (n : ℕ) (f : ℕ → ℤ) → sum (suc n) f ≡ f 0 +ℤ sum n (λ i. f (suc i))
+unfolding sum
+sum-front zero f = +ℤ-idl (f 0) ∙ sym (+ℤ-idr (f 0))
+sum-front (suc n) f = ap (λ (z : ℤ). z +ℤ f (suc n)) (sum-front n f) ∙ +ℤ-assoc (f 0) (sum n (λ i. f (suc i))) (f (suc n))
 
 -- ---- sums of naturals
 pub sumℕ-ext : (n : ℕ) (f g : ℕ → ℕ) → ((i : ℕ) → i < n → f i ≡ g i) → sumℕ n f ≡ sumℕ n g

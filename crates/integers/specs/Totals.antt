@@ -5,12 +5,13 @@ use mathlib.Core.List.{List, [], _∷_, _++_, map}
 use Prim.Native.Nat.{ℕ, zero, suc, _+_, _*_, _≤_, _<_, max}
 use native.Mathlib.Nat.{add-mul}
 use native.Mathlib.Omega.{arith}
+use lib.Dec.{eqb}
 use lib.IntN.{ℤ, pos, negsuc, negℤ, natAbs, _+ℤ_, _*ℤ_, +ℤ-idl, +ℤ-idr, +ℤ-assoc, *ℤ-zero, negℤ-+ℤ}
 use lib.ListN.{length, getD}
 use Rattle.integers.specs.Pairs.{gain, loss, add-is, gain-negation}
 use Rattle.integers.specs.Order.{*ℤ-+ℤ, +ℤ-cross}
 use Rattle.integers.specs.Bounds.{Within, abs-add}
-use Rattle.integers.specs.Sums.{sum, sumℕ, one, when, both, sum-zero, sum-plus, sumℕ-front}
+use Rattle.integers.specs.Sums.{sum, sumℕ, count, one, when, both, when-swap, none-below, sum-ext, sum-zero, sum-plus, sum-pick, sum-front, sumℕ-front}
 
 -- ---- the definitions
 module _ {A : Type 0} where
@@ -55,6 +56,12 @@ module _ {A : Type 0} where
   total-same f g e [] = refl
   total-same f g e (x ∷ xs) = ap₂ _+ℤ_ (e x) (total-same f g e xs)
 
+  -- equal for each element of which something holds
+  pub total-all : (P : A → Type 0) (f g : A → ℤ) → ((x : A) → P x → f x ≡ g x) → (xs : List A) → All P xs → total f xs ≡ total g xs
+  unfolding total All
+  total-all P f g e [] a = refl
+  total-all P f g e (x ∷ xs) a = ap₂ _+ℤ_ (e x (a .0)) (total-all P f g e xs (a .1))
+
   pub total-zero : (xs : List A) → total (λ x. pos 0) xs ≡ pos 0
   unfolding total
   total-zero [] = refl
@@ -95,11 +102,27 @@ module _ {A : Type 0} where
       go ih true = ap (λ (z : ℤ). f x +ℤ z) ih
       go ih false = ih ∙ sym (+ℤ-idl _)
 
+  -- a test of the whole is a test of each
+  pub total-when : (t : Bool) (f : A → ℤ) (xs : List A) → when t (total f xs) ≡ total (λ x. when t (f x)) xs
+  total-when true f xs = refl
+  total-when false f xs = sym (total-zero xs)
+
   -- indexes and list change places
   pub total-swap : (n : ℕ) (f : A → ℕ → ℤ) (xs : List A) → sum n (λ t. total (λ x. f x t) xs) ≡ total (λ x. sum n (f x)) xs
   unfolding total
   total-swap n f [] = sum-zero n
   total-swap n f (x ∷ xs) = sum-plus n (f x) (λ t. total (λ x. f x t) xs) ∙ ap (λ (z : ℤ). sum n (f x) +ℤ z) (total-swap n f xs)
+
+  -- the totals of some classes are the total of those in these classes
+  pub total-classes : (n : ℕ) (s : ℕ → Bool) (class : A → ℕ) (f : A → ℤ) (xs : List A) → All (λ x. class x < n) xs → sum n (λ r. when (s r) (total f (those (λ x. eqb r (class x)) xs))) ≡ total f (those (λ x. s (class x)) xs)
+  total-classes n s class f xs a =
+      sum-ext n _ _ (λ r _. ap (when (s r)) (total-those (λ x. eqb r (class x)) f xs) ∙ total-when (s r) (λ x. when (eqb r (class x)) (f x)) xs)
+      ∙ total-swap n (λ x r. when (s r) (when (eqb r (class x)) (f x))) xs
+      ∙ total-all (λ x. class x < n) _ _ at xs a
+      ∙ sym (total-those (λ x. s (class x)) f xs)
+    where
+      at : (x : A) → class x < n → sum n (λ r. when (s r) (when (eqb r (class x)) (f x))) ≡ when (s (class x)) (f x)
+      at x l = sum-ext n _ _ (λ r _. when-swap (s r) (eqb r (class x)) (f x)) ∙ sum-pick n (class x) (λ r. when (s r) (f x)) l
 
   -- what stands above zero, less what stands below, is the total
   pub total-parts : (f : A → ℤ) (xs : List A) → gain (total f xs) + totalℕ (λ x. loss (f x)) xs ≡ totalℕ (λ x. gain (f x)) xs + loss (total f xs)
@@ -117,6 +140,16 @@ module _ {A : Type 0} where
 
 -- ---- totals of naturals
 module _ {A : Type 0} where
+  pub totalℕ-same : (f g : A → ℕ) → ((x : A) → f x ≡ g x) → (xs : List A) → totalℕ f xs ≡ totalℕ g xs
+  unfolding totalℕ
+  totalℕ-same f g e [] = refl
+  totalℕ-same f g e (x ∷ xs) = ap₂ _+_ (e x) (totalℕ-same f g e xs)
+
+  pub total-naturals : (f : A → ℕ) (xs : List A) → total (λ x. pos (f x)) xs ≡ pos (totalℕ f xs)
+  unfolding total totalℕ
+  total-naturals f [] = refl
+  total-naturals f (x ∷ xs) = rw (total-naturals f xs)
+
   pub totalℕ-≤ : (f g : A → ℕ) → ((x : A) → f x ≤ g x) → (xs : List A) → totalℕ f xs ≤ totalℕ g xs
   unfolding totalℕ
   totalℕ-≤ f g h [] = omega arith
@@ -158,6 +191,29 @@ module _ {A : Type 0} where
       go ih true = (h .0, ih)
       go ih false = ih
 
+  -- those of those pass both tests
+  pub those-those : (p q : A → Bool) (xs : List A) → those p (those q xs) ≡ those (λ x. q x && p x) xs
+  unfolding those
+  those-those p q [] = refl
+  those-those p q (x ∷ xs) = go (those-those p q xs) (q x)
+    where
+      go : those p (those q xs) ≡ those (λ x. q x && p x) xs → (t : Bool) → those p (cond t (x ∷ those q xs) (those q xs)) ≡ cond (t && p x) (x ∷ those (λ x. q x && p x) xs) (those (λ x. q x && p x) xs)
+      go ih true = ap (λ (l : List A). cond (p x) (x ∷ l) l) ih
+      go ih false = ih
+
+  -- what holds of all holds at each index
+  pub all-at : (P : A → Type 0) (xs : List A) → All P xs → (j : ℕ) (z : A) → j < length xs → P (getD xs j z)
+  unfolding All
+  all-at P [] a j z h = none-below j h
+  all-at P (x ∷ xs) a zero z h = a .0
+  all-at P (x ∷ xs) a (suc j) z h = all-at P xs (a .1) j z (omega arith)
+
+  -- what holds of each has its consequences of each
+  pub all-so : (P Q : A → Type 0) → ((x : A) → P x → Q x) → (xs : List A) → All P xs → All Q xs
+  unfolding All
+  all-so P Q f [] a = tt
+  all-so P Q f (x ∷ xs) a = (f x (a .0), all-so P Q f xs (a .1))
+
 -- ---- over an image, over two lists joined, over indexes
 pub all-++ : {A : Type 0} (p : A → Bool) (xs ys : List A) → all p (xs ++ ys) ≡ all p xs && all p ys
 unfolding all
@@ -197,6 +253,25 @@ pub total-indexes : (ws : List ℕ) → sumℕ (length ws) (λ i. getD ws i 0) �
 unfolding totalℕ sumℕ
 total-indexes [] = refl
 total-indexes (w ∷ ws) = sumℕ-front (length ws) (λ i. getD (w ∷ ws) i 0) ∙ ap (λ (z : ℕ). w + z) (total-indexes ws)
+
+-- a list read by its indexes: its total, and how many pass
+module _ {A : Type 0} where
+  pub indexed-total : (f : ℕ → ℤ) (g : A → ℤ) (xs : List A) → ((j : ℕ) (z : A) → j < length xs → f j ≡ g (getD xs j z)) → sum (length xs) f ≡ total g xs
+  unfolding total sum
+  indexed-total f g [] h = refl
+  indexed-total f g (x ∷ xs) h =
+      sum-front (length xs) f ∙ ap₂ _+ℤ_ (h 0 x (omega arith)) (indexed-total (λ i. f (suc i)) g xs (λ j z l. h (suc j) z (omega arith)))
+
+  pub indexed-count : (p : ℕ → Bool) (q : A → Bool) (xs : List A) → ((j : ℕ) (z : A) → j < length xs → p j ≡ q (getD xs j z)) → count (length xs) p ≡ length (those q xs)
+  unfolding those sumℕ
+  indexed-count p q [] h = refl
+  indexed-count p q (x ∷ xs) h =
+      sumℕ-front (length xs) (λ i. one (p i)) ∙ ap₂ (λ (t : Bool) (n : ℕ). one t + n) (h 0 x (omega arith)) (indexed-count (λ i. p (suc i)) q xs (λ j z l. h (suc j) z (omega arith)))
+      ∙ go (q x)
+    where
+      go : (t : Bool) → one t + length (those q xs) ≡ length (cond t (x ∷ those q xs) (those q xs))
+      go true = omega arith
+      go false = omega arith
 
 -- numbers that depend on the index alone
 pub numbered-sum : {A B : Type 0} (f : B → ℕ) (g : ℕ → A → B) (h : ℕ → ℕ) → ((i : ℕ) (x : A) → f (g i x) ≡ h i) → (xs : List A) → totalℕ f (numbered g xs) ≡ sumℕ (length xs) h

@@ -1,13 +1,12 @@
 -- What a chain leaves, number by number, in the words of the rules: over the list of the units taken, all of them.
 use mathlib.Core.Path.{_≡_, refl, sym, _∙_, ap}
-use mathlib.Core.Bool.{Bool, true, false}
 use mathlib.Core.List.{List}
 use Prim.Native.Nat.{ℕ, zero, suc, _+_, _*_, _-_, _/_, _%_, _≤_, _<_}
 use native.Mathlib.Omega.{arith}
 use lib.Dec.{eqb}
 use lib.IntN.{ℤ, pos}
 use lib.ListN.{length, getD}
-use Rattle.integers.specs.Sums.{sum-ext, when}
+use Rattle.integers.specs.Sums.{sum-ext, when, when-swap}
 use Rattle.integers.specs.Totals.{total, total-those}
 use Rattle.integers.specs.Fills.{filled, filled-at}
 use Rattle.rules.specs.declared.Direction.{Direction}
@@ -27,19 +26,13 @@ use Rattle.interval.specs.Chain.{Lent, Chain, Means, regions-among, unit
 use Rattle.interval.specs.ChainTheorem.{chain, same-lent}
 
 -- ---- a sum is over all good units of its region
-swapped : (s t : Bool) (x : ℤ) → when s (when t x) ≡ when t (when s x)
-swapped true true x = refl
-swapped true false x = refl
-swapped false true x = refl
-swapped false false x = refl
-
 module _ (part : ℕ → List ℕ) where
   pub sum-is : (d : Direction) (m r i : ℕ) → i < points → sum-at part d m (series-start r + i) ≡ total (λ u. wanted d (deviation u i)) (good-units (units-in (eqb r) (listed 0 m (unit part))))
   unfolding adds
   sum-is d m r i h =
       let q : (series-start r + i) / points ≡ r = omega arith in
       let p : (series-start r + i) % points ≡ i = omega arith in
-      sum-ext m _ _ (λ k _. rw (q, p) (swapped (good (unit part k)) (eqb r (unit part k .region)) (wanted d (deviation (unit part k) i))))
+      sum-ext m _ _ (λ k _. rw (q, p) (when-swap (good (unit part k)) (eqb r (unit part k .region)) (wanted d (deviation (unit part k) i))))
       ∙ sym (total-those good (λ u. wanted d (deviation u i)) (units-in (eqb r) (listed 0 m (unit part)))
       ∙ total-those (λ u. eqb r (u .region)) (λ u. when (good u) (wanted d (deviation u i))) (listed 0 m (unit part))
       ∙ listed-total (λ u. when (eqb r (u .region)) (when (good u) (wanted d (deviation u i)))) m (unit part))

@@ -1,3 +1,4 @@
 pub mod Weighing
 pub mod Column
 pub mod Promises
+pub mod Signs

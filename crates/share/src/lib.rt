@@ -17,6 +17,9 @@ ghost use mathlib.Core.Path.{_≡_};
 ghost use mathlib.Core.List.{map};
 ghost use Rattle.integers.specs.Pairs.{gain, loss};
 ghost use Rattle.share.specs.Weighing.{weighed, signed};
+ghost use lib.ListN.{length};
+ghost use Rattle.share.specs.Column.{Clear};
+ghost use Rattle.share.specs.Signs.{SidePlaced, SignsOut};
 ghost use Rattle.share.specs.Promises.{tested, credit, debit, SharedOut};
 
 const TOTAL_LIMIT: u64 = 1_000_000_000_000;
@@ -24,6 +27,12 @@ const TOTAL_LIMIT: u64 = 1_000_000_000_000;
 // How much is unplaced, or the refusal.
 pub enum Shared {
     Placed(u64),
+    Refused(Refusal),
+}
+
+// The same for both signs: how much is unplaced of the positive side and of the negative, or the refusal.
+pub enum SharedSigns {
+    Placed(u64, u64),
     Refused(Refusal),
 }
 
@@ -112,4 +121,61 @@ pub fn share_unhelpful(total: u64, performances: &[i64], amounts: &mut [i64]) ->
 {
     let none = [0u64; 1];
     share_from(Source::Unhelpful, total, &none, performances, amounts)
+}
+
+// A side that was tested, placed beside what stands in the column: how much of the total is unplaced.
+fn place_side(
+    source: Source,
+    total: u64,
+    weights: &[u64],
+    performances: &[i64],
+    test: Tested,
+    amounts: &mut [i64],
+) -> u64
+    requires { ⌜ (test ≡ tested total (weighed source (now weights) (now performances)) (length (now amounts))) × Clear (now amounts) (length (weighed source (now weights) (now performances))) ⌝ }
+    ensures { λ r. ⌜ SidePlaced source total (weighed source (now (weights .entry)) (now (performances .entry))) (now (amounts .entry)) r (now (amounts .exit)) ⌝ }
+{
+    match test {
+        Tested::Ready(sum, left) => {
+            place(source, total, weights, performances, sum, left, amounts);
+            0
+        }
+        Tested::Weightless => total,
+        Tested::Unfit(_) => total,
+    }
+}
+
+// The total over the positive performances, and with a minus sign over the negative ones, in one column. Both sides are tested before
+// anything is written, the positive one first.
+pub fn share_signs(total: u64, performances: &[i64], amounts: &mut [i64]) -> SharedSigns
+    ensures { λ r. ⌜ SignsOut total (now (performances .entry)) (now (amounts .entry)) r (now (amounts .exit)) ⌝ }
+{
+    let none = [0u64; 1];
+    let room = amounts.len();
+    let helpful = test_share(Source::Helpful, total, &none, performances, room);
+    if let Tested::Unfit(refusal) = helpful {
+        return SharedSigns::Refused(refusal);
+    }
+    let unhelpful = test_share(Source::Unhelpful, total, &none, performances, room);
+    if let Tested::Unfit(refusal) = unhelpful {
+        return SharedSigns::Refused(refusal);
+    }
+    clear(amounts, performances.len());
+    let up = place_side(
+        Source::Helpful,
+        total,
+        &none,
+        performances,
+        helpful,
+        amounts,
+    );
+    let down = place_side(
+        Source::Unhelpful,
+        total,
+        &none,
+        performances,
+        unhelpful,
+        amounts,
+    );
+    SharedSigns::Placed(up, down)
 }
