@@ -19,9 +19,9 @@ use Rattle.interval.specs.Chain.{Lent, Chain}
 use Rattle.interval.specs.Honest.{Enough}
 use Rattle.interval.specs.BookRecords.{part-of}
 use Rattle.interval.specs.BookChain.{BookMeans, book-chain, book-means}
-use Rattle.answer.specs.Kept.{Kept, kept-answer}
-use Rattle.answer.specs.Keeps.{Keeps}
-use Rattle.answer.specs.AnswerIs.{answer-is}
+use Rattle.kept.specs.Kept.{Kept, kept-answer}
+use Rattle.kept.specs.Keeps.{Keeps}
+use Rattle.kept.specs.AnswerIs.{answer-is}
 
 -- what tally and lent lists have kept
 abbrev pub kept-of : Tally → Lent → Kept
