@@ -1,0 +1,7 @@
+-- What the demand speaks of, and its laws
+pub mod Parties
+pub mod Balance
+pub mod Parts
+pub mod Replacing
+-- Demand 3, and who breaks it
+pub mod Demand3
