@@ -66,18 +66,18 @@ when-same true x y e = e refl
 when-same false x y e = refl
 
 -- ---- a region
-module _ (b : Book) (d : Direction) (r : ℕ) where
-  -- a total over its good units is one over the roster
-  seen : (f : Unit → ℤ) → total f (good-units (units-of b r)) ≡ total (λ u. when (eqb r (u .region)) (when (good u) (f u))) (b .roster)
-  seen f = total-those good f (units-of b r) ∙ total-those (λ u. eqb r (u .region)) (λ u. when (good u) (f u)) (b .roster)
+-- a total over its good units is one over the roster
+pub over-good-units : (b : Book) (r : ℕ) (f : Unit → ℤ) → total f (good-units (units-of b r)) ≡ total (λ u. when (eqb r (u .region)) (when (good u) (f u))) (b .roster)
+over-good-units b r f = total-those good f (units-of b r) ∙ total-those (λ u. eqb r (u .region)) (λ u. when (good u) (f u)) (b .roster)
 
+module _ (b : Book) (d : Direction) (r : ℕ) where
   -- its units' performances go by its own measures
   own-measures : total (λ u. performance d (measure-in b r) (deviation u)) (good-units (units-of b r)) ≡ total (unit-performance b d) (good-units (units-of b r))
   unfolding unit-performance
   own-measures =
-      seen (λ u. performance d (measure-in b r) (deviation u))
+      over-good-units b r (λ u. performance d (measure-in b r) (deviation u))
       ∙ total-same _ _ (λ u. sym (when-there (λ s. when (good u) (performance d (measure-in b s) (deviation u))) r (u .region))) (b .roster)
-      ∙ sym (seen (λ u. performance d (measure-in b (u .region)) (deviation u)))
+      ∙ sym (over-good-units b r (λ u. performance d (measure-in b (u .region)) (deviation u)))
 
   pub residual-is-minus : residual-performance b d r ≡ negℤ (total (unit-performance b d) (good-units (units-of b r)))
   unfolding residual-performance
@@ -90,7 +90,7 @@ module _ (b : Book) (d : Direction) (r : ℕ) where
   -- where the residual is live no default stands in for them: `field` is payment or used
   pub live-closes : (field : Defaults → ℤ) → is-live (residual-standing b d r) ≡ true → total (λ u. live-or (unit-standing b d u) (unit-performance b d u) (field (by d (u .defaults)))) (good-units (units-of b r)) +ℤ residual-or b d field r ≡ pos 0
   live-closes field l =
-      ap₂ _+ℤ_ (seen _ ∙ total-same _ _ each (b .roster) ∙ sym (seen (unit-performance b d))) (live-counts (residual-standing b d r) _ _ l)
+      ap₂ _+ℤ_ (over-good-units b r _ ∙ total-same _ _ each (b .roster) ∙ sym (over-good-units b r (unit-performance b d))) (live-counts (residual-standing b d r) _ _ l)
       ∙ interval-closes
     where
       counts : (own good reliable : Bool) (x y : ℤ) → (own ≡ true → reliable ≡ true) → when own (when good (live-or (standing reliable good BadUnit) x y)) ≡ when own (when good x)

@@ -18,7 +18,6 @@ use Rattle.rules.specs.DeviationLaws.{deviation-closes}
 use Rattle.rules.specs.Performance.{units-of, unit-performance, residual-performance}
 use Rattle.rules.specs.Standings.{unit-standing, residual-standing, is-live}
 use Rattle.rules.specs.Members.{unit-member, residual-or, members}
-use Rattle.rules.specs.Rcr.{rcr}
 use Rattle.rules.specs.Cents.{priced}
 use Rattle.rules.specs.CentsLaws.{credits-are-the-pool, debits-are-the-pool}
 use Rattle.rules.specs.Answer.{answered, answer}
@@ -31,6 +30,8 @@ use Rattle.closing.specs.Replacing.{
   TwoForOne,
   unit-performance-stays,
   unit-standing-stays,
+  used-pool-stays,
+  unused-pool-stays,
   performances-add-up,
   residual-deviation-stays,
   residual-performance-stays,
@@ -66,7 +67,7 @@ parties-meet b h q l = both-or-neither b q h l
 pub record CentsMeet (b : Book) (q : Requirement) : Type 0 where
   pub credits : totalℕ (λ l. gain (l .payment)) (answer b q .lines) ≡ answer b q .pool
   pub debits : totalℕ (λ l. loss (l .payment)) (answer b q .lines) ≡ answer b q .pool
-  pub pool : answer b q .pool ≡ priced (q .price) (rcr b q)
+  pub pool : answer b q .pool ≡ priced (q .price) (answer b q .rcr)
   pub payments : total (λ l. l .payment) (answer b q .lines) ≡ pos 0
 
 pub cents-meet : (b : Book) (q : Requirement) → some-helpful b q ≡ true → some-unhelpful b q ≡ true → CentsMeet b q
@@ -83,7 +84,7 @@ cents-meet b q helps harms =
 
 -- 'Replace one good unit by two good ones of its region and kind, all within the limits, whose start, end, defaults and every reading add up to its own: their
 -- performances add up exactly to the old one, and all other performances stay.' So do the residuals, and how each stands; a requirement has the two members in
--- the place of the one, and every number that their shares go by adds up.
+-- the place of the one, every number that their shares go by adds up, and the pools for use stay. (RCR may grow: two parts that move against each other both count.)
 pub record Redrawn (b c : Book) (u x y : Unit) : Type 0 where
   pub sum : (d : Direction) → unit-performance c d x +ℤ unit-performance c d y ≡ unit-performance b d u
   pub others : (d : Direction) (w : Unit) → unit-performance c d w ≡ unit-performance b d w
@@ -94,6 +95,8 @@ pub record Redrawn (b c : Book) (u x y : Unit) : Type 0 where
   pub values : (d : Direction) → MembersAddUp (unit-member b d u) (unit-member c d x) (unit-member c d y)
   pub in-place : (q : Requirement) → covers q (u .region) ≡ true → TwoForOne (members b q) (members c q) (unit-member b (q .direction) u) (unit-member c (q .direction) x) (unit-member c (q .direction) y)
   pub elsewhere : (q : Requirement) → covers q (u .region) ≡ false → members c q ≡ members b q
+  pub used-pool : (q : Requirement) → answer c q .used-pool ≡ answer b q .used-pool
+  pub unused-pool : (q : Requirement) → answer c q .unused-pool ≡ answer b q .unused-pool
 
 -- at any place of the roster; no limit is asked for, and the numbers of the two are free
 pub however-drawn : (b c : Book) (xs ys : List Unit) (u x y : Unit) → Parts u x y → b .roster ≡ xs ++ (u ∷ ys) → c ≡ with-roster b (xs ++ (x ∷ y ∷ ys)) → Redrawn b c u x y
@@ -110,6 +113,8 @@ however-drawn b c xs ys u x y h before after =
       values = members-add-up b xs ys u x y h;
       in-place = members-replaced b xs ys u x y h;
       elsewhere = members-stay b xs ys u x y h;
+      used-pool = used-pool-stays b xs ys u x y;
+      unused-pool = unused-pool-stays b xs ys u x y;
     }))
 
 -- all of it, of every book that the format takes

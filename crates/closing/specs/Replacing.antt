@@ -24,6 +24,9 @@ use Rattle.rules.specs.Performance.{units-of, unit-performance, residual-perfor
 use Rattle.rules.specs.PerformanceLaws.{performance-ext}
 use Rattle.rules.specs.Standings.{standing, unit-standing, some-good-or-none, residual-standing, live-or}
 use Rattle.rules.specs.Members.{Member, residual, unit-member, residual-or, residual-member, members, each-region, over-regions}
+use Rattle.rules.specs.Rcr.{all-reliable}
+use Rattle.rules.specs.Answer.{answered, answer}
+use Rattle.closing.specs.Balance.{over-good-units}
 use Rattle.closing.specs.Parts.{Alike, Parts, deviation-adds-up, performance-adds-up}
 
 -- a book with another roster
@@ -44,9 +47,7 @@ when-adds-up false a c e h = refl
 good-stands : (vs ws : List Unit) (w : Unit) → good w ≡ true → leb 1 (length (good-units (vs ++ (w ∷ ws)))) || eqb (length (vs ++ (w ∷ ws))) 0 ≡ true
 unfolding those
 good-stands vs ws w g =
-    let e : length (good-units (vs ++ (w ∷ ws))) ≡ length (good-units vs) + suc (length (good-units ws)) =
-    ap length (those-++ good vs (w ∷ ws) ∙ ap (λ (t : Bool). good-units vs ++ cond t (w ∷ good-units ws) (good-units ws)) g) ∙ length-append (good-units vs) (w ∷ good-units ws)
-    in
+    let e : length (good-units (vs ++ (w ∷ ws))) ≡ length (good-units vs) + suc (length (good-units ws)) = ap length (those-++ good vs (w ∷ ws) ∙ ap (λ (t : Bool). good-units vs ++ cond t (w ∷ good-units ws) (good-units ws)) g) ∙ length-append (good-units vs) (w ∷ good-units ws) in
     rw (e, le-leb 1 (length (good-units vs) + suc (length (good-units ws))) (omega arith))
 
 -- ---- members
@@ -85,9 +86,14 @@ module _ (b : Book) (xs ys : List Unit) (u x y : Unit) where
   unfolding reliable-in
   unit-standing-stays d w = refl
 
-  pub unit-member-stays : (d : Direction) (w : Unit) → unit-member after d w ≡ unit-member before d w
-  unfolding unit-member unit-performance reliable-in
-  unit-member-stays d w = refl
+  -- and so do the pools that are charged for use
+  pub used-pool-stays : (q : Requirement) → answer after q .used-pool ≡ answer before q .used-pool
+  unfolding answer answered all-reliable reliable-in
+  used-pool-stays q = refl
+
+  pub unused-pool-stays : (q : Requirement) → answer after q .unused-pool ≡ answer before q .unused-pool
+  unfolding answer answered all-reliable reliable-in
+  unused-pool-stays q = refl
 
   module _ (h : Parts u x y) where
     pub performances-add-up : (d : Direction) → unit-performance after d x +ℤ unit-performance after d y ≡ unit-performance before d u
@@ -97,13 +103,10 @@ module _ (b : Book) (xs ys : List Unit) (u x y : Unit) where
     -- ---- a region
     pub residual-deviation-stays : (r t : ℕ) → t < points → residual-deviation (units-of after r) t ≡ residual-deviation (units-of before r) t
     residual-deviation-stays r t l =
-        ap negℤ (seen (xs ++ (x ∷ y ∷ ys)) ∙ two-for-one term xs ys u x y terms ∙ sym (seen (xs ++ (u ∷ ys))))
+        ap negℤ (over-good-units after r (λ w. deviation w t) ∙ two-for-one term xs ys u x y terms ∙ sym (over-good-units before r (λ w. deviation w t)))
       where
         term : Unit → ℤ
         term w = when (eqb r (w .region)) (when (good w) (deviation w t))
-
-        seen : (us : List Unit) → total (λ w. deviation w t) (good-units (units-in (eqb r) us)) ≡ total term us
-        seen us = total-those good (λ w. deviation w t) (units-in (eqb r) us) ∙ total-those (λ w. eqb r (w .region)) (λ w. when (good w) (deviation w t)) us
 
         -- a good unit of the region's
         counted : (w : Unit) → Alike u w → term w ≡ when (eqb r (u .region)) (deviation w t)
@@ -153,18 +156,28 @@ module _ (b : Book) (xs ys : List Unit) (u x y : Unit) where
     pub residual-member-stays : (q : Requirement) → residual-member after q ≡ residual-member before q
     unfolding residual-member reliable-in
     residual-member-stays q =
-        let d = q .direction in
-        ap (λ (s : Bool). record { name = residual; standing = standing (each-region q (reliable-in b d)) s NoGoodUnit; payment = sums after (λ f. f .payment); used = sums after (λ f. f .used); unused = unused }) (every-ext regions _ _ (λ r _. ap (λ (t : Bool). not (covers q r) || t) (some-good-stays r)))
-        ∙ ap₂ (λ (p z : ℤ). record { name = residual; standing = residual-member before q .standing; payment = p; used = z; unused = unused }) (sums-stay (λ f. f .payment)) (sums-stay (λ f. f .used))
+        ap (λ (s : Bool). made s (sums after (λ f. f .payment)) (sums after (λ f. f .used))) (every-ext regions _ _ (λ r _. ap (λ (t : Bool). not (covers q r) || t) (some-good-stays r)))
+        ∙ ap₂ (made (each-region q (some-good-or-none before))) (sums-stay (λ f. f .payment)) (sums-stay (λ f. f .used))
       where
-        sums : Book → (Defaults → ℤ) → ℤ
-        sums c field = over-regions q (residual-or c (q .direction) field)
+        d : Direction
+        d = q .direction
 
-        unused : ℤ
-        unused = over-regions q (λ r. by (q .direction) (regionOf b r .defaults) .unused)
+        -- from whether its regions have good units, and its two sums
+        made : Bool → ℤ → ℤ → Member
+        made s payment used =
+            record {
+              name = residual;
+              standing = standing (each-region q (reliable-in b d)) s NoGoodUnit;
+              payment = payment;
+              used = used;
+              unused = over-regions q (λ r. by d (regionOf b r .defaults) .unused);
+            }
+
+        sums : Book → (Defaults → ℤ) → ℤ
+        sums c field = over-regions q (residual-or c d field)
 
         sums-stay : (field : Defaults → ℤ) → sums after field ≡ sums before field
-        sums-stay field = sum-ext regions _ _ (λ r _. ap (when (covers q r)) (residual-or-stays (q .direction) field r))
+        sums-stay field = sum-ext regions _ _ (λ r _. ap (when (covers q r)) (residual-or-stays d field r))
 
     pub members-add-up : (d : Direction) → MembersAddUp (unit-member before d u) (unit-member after d x) (unit-member after d y)
     unfolding unit-member unit-performance reliable-in
@@ -195,41 +208,36 @@ module _ (b : Book) (xs ys : List Unit) (u x y : Unit) where
       abbrev d : Direction
       d = q .direction
 
-      -- the members that the units before it make, and those after it with the residual
-      front : List Member
+      -- the units of the requirement that stand after it, the members that those before it make, and some with the residual at their end
+      abbrev back : List Unit
+      back = units-in (covers q) ys
+
+      abbrev front : List Member
       front = map (unit-member b d) (units-in (covers q) xs)
 
-      rest : List Member
-      rest = map (unit-member b d) (units-in (covers q) ys) ++ (residual-member before q ∷ [])
+      abbrev ending : List Unit → List Member
+      ending us = map (unit-member b d) us ++ (residual-member before q ∷ [])
 
-      -- the members of a roster that goes on after those before it
-      go-on : (us : List Unit) → map (unit-member b d) (units-in (covers q) (xs ++ us)) ++ (residual-member before q ∷ []) ≡ front ++ (map (unit-member b d) (units-in (covers q) us) ++ (residual-member before q ∷ []))
-      unfolding front
+      go-on : (us : List Unit) → ending (units-in (covers q) (xs ++ us)) ≡ front ++ ending (units-in (covers q) us)
       go-on us =
           ap (λ (l : List Member). l ++ (residual-member before q ∷ [])) (ap (map (unit-member b d)) (those-++ (λ w. covers q (w .region)) xs us) ∙ map-append (unit-member b d) (units-in (covers q) xs) (units-in (covers q) us))
           ∙ append-assoc front (map (unit-member b d) (units-in (covers q) us)) (residual-member before q ∷ [])
 
       -- both lists, by whether the requirement covers the region
-      of-before : (s : Bool) → covers q (u .region) ≡ s → members before q ≡ front ++ (map (unit-member b d) (cond s (u ∷ units-in (covers q) ys) (units-in (covers q) ys)) ++ (residual-member before q ∷ []))
+      of-before : (s : Bool) → covers q (u .region) ≡ s → members before q ≡ front ++ ending (cond s (u ∷ back) back)
       unfolding members those unit-member unit-performance reliable-in
-      of-before s c = go-on (u ∷ ys) ∙ ap (λ (s : Bool). front ++ (map (unit-member b d) (cond s (u ∷ back) back) ++ (residual-member before q ∷ []))) c
-        where
-          back : List Unit
-          back = units-in (covers q) ys
+      of-before s c = go-on (u ∷ ys) ∙ ap (λ (s : Bool). front ++ ending (cond s (u ∷ back) back)) c
 
-      of-after : (s : Bool) → covers q (u .region) ≡ s → members after q ≡ front ++ (map (unit-member b d) (cond s (x ∷ cond s (y ∷ units-in (covers q) ys) (units-in (covers q) ys)) (cond s (y ∷ units-in (covers q) ys) (units-in (covers q) ys))) ++ (residual-member before q ∷ []))
+      of-after : (s : Bool) → covers q (u .region) ≡ s → members after q ≡ front ++ ending (cond s (x ∷ cond s (y ∷ back) back) (cond s (y ∷ back) back))
       unfolding members those unit-member unit-performance reliable-in
       of-after s c =
           ap (λ (m : Member). map (unit-member b d) (units-in (covers q) (xs ++ (x ∷ y ∷ ys))) ++ (m ∷ [])) (residual-member-stays q)
           ∙ go-on (x ∷ y ∷ ys)
-          ∙ ap₂ (λ (s t : Bool). front ++ (map (unit-member b d) (cond s (x ∷ cond t (y ∷ back) back) (cond t (y ∷ back) back)) ++ (residual-member before q ∷ []))) (ap (covers q) (h .first .region) ∙ c) (ap (covers q) (h .second .region) ∙ c)
-        where
-          back : List Unit
-          back = units-in (covers q) ys
+          ∙ ap₂ (λ (s t : Bool). front ++ ending (cond s (x ∷ cond t (y ∷ back) back) (cond t (y ∷ back) back))) (ap (covers q) (h .first .region) ∙ c) (ap (covers q) (h .second .region) ∙ c)
 
       pub members-replaced : covers q (u .region) ≡ true → TwoForOne (members before q) (members after q) (unit-member before d u) (unit-member after d x) (unit-member after d y)
-      unfolding rest unit-member unit-performance reliable-in
-      members-replaced c = record { front = front; rest = rest; one = of-before true c; two = of-after true c }
+      unfolding unit-member unit-performance reliable-in
+      members-replaced c = record { front = front; rest = ending back; one = of-before true c; two = of-after true c }
 
       pub members-stay : covers q (u .region) ≡ false → members after q ≡ members before q
       members-stay c = of-after false c ∙ sym (of-before false c)
