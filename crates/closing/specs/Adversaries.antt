@@ -1,28 +1,36 @@
--- THE ADVERSARIES (01, What the promises have to pin): wrong calculators, each with the demand that it breaks. A calculator is what it prints of a book's bytes, or
--- what it holds a residual to be. What a tally holds is the calls' to say: one handed back untouched and a made-up number of units taken are edits of `interval`.
+-- THE ADVERSARIES (01, What the promises have to pin, Easy to get wrong): wrong calculators, each with the demand that it breaks. A calculator is what it prints
+-- of a book's bytes, or what it holds a residual to be. What a tally holds is the calls' to say: one handed back untouched and a made-up number of units taken
+-- are edits of `interval`.
 use mathlib.Core.Path.{_≡_, refl, sym, _∙_, ap, ap₂}
+use mathlib.Core.Bool.{true, false}
 use mathlib.Core.List.{List, [], _∷_, _++_}
-use Prim.Native.Nat.{ℕ, _+_, _*_, _/_}
+use Prim.Native.Nat.{ℕ, suc, _+_, _*_, _/_, _<_}
 use native.Mathlib.Omega.{arith}
-use lib.IntN.{ℤ, pos, negℤ, _+ℤ_}
+use lib.IntN.{ℤ, pos, negℤ, _+ℤ_, _-ℤ_, _*ℤ_}
 use lib.ListN.{length, getD, take, replicate, length-append, length-replicate}
 use lib.Seq.{take-at}
 use Rattle.integers.specs.Pairs.{ring, v, neg, eq?, eq-in, _⊕_}
-use Rattle.integers.specs.Totals.{total, total-++, those-++}
+use Rattle.integers.specs.Nearest.{nearestℕ, nearest}
+use Rattle.integers.specs.Totals.{total, totalℕ, total-++, those-++}
 use Rattle.rules.specs.declared.Direction.{Direction}
-use Rattle.rules.specs.declared.Direction.the-variants.{Raise}
+use Rattle.rules.specs.declared.Direction.the-variants.{Raise, Lower}
+use Rattle.rules.specs.declared.Kind.the-variants.{Generation}
 use Rattle.rules.specs.declared.Refusal.{Refusal}
-use Rattle.rules.specs.Book.{Unit, Book}
-use Rattle.rules.specs.Deviation.{deviation, good, good-units, residual-deviation}
+use Rattle.rules.specs.Quantities.{points}
+use Rattle.rules.specs.Bytes.{listed}
+use Rattle.rules.specs.Book.{by, Unit, Book}
+use Rattle.rules.specs.Deviation.{turned, deviation, good, good-units, residual-deviation}
 use Rattle.rules.specs.DeviationLaws.{deviation-closes}
 use Rattle.rules.specs.Performance.{residual-performance}
 use Rattle.rules.specs.Text.{text, words}
 use Rattle.rules.specs.Listing.{refused-line, settle}
-use Rattle.rules.specs.Writing.{book-bytes}
-use Rattle.rules.specs.PaperBook.{first, second, paper-book}
+use Rattle.rules.specs.Writing.{book-bytes, flat}
+use Rattle.rules.specs.PaperBook.{zeros, first, second, paper-book}
 use Rattle.rules.specs.PaperListing.{paper-listing}
 use Rattle.rules.specs.Computing.{computing}
+use Rattle.closing.specs.Parts.{Alike, DefaultsAddUp, Parts}
 use Rattle.closing.specs.Replacing.{with-roster}
+use Rattle.closing.specs.PaperCloses.{flat-at}
 
 -- ---- what is printed of the bytes of a book; demand 2 says that it is what `settle` prints
 abbrev pub Calculator : Type 0
@@ -111,3 +119,41 @@ unfolding computing
 adds-in-blocks-of-eight R blocks h =
     let e : pos 37_500 ≡ pos 0 = last-five-left-out R blocks h (replicate 472 first) (replicate 5 first) (length-replicate 472 first) refl 0 in
     omega (arith, eq-in e)
+
+-- lets a bad unit's readings into the residual: breaks demand 3's closing with one unit, bad at its first point
+pub lets-bad-readings-in : Closes (λ us t. negℤ (total (λ u. deviation u t) us)) → ⊥
+unfolding computing
+lets-bad-readings-in h =
+    let bad : Unit = record { number = 1; region = 0; kind = Generation; start = pos 0; end = pos 0; defaults = zeros; quality = false ∷ listed 1 74 (λ t. true); reading = pos 0 ∷ listed 1 74 (λ t. pos 1) } in
+    let e : negℤ (pos 75) ≡ pos 0 = h (bad ∷ []) 1 in
+    omega (arith, eq-in e)
+
+-- ---- what rounds too early
+-- rounds the trajectory to cMW: two halves of a plant no longer add up (demand 3), at t = 30 of one that is to go from 0 to 2 cMW
+abbrev pub rounded : Unit → ℕ → ℤ
+rounded u t = turned (u .kind) (pos 75 *ℤ (getD (u .reading) t (pos 0) -ℤ nearest (pos 75 *ℤ u .start +ℤ (u .end -ℤ u .start) *ℤ pos (suc t)) 75))
+
+pub rounds-the-trajectory : ((u x y : Unit) → Parts u x y → (t : ℕ) → t < points → rounded x t +ℤ rounded y t ≡ rounded u t) → ⊥
+unfolding computing
+rounds-the-trajectory h =
+    let e : pos 0 ≡ negℤ (pos 75) = h (climbs 2) (climbs 1) (climbs 1) halves 29 (omega arith) in
+    omega (arith, eq-in e)
+  where
+    climbs : ℕ → Unit
+    climbs n = record { number = 1; region = 0; kind = Generation; start = pos 0; end = pos n; defaults = zeros; quality = flat true; reading = flat (pos 0) }
+
+    sides : (d : Direction) → DefaultsAddUp (by d zeros) (by d zeros) (by d zeros)
+    sides Raise = record { payment = refl; used = refl; unused = refl }
+    sides Lower = record { payment = refl; used = refl; unused = refl }
+
+    halves : Parts (climbs 2) (climbs 1) (climbs 1)
+    halves =
+        let alike : Alike (climbs 2) (climbs 1) = record { good = refl; region = refl; kind = refl } in
+        record { good = refl; first = alike; second = alike; start = refl; end = refl; defaults = sides; reading = λ t l. ap₂ _+ℤ_ (flat-at (pos 0) t l) (flat-at (pos 0) t l) ∙ sym (flat-at (pos 0) t l) }
+
+-- rounds each payment alone: the cents do not meet (demand 3), at 10 over 1, 1, 1
+pub rounds-each-payment : ((T : ℕ) (ws : List ℕ) → 0 < totalℕ (λ k. k) ws → totalℕ (λ w. nearestℕ (T * w) (totalℕ (λ k. k) ws)) ws ≡ T) → ⊥
+unfolding computing
+rounds-each-payment h =
+    let e : _≡_ {A = ℕ} 9 10 = h 10 (1 ∷ 1 ∷ 1 ∷ []) (omega arith) in
+    omega arith

@@ -5,5 +5,5 @@ pub mod Parts
 pub mod Replacing
 -- Demand 3, and who breaks it
 pub mod Demand3
-pub mod PaperRedrawn
+pub mod PaperCloses
 pub mod Adversaries

@@ -10,7 +10,7 @@ use lib.IntN.{ℤ, negℤ, _+ℤ_, +ℤ-assoc}
 use lib.ListN.{length, length-append}
 use borrow.Author.Tests.{le-leb}
 use Rattle.integers.specs.Sums.{when, sum-ext, every-ext}
-use Rattle.integers.specs.Totals.{total, those, total-++, total-those, those-++}
+use Rattle.integers.specs.Totals.{total, those, total-++, those-++}
 use Rattle.rules.specs.declared.Direction.{Direction}
 use Rattle.rules.specs.declared.Reason.the-variants.{BadUnit, NoGoodUnit}
 use Rattle.rules.specs.declared.Standing.{Standing}

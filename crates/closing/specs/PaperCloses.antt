@@ -1,0 +1,87 @@
+-- The conditions of demand 3 are met by the paper's book (01, One listing in full): its unit 1 may be drawn as two, of 4,000 and 6,000 cMW, its residual is live, and
+-- its requirement has no default and both parties.
+use mathlib.Core.Path.{_≡_, refl, sym, _∙_, ap₂}
+use mathlib.Core.Bool.{true}
+use mathlib.Core.List.{[], _∷_}
+use Prim.Native.Nat.{ℕ, _<_}
+use native.Mathlib.Omega.{arith}
+use lib.IntN.{ℤ, pos, negℤ, _+ℤ_}
+use lib.ListN.{getD}
+use Rattle.rules.specs.declared.Direction.{Direction}
+use Rattle.rules.specs.declared.Direction.the-variants.{Raise, Lower}
+use Rattle.rules.specs.declared.Kind.the-variants.{Generation}
+use Rattle.rules.specs.Quantities.{points}
+use Rattle.rules.specs.BytesLaws.{listed-from-zero}
+use Rattle.rules.specs.Book.{by, Unit}
+use Rattle.rules.specs.Standings.{residual-standing, is-live}
+use Rattle.rules.specs.Writing.{flat}
+use Rattle.rules.specs.PaperBook.{none, first, second, requirement, paper-book}
+use Rattle.rules.specs.Computing.{computing}
+use Rattle.integers.specs.Totals.{all, All}
+use Rattle.closing.specs.Parties.{some, some-helpful, some-unhelpful, no-default}
+use Rattle.closing.specs.Parts.{Parts, DefaultsAddUp}
+use Rattle.closing.specs.Replacing.{with-roster}
+use Rattle.closing.specs.Demand3.{parties-meet, Redrawn, however-drawn}
+
+-- what stands at a point of 75 of one value
+pub flat-at : (z : ℤ) (t : ℕ) → t < points → getD (flat z) t (pos 0) ≡ z
+flat-at z t l = listed-from-zero points (λ i. z) t (pos 0) l
+
+-- one of the two, by its number, its start and end, its reading and its unused default
+abbrev drawn : ℕ → ℕ → ℕ → ℕ → Unit
+drawn number level reading unused =
+    record {
+      number = number;
+      region = 0;
+      kind = Generation;
+      start = pos level;
+      end = pos level;
+      defaults = record { raise = record { payment = pos 0; used = pos 0; unused = negℤ (pos unused) }; lower = none };
+      quality = flat true;
+      reading = flat (pos reading);
+    }
+
+abbrev pub smaller : Unit
+smaller = drawn 0 4_000 4_040 400
+
+abbrev pub larger : Unit
+larger = drawn 1 6_000 6_060 600
+
+pub parts-of-first : Parts first smaller larger
+unfolding computing
+parts-of-first =
+    record {
+      good = refl;
+      first = record { good = refl; region = refl; kind = refl };
+      second = record { good = refl; region = refl; kind = refl };
+      start = refl;
+      end = refl;
+      defaults = sides;
+      reading = λ t l. ap₂ _+ℤ_ (flat-at (pos 4_040) t l) (flat-at (pos 6_060) t l) ∙ sym (flat-at (pos 10_100) t l);
+    }
+  where
+    sides : (d : Direction) → DefaultsAddUp (by d (first .defaults)) (by d (smaller .defaults)) (by d (larger .defaults))
+    sides Raise = record { payment = refl; used = refl; unused = refl }
+    sides Lower = record { payment = refl; used = refl; unused = refl }
+
+pub first-redrawn : Redrawn (paper-book 7) (with-roster (paper-book 7) (smaller ∷ larger ∷ second ∷ [])) first smaller larger
+first-redrawn = however-drawn (paper-book 7) _ [] (second ∷ []) first smaller larger parts-of-first refl refl
+
+-- and so are the other conditions: its region's residual is live, no default stands in its requirement, and both parties are there
+pub record PaperCloses : Type 0 where
+  pub live : is-live (residual-standing (paper-book 7) Raise 0) ≡ true
+  pub no-default : no-default (paper-book 7) requirement ≡ true
+  pub helpful : some-helpful (paper-book 7) requirement ≡ true
+  pub unhelpful : some-unhelpful (paper-book 7) requirement ≡ true
+
+pub paper-closes : PaperCloses
+unfolding computing some all All
+paper-closes =
+    let live : no-default (paper-book 7) requirement ≡ true = refl in
+    let helps : some-helpful (paper-book 7) requirement ≡ true = refl in
+    record {
+      live = refl;
+      no-default = live;
+      helpful = helps;
+      unhelpful = sym (parties-meet (paper-book 7) (omega arith, (omega arith, tt)) requirement live) ∙ helps;
+    }
