@@ -1,6 +1,6 @@
 -- THE ADVERSARIES (01, What the promises have to pin, Easy to get wrong): wrong calculators, each with the demand that it breaks. A calculator is what it prints
 -- of a book's bytes, or what it holds a residual to be. What a tally holds is the calls' to say: one handed back untouched and a made-up number of units taken
--- are edits of `interval`.
+-- are edits of the calls that must fail.
 use mathlib.Core.Path.{_≡_, refl, sym, _∙_, ap, ap₂}
 use mathlib.Core.Bool.{true, false}
 use mathlib.Core.List.{List, [], _∷_, _++_}
@@ -13,24 +13,24 @@ use Rattle.integers.specs.Pairs.{ring, v, neg, eq?, eq-in, _⊕_}
 use Rattle.integers.specs.Nearest.{nearestℕ, nearest}
 use Rattle.integers.specs.Totals.{total, totalℕ, total-++, those-++}
 use Rattle.rules.specs.declared.Direction.{Direction}
-use Rattle.rules.specs.declared.Direction.the-variants.{Raise, Lower}
+use Rattle.rules.specs.declared.Direction.the-variants.{Raise}
 use Rattle.rules.specs.declared.Kind.the-variants.{Generation}
 use Rattle.rules.specs.declared.Refusal.{Refusal}
 use Rattle.rules.specs.Quantities.{points}
 use Rattle.rules.specs.Bytes.{listed}
-use Rattle.rules.specs.Book.{by, Unit, Book}
+use Rattle.rules.specs.Book.{Unit, Book}
 use Rattle.rules.specs.Deviation.{turned, deviation, good, good-units, residual-deviation}
 use Rattle.rules.specs.DeviationLaws.{deviation-closes}
 use Rattle.rules.specs.Performance.{residual-performance}
 use Rattle.rules.specs.Text.{text, words}
 use Rattle.rules.specs.Listing.{refused-line, settle}
-use Rattle.rules.specs.Writing.{book-bytes, flat}
+use Rattle.rules.specs.Writing.{book-bytes}
 use Rattle.rules.specs.PaperBook.{zeros, first, second, paper-book}
 use Rattle.rules.specs.PaperListing.{paper-listing}
 use Rattle.rules.specs.Computing.{computing}
-use Rattle.closing.specs.Parts.{Alike, DefaultsAddUp, Parts}
+use Rattle.closing.specs.Parts.{Parts}
 use Rattle.closing.specs.Replacing.{with-roster}
-use Rattle.closing.specs.PaperCloses.{flat-at}
+use Rattle.closing.specs.PaperCloses.{drawn, drawn-parts}
 
 -- ---- what is printed of the bytes of a book; demand 2 says that it is what `settle` prints
 abbrev pub Calculator : Type 0
@@ -136,20 +136,11 @@ rounded u t = turned (u .kind) (pos 75 *ℤ (getD (u .reading) t (pos 0) -ℤ ne
 pub rounds-the-trajectory : ((u x y : Unit) → Parts u x y → (t : ℕ) → t < points → rounded x t +ℤ rounded y t ≡ rounded u t) → ⊥
 unfolding computing
 rounds-the-trajectory h =
-    let e : pos 0 ≡ negℤ (pos 75) = h (climbs 2) (climbs 1) (climbs 1) halves 29 (omega arith) in
+    let e : pos 0 ≡ negℤ (pos 75) = h (climbs 2) (climbs 1) (climbs 1) (drawn-parts 1 1 1 0 0 1 1 (pos 0) (pos 0) 0 0) 29 (omega arith) in
     omega (arith, eq-in e)
   where
     climbs : ℕ → Unit
-    climbs n = record { number = 1; region = 0; kind = Generation; start = pos 0; end = pos n; defaults = zeros; quality = flat true; reading = flat (pos 0) }
-
-    sides : (d : Direction) → DefaultsAddUp (by d zeros) (by d zeros) (by d zeros)
-    sides Raise = record { payment = refl; used = refl; unused = refl }
-    sides Lower = record { payment = refl; used = refl; unused = refl }
-
-    halves : Parts (climbs 2) (climbs 1) (climbs 1)
-    halves =
-        let alike : Alike (climbs 2) (climbs 1) = record { good = refl; region = refl; kind = refl } in
-        record { good = refl; first = alike; second = alike; start = refl; end = refl; defaults = sides; reading = λ t l. ap₂ _+ℤ_ (flat-at (pos 0) t l) (flat-at (pos 0) t l) ∙ sym (flat-at (pos 0) t l) }
+    climbs n = drawn 1 0 n (pos 0) 0
 
 -- rounds each payment alone: the cents do not meet (demand 3), at 10 over 1, 1, 1
 pub rounds-each-payment : ((T : ℕ) (ws : List ℕ) → 0 < totalℕ (λ k. k) ws → totalℕ (λ w. nearestℕ (T * w) (totalℕ (λ k. k) ws)) ws ≡ T) → ⊥

@@ -84,7 +84,7 @@ cents-meet b q helps harms =
 
 -- 'Replace one good unit by two good ones of its region and kind, all within the limits, whose start, end, defaults and every reading add up to its own: their
 -- performances add up exactly to the old one, and all other performances stay.' So do the residuals, and how each stands; a requirement has the two members in
--- the place of the one, every number that their shares go by adds up, and the pools for use stay. (RCR may grow: two parts that move against each other both count.)
+-- the place of the one, every number that their shares go by adds up, and the pools for use stay. RCR need not: see PaperCloses, response-grows.
 pub record Redrawn (b c : Book) (u x y : Unit) : Type 0 where
   pub sum : (d : Direction) → unit-performance c d x +ℤ unit-performance c d y ≡ unit-performance b d u
   pub others : (d : Direction) (w : Unit) → unit-performance c d w ≡ unit-performance b d w
