@@ -1,0 +1,2 @@
+// closing: the books close, demand 3, as theorems over the rules' definitions, and the calculators that they and the listing rule out. It holds no
+// code: specs/Demand3.antt has the demand's words, each above its theorem; the laws they cite stand in the files beside it.
