@@ -27,8 +27,6 @@ pub mod Listing
 pub mod Writing
 pub mod Computing
 pub mod PaperBook
-pub mod PaperListing
-pub mod RefusedBooks
 pub mod Edges
 pub mod WorkedBooks
 pub mod WorkedAnswers
