@@ -26,7 +26,7 @@ use Rattle.rules.specs.Text.{text, words}
 use Rattle.rules.specs.Listing.{refused-line, settle}
 use Rattle.rules.specs.Writing.{book-bytes}
 use Rattle.rules.specs.PaperBook.{zeros, first, second, paper-book}
-use Rattle.rules.specs.PaperListing.{paper-listing}
+use Rattle.worked.specs.PaperListing.{paper-listing}
 use Rattle.rules.specs.Computing.{computing}
 use Rattle.closing.specs.Parts.{Parts}
 use Rattle.closing.specs.Replacing.{with-roster}
@@ -81,7 +81,7 @@ left-out R h xs ys t e =
     let some = eq? (v (total f (good-units xs)) ⊕ v (R xs t)) (v (pos 0)) (h xs t) in
     ring (v (total f (good-units ys))) (v (pos 0)) (omega arith)
 
--- hands the tally back untouched, so that no unit is in its sums: breaks demand 3's closing with one unit
+-- a residual that is the same whatever the roster, as of sums that no unit has reached: breaks demand 3's closing with one unit
 pub adds-nobody : (R : Residual) → ((us : List Unit) (t : ℕ) → R us t ≡ R [] t) → Closes R → ⊥
 unfolding computing
 adds-nobody R blind h =
