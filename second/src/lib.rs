@@ -29,3 +29,5 @@ pub mod lines;
 pub mod sweep;
 pub mod vectors;
 pub mod library;
+pub mod boundary;
+pub mod script;
