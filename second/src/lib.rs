@@ -23,6 +23,7 @@ pub mod describe;
 pub mod worked;
 pub mod chance;
 pub mod make;
+pub mod bench;
 pub mod damage;
 pub mod records;
 pub mod lines;
