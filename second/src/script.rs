@@ -434,10 +434,41 @@ impl<W: Write> Script<W> {
         }
     }
 
+    /// The most that may be kept of a full roster, and sums of the wrong sign that no chain leaves: the
+    /// weights of an answer come up to their limit or pass it.
+    fn heaviest(&mut self) {
+        let units = UNITS_LIMIT as usize;
+        let mut book = make(self.chance.draw(), "heavy", Some(1)).expect("a class of the list");
+        book.requirements.iter_mut().for_each(|requirement| requirement.region_set |= 16 + 8 + 4 + 2);
+        let made = Made { bytes: to_bytes(&book), units: 1, requirements: book.requirements.len() };
+        self.lend_all(units);
+        let words = [UNITS_LIMIT, 1, 6 + UNITS_LIMIT + self.chance.between(0, 1), 0, 10_000, 75, 100, 7];
+        self.put("tally", 0, &words);
+        let measure = self.chance.pick(&[MEASURE_LIMIT, -MEASURE_LIMIT]);
+        self.say(format!("list measures {SERIES} {measure}"));
+        for name in ["positive", "negative"] {
+            let sum = self.chance.pick(&[1, -1, 0]) * DEVIATION_LIMIT * UNITS_LIMIT / REGIONS as i128;
+            self.say(format!("list {name} {SERIES} {sum}"));
+        }
+        let figures = [GENERATION_LIMIT, 1, 1].into_iter().chain([RESIDUAL_DEFAULT_LOWEST; 6]);
+        let figures: Vec<i128> = figures.cycle().take(FIGURES_OF_A_REGION * REGIONS).collect();
+        self.put("figures", 0, &figures);
+        let place = self.chance.between(0, 9);
+        self.say(format!("list places {units} {place}"));
+        for name in ["raise", "lower"] {
+            let size = self.chance.pick(&[PERFORMANCE_LIMIT, -PERFORMANCE_LIMIT]);
+            self.say(format!("list {name} {units} {size}"));
+        }
+        self.say(format!("list defaults {} {UNIT_DEFAULT_LOWEST}", 6 * units));
+        self.ask(&made);
+    }
+
     /// Sequences until there are so many calls.
     pub fn write(&mut self, calls: usize) {
         while self.calls < calls {
-            if self.chance.one_in(2) {
+            if self.answers && self.chance.one_in(20) {
+                self.heaviest();
+            } else if self.chance.one_in(2) {
                 self.chain();
             } else {
                 self.arbitrary();
