@@ -446,8 +446,10 @@ impl<W: Write> Script<W> {
         self.put("tally", 0, &words);
         let measure = self.chance.pick(&[MEASURE_LIMIT, -MEASURE_LIMIT]);
         self.say(format!("list measures {SERIES} {measure}"));
+        let both = self.chance.pick(&[1, -1]);
         for name in ["positive", "negative"] {
-            let sum = self.chance.pick(&[1, -1, 0]) * DEVIATION_LIMIT * UNITS_LIMIT / REGIONS as i128;
+            let sum = self.chance.pick(&[both, both, both, -both, 0]) * DEVIATION_LIMIT * UNITS_LIMIT
+                / REGIONS as i128;
             self.say(format!("list {name} {SERIES} {sum}"));
         }
         let figures = [GENERATION_LIMIT, 1, 1].into_iter().chain([RESIDUAL_DEFAULT_LOWEST; 6]);
@@ -466,7 +468,7 @@ impl<W: Write> Script<W> {
     /// Sequences until there are so many calls.
     pub fn write(&mut self, calls: usize) {
         while self.calls < calls {
-            if self.answers && self.chance.one_in(20) {
+            if self.answers && self.chance.one_in(10) {
                 self.heaviest();
             } else if self.chance.one_in(2) {
                 self.chain();
