@@ -36,7 +36,7 @@ fn spread_unit(chance: &mut Chance, number: usize) -> Unit {
 /// Units of five, one a region, on the same side by the same step.
 fn tied_unit(number: usize) -> Unit {
     let mut unit = base_unit(number as i128 + 1, number % REGIONS);
-    let side = if number / REGIONS % 2 == 0 { 1 } else { -1 };
+    let side = if (number / REGIONS).is_multiple_of(2) { 1 } else { -1 };
     unit.defaults = [-1_000; 6];
     unit.readings = [100 * side; POINTS];
     unit
