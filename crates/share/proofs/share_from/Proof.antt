@@ -31,10 +31,10 @@ module _ (c : tie.After-sum) where
   abbrev test : tie.After-test-share
   test = c .before .before
 
-  ready : Ready (c .sum .given .0 .0) (c .sum .given .0 .1 .0) ≡ tested (S test .args .total) (xs (S test)) (length (old (S test)))
+  ready : Ready (c .sum .given .0 .0) ≡ tested (S test .args .total) (xs (S test)) (length (old (S test)))
   ready = sym (c .sum .given .1) ∙ test .test-share .ensures
 
-  known : Passed (S test .args .total) (xs (S test)) (length (old (S test))) (c .sum .given .0 .0) (c .sum .given .0 .1 .0)
+  known : Passed (S test .args .total) (xs (S test)) (length (old (S test))) (c .sum .given .0 .0)
   known = passed (S test .args .total) (xs (S test)) (length (old (S test))) ready
 
 module _ (c : tie.After-enum-told) where
@@ -71,7 +71,6 @@ place-requires c κs =
     let s = S (test u) in (
       known u .shares,
       omega (arith, ap length (cleared k), filled-length (length (xs s)) (λ i. pos 0) (old s), known u .roomy),
-      known u .left-is,
       subst (λ (z : List ℤ). Clear z (length (xs s))) (sym (cleared k)) (clear-column (s .args .source) (s .args .total) (xs s) (old s) (known u .roomy)),
     )
 
@@ -95,7 +94,7 @@ returns c =
     let k = c .before .before .before .before in
     let u = k .before .before .before in
     let s = S (test u) in
-    met (signed (s .args .source)) (s .args .total) (xs s) (old s) (Ready (u .sum .given .0 .0) (u .sum .given .0 .1 .0)) (ready u) refl (c .before .place .ensures ∙ ap (λ (z : List ℤ). filled (length (xs s)) (placed (s .args .source) (s .args .total) (xs s) z) z) (cleared k) ∙ all-placed (s .args .source) (s .args .total) (xs s) (old s) (known u .roomy))
+    met (signed (s .args .source)) (s .args .total) (xs s) (old s) (Ready (u .sum .given .0 .0)) (ready u) refl (c .before .place .ensures ∙ ap (λ (z : List ℤ). filled (length (xs s)) (placed (s .args .source) (s .args .total) (xs s) z) z) (cleared k) ∙ all-placed (s .args .source) (s .args .total) (xs s) (old s) (known u .roomy))
 
 same-length-2 : tie.Need-same-length-2
 same-length-2 c = search needs
