@@ -2,16 +2,14 @@
 -- in it is each member's share.
 use mathlib.Core.Path.{_≡_, refl, sym, _∙_, ap, subst}
 use mathlib.Core.List.{List}
-use Prim.Native.Nat.{ℕ, _≤_, _<_}
+use Prim.Native.Nat.{ℕ}
 use lib.IntN.{ℤ, pos}
 use lib.ListN.{length}
 use native.Mathlib.Omega.{arith}
 use borrow.Author.Needs.{needs}
 use Rattle.integers.specs.Fills.{filled, filled-length}
-use Rattle.share.specs.declared.weights.Source.{Source}
-use Rattle.share.specs.declared.Tested.{Tested}
 use Rattle.share.specs.declared.Tested.the-variants.{Ready, Weightless, Unfit}
-use Rattle.share.specs.Weighing.{weighed, signed, Shares, left-of}
+use Rattle.share.specs.Weighing.{weighed, signed}
 use Rattle.share.specs.Column.{placed, Clear, clear-column, all-placed, nothing-placed}
 use Rattle.share.specs.Promises.{tested, Passed, passed, weightless, met}
 use Rattle.share.proofs.share_from.Statement.{statement}

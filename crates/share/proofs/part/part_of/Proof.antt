@@ -1,7 +1,7 @@
 -- `part_of` meets its contract: the estimate leaves less than twice the sum, so that it is the quotient or one less; the quotient is at most the
 -- total.
-use mathlib.Core.Path.{_≡_, refl, sym, _∙_, ap}
-use Prim.Native.Nat.{ℕ, _+_, _-_, _*_, _/_, _%_, _≤_, _<_, _^_}
+use mathlib.Core.Path.{_≡_, ap}
+use Prim.Native.Nat.{ℕ, _+_, _-_, _*_, _≤_, _<_, _^_}
 use native.Mathlib.Nat.{mul-zero, mul-le-mul-left, le-of-mul-le-mul-right, le-of-lt, le-refl, le-trans}
 use native.Mathlib.Omega.{arith}
 use borrow.Author.Needs.{needs}

@@ -1,8 +1,6 @@
 -- `rate_of` meets its contract: the total is its quotient times the sum, and its remainder.
-use mathlib.Core.Path.{_≡_, refl}
-use Prim.Native.Nat.{ℕ, _+_, _*_, _/_, _%_}
+use mathlib.Core.Path.{refl}
 use native.Mathlib.Nat.{div-add-mod', mod-lt}
-use native.Mathlib.Omega.{arith}
 use borrow.Author.Needs.{needs}
 use Rattle.share.proofs.part.rate_of.Statement.{statement}
 use Rattle.share.proofs.part.rate_of.Tie as tie

@@ -1,7 +1,5 @@
 -- `upper` meets its contract: each product of two halves fits a word, with the carry beside it, and the columns add up to the product.
-use mathlib.Core.Path.{_≡_}
 use Prim.Native.Nat.{ℕ, _+_, _*_, _/_, _%_, _≤_, _<_, _^_}
-use native.Mathlib.Nat.{mul-le-mul, div-add-mod'}
 use native.Mathlib.Omega.{arith}
 use Rattle.share.specs.Rates.{half, halves, middle, next, upper-is, upper-small}
 use Rattle.share.proofs.part.upper.Statement.{statement}
