@@ -1,4 +1,5 @@
 pub mod Weighing
+pub mod Rates
 pub mod Column
 pub mod Promises
 pub mod Signs

@@ -1,13 +1,13 @@
 -- What a share promises, whole: the reply, and the column of amounts, on refusals too. Beside it, that any two outcomes which it allows are equal.
 use mathlib.Core.Path.{_≡_, refl, sym, _∙_, ap}
-use mathlib.Core.Bool.{Bool, true, false, cond, _&&_, _||_}
+use mathlib.Core.Bool.{Bool, true, false, cond, _&&_, _||_, false≢true}
 use mathlib.Core.List.{List, map}
-use Prim.Native.Nat.{ℕ, _≤_, _<_}
+use Prim.Native.Nat.{ℕ, _≤_}
 use native.Mathlib.Omega.{arith}
 use lib.Dec.{leb, ltb, eqb}
 use lib.IntN.{ℤ, pos, negℤ}
 use lib.ListN.{length}
-use borrow.Author.Tests.{leb-true, eqb-true}
+use borrow.Author.Tests.{leb-true, eqb-true, lt-ltb}
 use Rattle.integers.specs.Pairs.{gain, loss}
 use Rattle.integers.specs.Sums.{both}
 use Rattle.integers.specs.Fills.{filled}
@@ -16,7 +16,7 @@ use Rattle.rules.specs.declared.Refusal.the-variants.{TooShort, WrongCount, Lef
 use Rattle.rules.specs.Quantities.{total-limit, weight-limit}
 use Rattle.rules.specs.Refusals.{Reply, taken, refused, unless}
 use Rattle.rules.specs.Share.{weight-at, share-of, unplaced, share-reply}
-use Rattle.rules.specs.ShareLaws.{not-zero}
+use Rattle.rules.specs.ShareLaws.{not-zero, left-overs-few}
 use Rattle.share.specs.declared.Shared.{Shared}
 use Rattle.share.specs.declared.Shared.the-variants.{Placed, Refused}
 use Rattle.share.specs.declared.Tested.{Tested}
@@ -67,50 +67,52 @@ pub refused-means : (y : Reply ℕ) {f : Refusal} → Refused f ≡ answered y �
 refused-means (taken v) e = let z : _≡_ {A = ℕ} 0 1 = cc in absurd (omega arith)
 refused-means (refused g) e = cc
 
--- ---- the tests of a share, in the order of the paper's numbers
+-- ---- the tests of a share, in the order of the paper's numbers. Refusal 13 needs none: what is left over is always fewer than the members with weight
 unfoldable pub tested : ℕ → List ℕ → ℕ → Tested
 tested T xs room =
     cond (leb (length xs) room)
     (cond (leb T total-limit && leb (sum-of xs) weight-limit)
-    (cond (eqb (sum-of xs) 0) Weightless
-    (cond (ltb (left-of T xs) (weighty xs)) (Ready (sum-of xs) (left-of T xs)) (Unfit LeftOvers)))
+    (cond (eqb (sum-of xs) 0) Weightless (Ready (sum-of xs)))
     (Unfit WrongCount))
     (Unfit TooShort)
 
 -- what the definition replies where the tests find so much
 abbrev pub found : ℕ → Tested → Reply ℕ
-found T (Ready W left) = taken 0
+found T (Ready W) = taken 0
 found T Weightless = taken T
 found T (Unfit refusal) = refused refusal
 
 pub tests-tell : (T : ℕ) (xs : List ℕ) (room : ℕ) → share-reply T xs room ≡ found T (tested T xs room)
 unfolding tested share-reply unplaced
 tests-tell T xs room =
-    go (leb (length xs) room) (leb T total-limit && leb (sum-of xs) weight-limit) (eqb (sum-of xs) 0) (ltb (left-of T xs) (weighty xs))
+    go (leb (length xs) room) (leb T total-limit && leb (sum-of xs) weight-limit) (eqb (sum-of xs) 0) refl (ltb (left-of T xs) (weighty xs)) refl
   where
-    go : (a b c d : Bool) → unless a TooShort (unless b WrongCount (unless (c || d) LeftOvers (taken (cond c T 0)))) ≡ found T (cond a (cond b (cond c Weightless (cond d (Ready (sum-of xs) (left-of T xs)) (Unfit LeftOvers))) (Unfit WrongCount)) (Unfit TooShort))
-    go true true true d = refl
-    go true true false true = refl
-    go true true false false = refl
-    go true false c d = refl
-    go false b c d = refl
+    few : (d : Bool) → ltb (left-of T xs) (weighty xs) ≡ d → eqb (sum-of xs) 0 ≡ false → d ≡ true
+    few d e f =
+        sym e ∙ lt-ltb (left-of T xs) (weighty xs) (left-overs-few T (length xs) (weight-at xs) (omega (arith, not-zero (sum-of xs) f)))
+
+    go : (a b c : Bool) → eqb (sum-of xs) 0 ≡ c → (d : Bool) → ltb (left-of T xs) (weighty xs) ≡ d → unless a TooShort (unless b WrongCount (unless (c || d) LeftOvers (taken (cond c T 0)))) ≡ found T (cond a (cond b (cond c Weightless (Ready (sum-of xs))) (Unfit WrongCount)) (Unfit TooShort))
+    go true true true e d f = refl
+    go true true false e true f = refl
+    go true true false e false f = absurd (false≢true (few false f e))
+    go true false c e d f = refl
+    go false b c e d f = refl
 
 -- what the tests have shown of a share that passes, and of one without weight
-pub record Passed (T : ℕ) (xs : List ℕ) (room W left : ℕ) : Type 0 where
+pub record Passed (T : ℕ) (xs : List ℕ) (room W : ℕ) : Type 0 where
   pub roomy : length xs ≤ room
   pub shares : Shares T xs W
-  pub left-is : left ≡ left-of T xs
 
 apart : {A : Type 0} {x y : Tested} → x ≡ y → (_≡_ {A = ℕ} 0 1) → A
 apart e z = absurd (omega arith)
 
-pub passed : (T : ℕ) (xs : List ℕ) (room : ℕ) {W left : ℕ} → Ready W left ≡ tested T xs room → Passed T xs room W left
+pub passed : (T : ℕ) (xs : List ℕ) (room : ℕ) {W : ℕ} → Ready W ≡ tested T xs room → Passed T xs room W
 unfolding tested
-passed T xs room {W} {left} q =
-    go (leb (length xs) room) refl (leb T total-limit && leb (sum-of xs) weight-limit) refl (eqb (sum-of xs) 0) refl (ltb (left-of T xs) (weighty xs)) q
+passed T xs room {W} q =
+    go (leb (length xs) room) refl (leb T total-limit && leb (sum-of xs) weight-limit) refl (eqb (sum-of xs) 0) refl q
   where
-    go : (a : Bool) → leb (length xs) room ≡ a → (b : Bool) → (leb T total-limit && leb (sum-of xs) weight-limit) ≡ b → (c : Bool) → eqb (sum-of xs) 0 ≡ c → (d : Bool) → Ready W left ≡ cond a (cond b (cond c Weightless (cond d (Ready (sum-of xs) (left-of T xs)) (Unfit LeftOvers))) (Unfit WrongCount)) (Unfit TooShort) → Passed T xs room W left
-    go true e true f false g true q =
+    go : (a : Bool) → leb (length xs) room ≡ a → (b : Bool) → (leb T total-limit && leb (sum-of xs) weight-limit) ≡ b → (c : Bool) → eqb (sum-of xs) 0 ≡ c → Ready W ≡ cond a (cond b (cond c Weightless (Ready (sum-of xs))) (Unfit WrongCount)) (Unfit TooShort) → Passed T xs room W
+    go true e true f false g q =
         let limits = both (leb T total-limit) (leb (sum-of xs) weight-limit) f in
         let is : W ≡ sum-of xs = cc in
         record {
@@ -121,24 +123,21 @@ passed T xs room {W} {left} q =
             some = omega (arith, not-zero (sum-of xs) g);
             small = omega (arith, leb-true (sum-of xs) weight-limit (limits .1));
           };
-          left-is = cc;
         }
-    go true e true f true g d q = apart q (cc)
-    go true e true f false g false q = apart q (cc)
-    go true e false f c g d q = apart q (cc)
-    go false e b f c g d q = apart q (cc)
+    go true e true f true g q = apart q (cc)
+    go true e false f c g q = apart q (cc)
+    go false e b f c g q = apart q (cc)
 
 pub weightless : (T : ℕ) (xs : List ℕ) (room : ℕ) → Weightless ≡ tested T xs room → (length xs ≤ room) × (sum-of xs ≡ 0)
 unfolding tested
 weightless T xs room q =
-    go (leb (length xs) room) refl (leb T total-limit && leb (sum-of xs) weight-limit) (eqb (sum-of xs) 0) refl (ltb (left-of T xs) (weighty xs)) q
+    go (leb (length xs) room) refl (leb T total-limit && leb (sum-of xs) weight-limit) (eqb (sum-of xs) 0) refl q
   where
-    go : (a : Bool) → leb (length xs) room ≡ a → (b c : Bool) → eqb (sum-of xs) 0 ≡ c → (d : Bool) → Weightless ≡ cond a (cond b (cond c Weightless (cond d (Ready (sum-of xs) (left-of T xs)) (Unfit LeftOvers))) (Unfit WrongCount)) (Unfit TooShort) → (length xs ≤ room) × (sum-of xs ≡ 0)
-    go true e true true g d q = (leb-true (length xs) room e, eqb-true (sum-of xs) 0 g)
-    go true e true false g true q = apart q (cc)
-    go true e true false g false q = apart q (cc)
-    go true e false c g d q = apart q (cc)
-    go false e b c g d q = apart q (cc)
+    go : (a : Bool) → leb (length xs) room ≡ a → (b c : Bool) → eqb (sum-of xs) 0 ≡ c → Weightless ≡ cond a (cond b (cond c Weightless (Ready (sum-of xs))) (Unfit WrongCount)) (Unfit TooShort) → (length xs ≤ room) × (sum-of xs ≡ 0)
+    go true e true true g q = (leb-true (length xs) room e, eqb-true (sum-of xs) 0 g)
+    go true e true false g q = apart q (cc)
+    go true e false c g q = apart q (cc)
+    go false e b c g q = apart q (cc)
 
 -- how the promise is met: by what the tests find
 pub met : (sign : ℕ → ℤ) (T : ℕ) (xs : List ℕ) (old : List ℤ) {r : Shared} {new : List ℤ} (t : Tested) → t ≡ tested T xs (length old) → r ≡ answered (found T t) → new ≡ where-taken (found T t) (filled (length xs) (λ i. sign (share-of T xs i)) old) old → SharedOut sign T xs old r new

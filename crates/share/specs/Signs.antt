@@ -6,7 +6,6 @@ use Prim.Native.Nat.{ℕ, _≤_, _<_}
 use native.Mathlib.Omega.{arith}
 use lib.Dec.{ltb}
 use lib.IntN.{ℤ, pos, negsuc, negℤ, _-ℤ_, +ℤ-idl, +ℤ-idr}
-use lib.Signed.{_≤ℤ_}
 use lib.ListN.{length, getD, length-map, List·getD-map}
 use borrow.Author.Tests.{ltb-true, ltb-false}
 use Rattle.integers.specs.Pairs.{gain, loss, le-out}

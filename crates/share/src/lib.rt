@@ -6,13 +6,11 @@ mod weights;
 
 use left_overs::clear;
 use left_overs::place;
-use left_overs::wholes;
 use rules::Refusal;
 use weights::Source;
 use weights::WEIGHT_LIMIT;
 use weights::members;
 use weights::sum_of;
-use weights::with_weight;
 ghost use mathlib.Core.Path.{_≡_};
 ghost use mathlib.Core.List.{map};
 ghost use Rattle.integers.specs.Pairs.{gain, loss};
@@ -36,14 +34,14 @@ pub enum SharedSigns {
     Refused(Refusal),
 }
 
-// What the tests of a share find: W and what is left over, that no member has weight, or the refusal.
+// What the tests of a share find: W, that no member has weight, or the refusal.
 enum Tested {
-    Ready(u64, u64),
+    Ready(u64),
     Weightless,
     Unfit(Refusal),
 }
 
-// Room first, then T and W, then what is left over. Nothing is written.
+// Room first, then T and W. What is left over needs no test: it is always fewer than the members with weight. Nothing is written.
 fn test_share(
     source: Source,
     total: u64,
@@ -66,11 +64,7 @@ fn test_share(
     if sum == 0 {
         return Tested::Weightless;
     }
-    let left = total - wholes(source, total, weights, performances, sum);
-    if left < with_weight(source, weights, performances) {
-        return Tested::Ready(sum, left);
-    }
-    Tested::Unfit(Refusal::LeftOvers)
+    Tested::Ready(sum)
 }
 
 fn share_from(
@@ -85,9 +79,9 @@ fn share_from(
     let room = amounts.len();
     let n = members(source, weights, performances);
     match test_share(source, total, weights, performances, room) {
-        Tested::Ready(sum, left) => {
+        Tested::Ready(sum) => {
             clear(amounts, n);
-            place(source, total, weights, performances, sum, left, amounts);
+            place(source, total, weights, performances, sum, amounts);
             Shared::Placed(0)
         }
         Tested::Weightless => {
@@ -99,7 +93,8 @@ fn share_from(
 }
 
 // The total over the weights: each member's amount is written, or refused is TooShort (12) where the amounts have less room than there are
-// weights, then WrongCount (5) where the total or the sum of the weights is over its limit, then LeftOvers (13). A refusal writes nothing.
+// weights, then WrongCount (5) where the total or the sum of the weights is over its limit. LeftOvers (13), the last of the definition's
+// refusals, is never met. A refusal writes nothing.
 pub fn share(total: u64, weights: &[u64], amounts: &mut [i64]) -> Shared
     ensures { λ r. ⌜ SharedOut credit total (now (weights .entry)) (now (amounts .entry)) r (now (amounts .exit)) ⌝ }
 {
@@ -136,8 +131,8 @@ fn place_side(
     ensures { λ r. ⌜ SidePlaced source total (weighed source (now (weights .entry)) (now (performances .entry))) (now (amounts .entry)) r (now (amounts .exit)) ⌝ }
 {
     match test {
-        Tested::Ready(sum, left) => {
-            place(source, total, weights, performances, sum, left, amounts);
+        Tested::Ready(sum) => {
+            place(source, total, weights, performances, sum, amounts);
             0
         }
         Tested::Weightless => total,

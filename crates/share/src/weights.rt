@@ -5,7 +5,7 @@ ghost use Prim.Native.Nat.{_<_, _^_};
 ghost use lib.ListN.{length};
 ghost use Rattle.integers.specs.Pairs.{gain, loss};
 ghost use Rattle.rules.specs.Share.{weight-at};
-ghost use Rattle.share.specs.Weighing.{weighed, signed, sum-of, weighty, limited};
+ghost use Rattle.share.specs.Weighing.{weighed, signed, sum-of, limited};
 
 pub(crate) const WEIGHT_LIMIT: u64 = 6_010_000_000_000_000_000;
 
@@ -86,21 +86,4 @@ pub(crate) fn sum_of(source: Source, weights: &[u64], performances: &[i64]) -> u
         i += 1;
     }
     sum
-}
-
-// How many members have weight.
-pub(crate) fn with_weight(source: Source, weights: &[u64], performances: &[i64]) -> u64
-    ensures { λ r. ⌜ r ≡ weighty (weighed source (now (weights .entry)) (now (performances .entry))) ⌝ }
-{
-    let n = members(source, weights, performances);
-    let mut found: u64 = 0;
-    let mut i: usize = 0;
-    while i < n {
-        let w = weight(source, weights, performances, i);
-        if 0 < w {
-            found += 1;
-        }
-        i += 1;
-    }
-    found
 }

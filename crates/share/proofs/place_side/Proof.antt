@@ -22,10 +22,10 @@ module _ (c : tie.After-test) where
   abbrev S : tie.Start
   S = c .before .before .before
 
-  ready : Ready (c .test .given .0 .0) (c .test .given .0 .1 .0) ≡ tested (S .args .total) (xs S) (length (old S))
+  ready : Ready (c .test .given .0 .0) ≡ tested (S .args .total) (xs S) (length (old S))
   ready = sym (c .test .given .1) ∙ S .pre .0
 
-  known : Passed (S .args .total) (xs S) (length (old S)) (c .test .given .0 .0) (c .test .given .0 .1 .0)
+  known : Passed (S .args .total) (xs S) (length (old S)) (c .test .given .0 .0)
   known = passed (S .args .total) (xs S) (length (old S)) ready
 
 enum-known-test : tie.Need-enum-known-test
@@ -34,7 +34,7 @@ enum-known-test c = search needs
 place-requires : tie.Need-place-requires
 place-requires c κs =
     let u = c .before .before in
-    (known u .shares, known u .roomy, known u .left-is, S u .pre .1)
+    (known u .shares, known u .roomy, S u .pre .1)
 
 enum-told : tie.Need-enum-told
 enum-told c = search needs
@@ -49,7 +49,7 @@ returns : tie.Need-returns
 returns c =
     let u = c .before .before .before .before in
     let s = S u in
-    side-met (s .args .source) (s .args .total) (xs s) (old s) (Ready (u .test .given .0 .0) (u .test .given .0 .1 .0)) (ready u) refl (c .before .place .ensures)
+    side-met (s .args .source) (s .args .total) (xs s) (old s) (Ready (u .test .given .0 .0)) (ready u) refl (c .before .place .ensures)
 
 returns-2 : tie.Need-returns-2
 returns-2 c =

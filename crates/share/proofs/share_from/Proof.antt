@@ -2,16 +2,14 @@
 -- in it is each member's share.
 use mathlib.Core.Path.{_≡_, refl, sym, _∙_, ap, subst}
 use mathlib.Core.List.{List}
-use Prim.Native.Nat.{ℕ, _≤_, _<_}
+use Prim.Native.Nat.{ℕ}
 use lib.IntN.{ℤ, pos}
 use lib.ListN.{length}
 use native.Mathlib.Omega.{arith}
 use borrow.Author.Needs.{needs}
 use Rattle.integers.specs.Fills.{filled, filled-length}
-use Rattle.share.specs.declared.weights.Source.{Source}
-use Rattle.share.specs.declared.Tested.{Tested}
 use Rattle.share.specs.declared.Tested.the-variants.{Ready, Weightless, Unfit}
-use Rattle.share.specs.Weighing.{weighed, signed, Shares, left-of}
+use Rattle.share.specs.Weighing.{weighed, signed}
 use Rattle.share.specs.Column.{placed, Clear, clear-column, all-placed, nothing-placed}
 use Rattle.share.specs.Promises.{tested, Passed, passed, weightless, met}
 use Rattle.share.proofs.share_from.Statement.{statement}
@@ -31,10 +29,10 @@ module _ (c : tie.After-sum) where
   abbrev test : tie.After-test-share
   test = c .before .before
 
-  ready : Ready (c .sum .given .0 .0) (c .sum .given .0 .1 .0) ≡ tested (S test .args .total) (xs (S test)) (length (old (S test)))
+  ready : Ready (c .sum .given .0 .0) ≡ tested (S test .args .total) (xs (S test)) (length (old (S test)))
   ready = sym (c .sum .given .1) ∙ test .test-share .ensures
 
-  known : Passed (S test .args .total) (xs (S test)) (length (old (S test))) (c .sum .given .0 .0) (c .sum .given .0 .1 .0)
+  known : Passed (S test .args .total) (xs (S test)) (length (old (S test))) (c .sum .given .0 .0)
   known = passed (S test .args .total) (xs (S test)) (length (old (S test))) ready
 
 module _ (c : tie.After-enum-told) where
@@ -71,7 +69,6 @@ place-requires c κs =
     let s = S (test u) in (
       known u .shares,
       omega (arith, ap length (cleared k), filled-length (length (xs s)) (λ i. pos 0) (old s), known u .roomy),
-      known u .left-is,
       subst (λ (z : List ℤ). Clear z (length (xs s))) (sym (cleared k)) (clear-column (s .args .source) (s .args .total) (xs s) (old s) (known u .roomy)),
     )
 
@@ -95,7 +92,7 @@ returns c =
     let k = c .before .before .before .before in
     let u = k .before .before .before in
     let s = S (test u) in
-    met (signed (s .args .source)) (s .args .total) (xs s) (old s) (Ready (u .sum .given .0 .0) (u .sum .given .0 .1 .0)) (ready u) refl (c .before .place .ensures ∙ ap (λ (z : List ℤ). filled (length (xs s)) (placed (s .args .source) (s .args .total) (xs s) z) z) (cleared k) ∙ all-placed (s .args .source) (s .args .total) (xs s) (old s) (known u .roomy))
+    met (signed (s .args .source)) (s .args .total) (xs s) (old s) (Ready (u .sum .given .0 .0)) (ready u) refl (c .before .place .ensures ∙ ap (λ (z : List ℤ). filled (length (xs s)) (placed (s .args .source) (s .args .total) (xs s) z) z) (cleared k) ∙ all-placed (s .args .source) (s .args .total) (xs s) (old s) (known u .roomy))
 
 same-length-2 : tie.Need-same-length-2
 same-length-2 c = search needs

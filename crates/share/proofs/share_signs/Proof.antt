@@ -32,7 +32,7 @@ abbrev others : List ℕ
 others = 0 ∷ 1 ∷ []
 
 fitted : (T : ℕ) (xs : List ℕ) (room : ℕ) (t : Tested) → OneOf others (tagOf the-type t) → t ≡ tested T xs room → Fitted T xs room
-fitted T xs room (Ready W left) k e =
+fitted T xs room (Ready W) k e =
     record { roomy = passed T xs room e .roomy; unplaced = 0; told = tests-tell T xs room ∙ ap (found T) (sym e) }
 fitted T xs room Weightless k e =
     record { roomy = weightless T xs room e .0; unplaced = T; told = tests-tell T xs room ∙ ap (found T) (sym e) }

@@ -1,11 +1,10 @@
 -- `helpful_part` meets its contract: a number above zero is its own size.
-use mathlib.Core.Path.{_≡_, sym}
-use Prim.Native.Nat.{ℕ}
+use mathlib.Core.Path.{sym}
 use lib.IntN.{pos}
 use lib.Signed.{_≤ℤ_, _<ℤ_}
 use mir.Facts.{toZ-ofZ}
 use native.Mathlib.Omega.{arith}
-use Rattle.integers.specs.Pairs.{gain, lt-in, le-out}
+use Rattle.integers.specs.Pairs.{lt-in, le-out}
 use Rattle.integers.specs.Tests.{ltZ-true, ltZ-false}
 use Rattle.integers.specs.Casts.{to-unsigned, gain-pos, no-gain}
 use Rattle.share.proofs.weights.helpful_part.Statement.{statement}

@@ -1,5 +1,5 @@
 -- `members` meets its contract: each side has as many weights as there are performances.
-use mathlib.Core.Path.{_≡_, sym}
+use mathlib.Core.Path.{sym}
 use lib.ListN.{length-map}
 use borrow.Author.Needs.{needs}
 use Rattle.integers.specs.Pairs.{gain, loss}
