@@ -1,0 +1,3 @@
+-- What the lines promise, and how a line is put together
+pub mod Pieces
+pub mod Lines
