@@ -1,0 +1,67 @@
+// Whether lent numbers are at most so much either way. No number ends the loop early, and the test of one is sums and shifts, so that two are tested
+// at once where the machine compares no 64-bit numbers by twos.
+ghost use mathlib.Core.Path.{_≡_};
+ghost use Prim.Native.Nat.{_<_, _≤_, _^_};
+ghost use lib.Dec.{eqb};
+ghost use lib.ListN.{length};
+ghost use mir.Syntax.{w64};
+ghost use mir.Val.{ofZ};
+ghost use Rattle.rules.specs.Fields.{sized};
+ghost use Rattle.series.specs.Replies.{all-sized};
+ghost use Rattle.series.specs.Range.{in-limit};
+use super::POINTS;
+
+const MOST_BITS: u64 = 0xffff_ffff_ffff_ffff;
+
+const SIGN_BIT: u64 = 0x8000_0000_0000_0000;
+
+// No lent number's limit is as large.
+const MOST_LIMIT: u64 = 0x100_0000_0000;
+
+// The 64 bits of a number, as the machine has them: this compiles to nothing.
+fn bits(x: i64) -> u64
+    ensures { λ r. ⌜ r ≡ ofZ w64 x ⌝ }
+{
+    if x < 0 {
+        return MOST_BITS - (-(x + 1)) as u64;
+    }
+    x as u64
+}
+
+// 0 where a number is at most so much either way: neither limit + x nor limit - x has the sign bit.
+fn outside(limit: u64, x: i64) -> u64
+    requires { ⌜ limit < 2 ^ 40 ⌝ }
+    ensures { λ r. ⌜ (r ≤ 2) × (eqb r 0 ≡ sized limit x) ⌝ }
+{
+    let number = bits(x);
+    let above = std::num::wrapping_add_u64(limit, number);
+    let below = std::num::wrapping_sub_u64(limit, number);
+    above / SIGN_BIT + below / SIGN_BIT
+}
+
+// Is each of the first 75 numbers at most so much either way?
+pub(super) fn each_within(limit: u64, numbers: &[i64]) -> bool
+    requires { ⌜ (limit < 2 ^ 40) × (75 ≤ length (now numbers)) ⌝ }
+    ensures { λ r. ⌜ r ≡ all-sized limit (now (numbers .entry)) ⌝ }
+{
+    let mut many: u64 = 0;
+    let mut t: usize = 0;
+    while t < POINTS {
+        many += outside(limit, numbers[t]);
+        t += 1;
+    }
+    many == 0
+}
+
+// The same of a list of any length and of any limit: fewer than 75 numbers are not, nor are any of a limit beyond every lent number's.
+pub fn within_limit(limit: u64, numbers: &[i64]) -> bool
+    ensures { λ r. ⌜ r ≡ in-limit limit (now (numbers .entry)) ⌝ }
+{
+    if numbers.len() < POINTS {
+        return false;
+    }
+    if MOST_LIMIT <= limit {
+        return false;
+    }
+    each_within(limit, numbers)
+}
