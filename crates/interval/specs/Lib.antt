@@ -9,13 +9,3 @@ pub mod Frequency
 pub mod FrequencyLaws
 pub mod UnitLaws
 pub mod UnitAnswer
-pub mod ChainLaws
-pub mod Taken
-pub mod Chain
-pub mod ChainSteps
-pub mod ChainTheorem
-pub mod ChainValues
-pub mod Honest
-pub mod BookRecords
-pub mod BookChain
-pub mod BookEnd

@@ -21,16 +21,16 @@ use Rattle.rules.specs.Contents.{Counts, contents}
 use Rattle.rules.specs.UnitRecord.{unit-in}
 use Rattle.rules.specs.RequirementRecord.{requirement-in}
 use Rattle.rules.specs.LimitsLaws.{unit-fits}
 use Rattle.interval.specs.declared.Tally.{Tally}
 use Rattle.interval.specs.declared.Opened as o
 use Rattle.interval.specs.declared.Step.{Step}
 use Rattle.interval.specs.Tally.{settings-of, before-units, book-end, next-region, units-taken}
 use Rattle.interval.specs.Calls.{fresh, opened, settled, counted, unit-counted, settings-reply, frequency-reply, unit-reply, requirement-reply}
 use Rattle.interval.specs.Promises.{ContentsPromise, SettingsPromise, RequirementPromise}
-use Rattle.interval.specs.ChainLaws.{latest}
-use Rattle.interval.specs.Taken.{counts-in, contents-is, settings-is, region-is, unit-is, requirement-is, step-taken, step-refused, settings-passed, frequency-passed, unit-passed, requirement-passed}
-use Rattle.interval.specs.Chain.{Lent, FrequencyCall, UnitCall, Taken, Refused, Chain, begun, took-settings, took-frequency, took-unit, took-requirement, refused-settings, refused-frequency, refused-unit, refused-requirement, regions-among, units-among, Room, the-settings, region, least-at, RecordTaken, Leaves, Means}
-use Rattle.interval.specs.ChainSteps.{frequency-leaves, unit-leaves}
+use Rattle.chain.specs.ChainLaws.{latest}
+use Rattle.chain.specs.Taken.{counts-in, contents-is, settings-is, region-is, unit-is, requirement-is, step-taken, step-refused, settings-passed, frequency-passed, unit-passed, requirement-passed}
+use Rattle.chain.specs.Chain.{Lent, FrequencyCall, UnitCall, Taken, Refused, Chain, begun, took-settings, took-frequency, took-unit, took-requirement, refused-settings, refused-frequency, refused-unit, refused-requirement, regions-among, units-among, Room, the-settings, region, least-at, RecordTaken, Leaves, Means}
+use Rattle.chain.specs.ChainSteps.{frequency-leaves, unit-leaves}
 
 -- ---- refused calls leave everything as it came
 lent-of : List ℕ → List ℤ → List ℤ → List ℤ → List ℤ → List ℤ → List ℤ → List ℕ → List ℕ → List ℤ → List ℤ → List ℤ → Lent

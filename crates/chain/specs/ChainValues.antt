@@ -17,13 +17,13 @@ use Rattle.rules.specs.Book.{Settings, Unit}
 use Rattle.rules.specs.Measure.{measure}
 use Rattle.rules.specs.Deviation.{deviation, good, units-in, good-units}
 use Rattle.rules.specs.Performance.{wanted, performance}
 use Rattle.interval.specs.declared.Tally.{Tally}
 use Rattle.interval.specs.Tally.{settings-of, before-units, units-taken}
 use Rattle.interval.specs.Lent.{series-start, figures-each, figures-of, place-of, six}
-use Rattle.interval.specs.ChainLaws.{adds, listed-length, listed-total}
-use Rattle.interval.specs.Taken.{counts-in, contents-is}
-use Rattle.interval.specs.Chain.{Lent, Chain, Means, regions-among, units-among, the-settings, region, unit, measure-at, sum-at, performance-of, figure-at, default-at}
-use Rattle.interval.specs.ChainTheorem.{chain, same-lent}
+use Rattle.chain.specs.ChainLaws.{adds, listed-length, listed-total}
+use Rattle.chain.specs.Taken.{counts-in, contents-is}
+use Rattle.chain.specs.Chain.{Lent, Chain, Means, regions-among, units-among, the-settings, region, unit, measure-at, sum-at, performance-of, figure-at, default-at}
+use Rattle.chain.specs.ChainTheorem.{chain, same-lent}
 
 -- ---- a sum is over all good units of its region
 module _ (part : ℕ → List ℕ) where

@@ -15,13 +15,13 @@ use Rattle.rules.specs.FrequencyRecord.{region-in, frequency-record}
 use Rattle.rules.specs.UnitRecord.{unit-in, unit-record}
 use Rattle.rules.specs.RequirementRecord.{requirement-in, requirement-record}
 use Rattle.rules.specs.WholeBook.{frequency-body, unit-body, requirement-body, book}
 use Rattle.interval.specs.declared.Tally.{Tally}
 use Rattle.interval.specs.Tally.{before-units}
-use Rattle.interval.specs.Taken.{counts-in}
-use Rattle.interval.specs.Chain.{Lent, Chain, Means}
-use Rattle.interval.specs.ChainTheorem.{chain, unit-number, requirement-number}
-use Rattle.interval.specs.BookRecords.{part-of, settings-part, frequency-part, unit-part, requirement-part, drop-step, least-from, least-first, least-later, least-any, unit-least-at, requirement-least-at, same-test}
-use Rattle.interval.specs.BookChain.{BookMeans, book-means}
+use Rattle.chain.specs.Taken.{counts-in}
+use Rattle.chain.specs.Chain.{Lent, Chain, Means}
+use Rattle.chain.specs.ChainTheorem.{chain, unit-number, requirement-number}
+use Rattle.chain.specs.BookRecords.{part-of, settings-part, frequency-part, unit-part, requirement-part, drop-step, least-from, least-first, least-later, least-any, unit-least-at, requirement-least-at, same-test}
+use Rattle.chain.specs.BookChain.{BookMeans, book-means}
 
 -- ---- a body whose records are taken is taken
 frequencies-all : (n r : ℕ) (bs : List ℕ) → ((i : ℕ) → i < n → frequency-record (r + i) (drop (frequency-size * i) bs) ≡ taken (region-in (drop (frequency-size * i) bs))) → (rs : List Region) × (frequency-body n r bs ≡ taken rs)

@@ -30,15 +30,15 @@ use Rattle.rules.specs.Deviation.{deviation, good}
 use Rattle.rules.specs.DeviationLaws.{deviation-within}
 use Rattle.rules.specs.Performance.{wanted}
 use Rattle.rules.specs.PerformanceLaws.{wanted-within}
 use Rattle.interval.specs.declared.Tally.{Tally}
 use Rattle.interval.specs.Tally.{before-units, units-end, book-end, units-taken, in-range, settings-kept}
 use Rattle.interval.specs.Lent.{series-start, series-length, figures-length, region-sized, series-in-range}
 use Rattle.interval.specs.Calls.{settings-reply, frequency-reply, unit-reply, requirement-reply}
-use Rattle.interval.specs.ChainLaws.{or-true, adds, latest-length}
-use Rattle.interval.specs.Taken.{counts-in, CountsFit, contents-is, settings-is}
-use Rattle.interval.specs.Chain.{Lent, Chain, Means, regions-among, units-among, the-settings, region, unit, least-at, sum-at}
-use Rattle.interval.specs.ChainTheorem.{chain}
-use Rattle.interval.specs.ChainValues.{series-at, measures-are}
+use Rattle.chain.specs.ChainLaws.{or-true, adds, latest-length}
+use Rattle.chain.specs.Taken.{counts-in, CountsFit, contents-is, settings-is}
+use Rattle.chain.specs.Chain.{Lent, Chain, Means, regions-among, units-among, the-settings, region, unit, least-at, sum-at}
+use Rattle.chain.specs.ChainTheorem.{chain}
+use Rattle.chain.specs.ChainValues.{series-at, measures-are}
 
 -- ---- sizes
 adds-within : (d : Direction) (u : Unit) (j : ℕ) → UnitFits u → Within deviation-limit (adds d u j)

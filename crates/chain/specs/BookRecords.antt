@@ -22,11 +22,11 @@ use Rattle.rules.specs.UnitRecord.{unit-in, unit-record}
 use Rattle.rules.specs.RequirementRecord.{requirement-in, requirement-record}
 use Rattle.rules.specs.WholeBook.{frequency-body, unit-body, requirement-body, book}
 use Rattle.rules.specs.LimitsLaws.{took, went-on}
 use Rattle.interval.specs.Tally.{before-units}
-use Rattle.interval.specs.ChainLaws.{or-true, listed-shift, listed-ext}
-use Rattle.interval.specs.Taken.{counts-in, contents-is, settings-is, region-is, unit-is, requirement-is}
-use Rattle.interval.specs.Chain.{least-at, RecordTaken}
-use Rattle.interval.specs.ChainTheorem.{unit-number, requirement-number}
+use Rattle.chain.specs.ChainLaws.{or-true, listed-shift, listed-ext}
+use Rattle.chain.specs.Taken.{counts-in, contents-is, settings-is, region-is, unit-is, requirement-is}
+use Rattle.chain.specs.Chain.{least-at, RecordTaken}
+use Rattle.chain.specs.ChainTheorem.{unit-number, requirement-number}
 
 -- ---- where record m starts, and the part of the book that is handed on for it
 unfoldable pub record-start : ℕ → ℕ → ℕ

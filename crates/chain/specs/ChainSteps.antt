@@ -15,13 +15,13 @@ use Rattle.rules.specs.Refusals.{taken}
 use Rattle.rules.specs.Measure.{measure}
 use Rattle.rules.specs.Deviation.{deviation}
 use Rattle.rules.specs.Performance.{performance}
 use Rattle.interval.specs.declared.Tally.{Tally}
 use Rattle.interval.specs.declared.Step.{Step}
 use Rattle.interval.specs.Tally.{settings-of, next-region, units-taken}
 use Rattle.interval.specs.Lent.{series-start, series-length, figures-each, figures-of, place-of, six}
 use Rattle.interval.specs.Calls.{frequency-reply, unit-reply}
-use Rattle.interval.specs.ChainLaws.{block-next, summed-adds, adds, latest-next, performance-same}
-use Rattle.interval.specs.Chain.{Lent, FrequencyCall, UnitCall, the-settings, region, unit, measure-at, sum-at, performance-of, figure-at, default-at, Leaves}
+use Rattle.chain.specs.ChainLaws.{block-next, summed-adds, adds, latest-next, performance-same}
+use Rattle.chain.specs.Chain.{Lent, FrequencyCall, UnitCall, the-settings, region, unit, measure-at, sum-at, performance-of, figure-at, default-at, Leaves}
 
 -- ---- a frequency record
 module _ (part : ℕ → List ℕ) (l₀ : Lent) where

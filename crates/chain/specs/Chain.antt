@@ -25,15 +25,15 @@ use Rattle.rules.specs.RequirementRecord.{requirement-in, requirement-record}
 use Rattle.rules.specs.Measure.{measure}
 use Rattle.rules.specs.Deviation.{deviation}
 use Rattle.rules.specs.Performance.{performance}
 use Rattle.interval.specs.declared.Tally.{Tally}
 use Rattle.interval.specs.declared.Opened as o
 use Rattle.interval.specs.declared.Taking as k
 use Rattle.interval.specs.declared.Step.{Step}
 use Rattle.interval.specs.Tally.{settings-of, before-units}
 use Rattle.interval.specs.Lent.{series-length, figures-each, figures-length, figures-of, place-of, six}
 use Rattle.interval.specs.Promises.{ContentsPromise, SettingsPromise, FrequencyPromise, UnitPromise, RequirementPromise}
-use Rattle.interval.specs.ChainLaws.{adds, latest}
-use Rattle.interval.specs.Taken.{counts-in}
+use Rattle.chain.specs.ChainLaws.{adds, latest}
+use Rattle.chain.specs.Taken.{counts-in}
 
 -- ---- the lent lists, and a call that is lent some of them: the others stay
 pub record Lent : Type 0 where

@@ -26,18 +26,18 @@ use Rattle.rules.specs.LimitsLaws.{unit-fits}
 use Rattle.rules.specs.Measure.{measure, measure-in}
 use Rattle.rules.specs.Deviation.{deviation, good-units, units-in}
 use Rattle.rules.specs.Performance.{wanted, performance, units-of, unit-performance}
 use Rattle.interval.specs.declared.Tally.{Tally}
 use Rattle.interval.specs.Tally.{settings-of, before-units, book-end, next-region, units-taken}
 use Rattle.interval.specs.Lent.{placed, series-start, figures-each, figures-of, place-of, six, summed}
 use Rattle.interval.specs.Calls.{fresh, opened, stepped, left, settled, counted, unit-counted, settings-reply, frequency-reply, unit-reply, requirement-reply}
 use Rattle.interval.specs.Promises.{SettingsPromise, RequirementPromise}
-use Rattle.interval.specs.ChainLaws.{listed-ext, listed-length}
-use Rattle.interval.specs.Taken.{counts-in, settings-is}
-use Rattle.interval.specs.Chain.{Lent, FrequencyCall, UnitCall, Chain, begun, took-settings, took-frequency, took-unit, took-requirement, RecordTaken, Means, regions-among, units-among, the-settings, region, unit}
-use Rattle.interval.specs.ChainTheorem.{chain}
-use Rattle.interval.specs.ChainValues.{measures-are, positive-are, negative-are, figures-are, numbers-are, places-are, raise-are, lower-are, defaults-are}
-use Rattle.interval.specs.Honest.{Enough, honest-settings, honest-frequency, honest-unit, honest-requirement}
-use Rattle.interval.specs.BookRecords.{part-of, record-start, settings-part, frequency-part, unit-part, Read, book-read, book-records, frequencies-each, units-each, requirements-each}
+use Rattle.chain.specs.ChainLaws.{listed-ext, listed-length}
+use Rattle.chain.specs.Taken.{counts-in, settings-is}
+use Rattle.chain.specs.Chain.{Lent, FrequencyCall, UnitCall, Chain, begun, took-settings, took-frequency, took-unit, took-requirement, RecordTaken, Means, regions-among, units-among, the-settings, region, unit}
+use Rattle.chain.specs.ChainTheorem.{chain}
+use Rattle.chain.specs.ChainValues.{measures-are, positive-are, negative-are, figures-are, numbers-are, places-are, raise-are, lower-are, defaults-are}
+use Rattle.chain.specs.Honest.{Enough, honest-settings, honest-frequency, honest-unit, honest-requirement}
+use Rattle.chain.specs.BookRecords.{part-of, record-start, settings-part, frequency-part, unit-part, Read, book-read, book-records, frequencies-each, units-each, requirements-each}
 
 -- ---- what a call leaves of the lent lists, said as one value
 frequency-lent : Tally → List ℕ → Lent → Lent
