@@ -5,7 +5,3 @@ pub mod Lent
 pub mod LentLaws
 pub mod Calls
 pub mod Promises
-pub mod Frequency
-pub mod FrequencyLaws
-pub mod UnitLaws
-pub mod UnitAnswer
