@@ -1,6 +1,6 @@
--- READY: where a chain over the parts of a book that the format takes has ended, all is there for the answers. The tally is in range with all units in, the lent
--- lists are long enough and in range, and each requirement's record, read again at its place, is that requirement of the book.
-use mathlib.Core.Path.{_≡_, sym, _∙_, ap}
+-- READY: once a chain over the parts of a book that the format takes has all units in, all is there for the answers, and stays so to the book's end. The tally is
+-- in range, the lent lists are long enough and in range, and each requirement's record, read again at its place, is that requirement of the book.
+use mathlib.Core.Path.{_≡_, sym, _∙_, ap, subst}
 use mathlib.Core.Bool.{Bool, true, false, not, _&&_, _||_}
 use mathlib.Core.List.{List}
 use Prim.Native.Nat.{ℕ, _+_, _*_, _-_, _≤_, _<_}
@@ -12,10 +12,11 @@ use borrow.Author.Tests.{le-leb}
 use Rattle.integers.specs.Sums.{both}
 use Rattle.integers.specs.Fills.{filled-length}
 use Rattle.rules.specs.declared.Refusal.the-variants.{EndsEarly, BytesFollow, RequirementField}
+use Rattle.rules.specs.Quantities.{regions}
 use Rattle.rules.specs.Bytes.{number-at}
 use Rattle.rules.specs.BytesLaws.{listed-from-zero}
 use Rattle.rules.specs.Refusals.{taken}
-use Rattle.rules.specs.Book.{Requirement, Book}
+use Rattle.rules.specs.Book.{Settings, Requirement, Book}
 use Rattle.rules.specs.Contents.{requirement-start, requirement-size}
 use Rattle.rules.specs.RequirementRecord.{requirement-in, requirement-fine, requirement-record}
 use Rattle.rules.specs.WholeBook.{requirement-body, book}
@@ -26,7 +27,7 @@ use Rattle.interval.specs.Tally.{before-units, units-end, in-range}
 use Rattle.interval.specs.Lent.{series-length, figures-length}
 use Rattle.chain.specs.ChainLaws.{listed-length}
 use Rattle.chain.specs.Taken.{counts-in}
-use Rattle.chain.specs.Chain.{Lent, Chain, Means, regions-among, units-among}
+use Rattle.chain.specs.Chain.{Lent, Chain, Leaves, Means, regions-among, units-among}
 use Rattle.chain.specs.ChainTheorem.{chain}
 use Rattle.chain.specs.Honest.{Enough, chain-in-range}
 use Rattle.chain.specs.BookRecords.{record-start, part-of, requirement-part, requirements-each, book-read}
@@ -95,6 +96,36 @@ pub record Ready (bs : List ℕ) (b : Book) (t : Tally) (l : Lent) : Type 0 wher
   pub records : (i : ℕ) (z : Requirement) → i < length (b .requirements) → requirement-record 0 false (requirement-at bs i) ≡ taken (getD (b .requirements) i z)
   pub answers : (q : Requirement) → kept-answer (kept-of t l) q ≡ answer b q
 
+-- two chains over the same parts that have all units in keep the same
+module _ {head : List ℕ} (part : ℕ → List ℕ) (l₀ : Lent) {n n′ : ℕ} {t t′ : Tally} {l l′ : Lent} (h : before-units + counts-in head .units ≤ n) (h′ : before-units + counts-in head .units ≤ n′) (w : Means head part l₀ n t l) (w′ : Means head part l₀ n′ t′ l′) where
+  kept-same : kept-of t l ≡ kept-of t′ l′
+  kept-same =
+      let a = all-left n h (w .lent) in
+      let b = all-left n′ h′ (w′ .lent) in
+      let percent = ap (λ (s : Settings). s .percent) (w .kept (omega arith) ∙ sym (w′ .kept (omega arith))) in
+      rw (
+        percent,
+        w .units ∙ sym (w′ .units),
+        a .measures ∙ sym (b .measures),
+        a .positive ∙ sym (b .positive),
+        a .negative ∙ sym (b .negative),
+        a .figures ∙ sym (b .figures),
+        a .numbers ∙ sym (b .numbers),
+        a .places ∙ sym (b .places),
+        a .raise ∙ sym (b .raise),
+        a .lower ∙ sym (b .lower),
+        a .defaults ∙ sym (b .defaults),
+      )
+    where
+      all-regions : (u n : ℕ) → before-units + u ≤ n → regions-among n ≡ regions
+      all-regions u n h = omega arith
+
+      all-units : (u n : ℕ) → before-units + u ≤ n → units-among u n ≡ u
+      all-units u n h = omega arith
+
+      all-left : {l : Lent} (n : ℕ) → before-units + counts-in head .units ≤ n → Leaves part l₀ (regions-among n) (units-among (counts-in head .units) n) l → Leaves part l₀ regions (counts-in head .units) l
+      all-left n h x = rw (all-regions (counts-in head .units) n h, all-units (counts-in head .units) n h) at x
+
 module _ (bs : List ℕ) (b : Book) (e : book bs ≡ taken b) (l₀ : Lent) (bytes : (i : ℕ) → getD bs i 0 < 256) where
   part-bytes : (m i : ℕ) → getD (part-of bs m) i 0 < 256
   unfolding part-of
@@ -145,8 +176,27 @@ module _ (bs : List ℕ) (b : Book) (e : book bs ≡ taken b) (l₀ : Lent) (byt
           answers = chain-answers bs b e l₀ d;
         }
 
-  -- and with room enough one comes there
-  pub book-ready : Enough l₀ (counts-in bs .units) → (t : Tally) × (l : Lent) × Chain bs (part-of bs) l₀ (before-units + counts-in bs .units + counts-in bs .requirements) t l × Ready bs b t l
-  book-ready enough =
-      let c = book-chain bs b e l₀ enough bytes in
-      (c .0, c .1, c .2, chain-ready (c .2))
+  module _ (enough : Enough l₀ (counts-in bs .units)) where
+    -- with room enough one comes there
+    pub book-ready : (t : Tally) × (l : Lent) × Chain bs (part-of bs) l₀ (before-units + counts-in bs .units + counts-in bs .requirements) t l × Ready bs b t l
+    book-ready =
+        let c = book-chain bs b e l₀ enough bytes in
+        (c .0, c .1, c .2, chain-ready (c .2))
+
+    -- and all is there as soon as the last unit is in: from then on what is kept stays as it is
+    pub units-ready : {n : ℕ} {t : Tally} {l : Lent} → before-units + counts-in bs .units ≤ n → Chain bs (part-of bs) l₀ n t l → Ready bs b t l
+    units-ready {n} {t} {l} h d =
+        let r = book-ready in
+        let w = chain bs (part-of bs) l₀ d in
+        let w′ = chain bs (part-of bs) l₀ (r .2) in
+        let same = kept-same (part-of bs) l₀ h (omega arith) w w′ in
+        record {
+          tally = chain-in-range bs (part-of bs) l₀ d (λ m i _. part-bytes m i);
+          turn = omega (arith, w .records, w .units);
+          units = ap (λ (k : Kept). k .units) same ∙ r .3 .units;
+          requirements = w .requirements ∙ sym (w′ .requirements) ∙ r .3 .requirements;
+          room = subst KeptRoom (sym same) (r .3 .room);
+          fine = ap (λ (k : Kept). kept-fine k) same ∙ r .3 .fine;
+          records = r .3 .records;
+          answers = λ q. ap (λ (k : Kept). kept-answer k q) same ∙ r .3 .answers q;
+        }
