@@ -111,7 +111,7 @@ returns-6 c =
     let a = E (d .before .before .before) .args in
     let e = reliable-told (d .before) ∙ not-false _ (d .if4 .left) in
     let f = few-told (b .before) ∙ not-false _ (b .if5 .left) in
-    passed-reply (passed (d .before .before)) (a .direction) _ true (c .largest-response .ensures ∙ rcr-of-points (a .units) (a .percent) (a .direction) (a .set) (a .measures .now) (a .positive .now) (a .negative .now) (a .figures .now) (a .places .now) e f) (sym e)
+    passed-reply (passed (d .before .before)) (a .direction) _ true (rcr-of-points (a .units) (a .percent) (a .direction) (a .set) (a .measures .now) (a .positive .now) (a .negative .now) (a .figures .now) (a .places .now) (c .largest-response .ensures) e f) (sym e)
 
 pub rcr-spec : {M : Type 1} → statement M
 rcr-spec =
