@@ -2,10 +2,10 @@
 use mathlib.Core.Path.{_≡_, refl, sym, _∙_, ap, ap₂}
 use mathlib.Core.Bool.{Bool, true, false, cond, not, _&&_, _||_}
 use mathlib.Core.List.{List, []}
-use Prim.Native.Nat.{ℕ, zero, suc, _+_, _*_, _/_, _%_, _≤_, _<_, _^_, max}
+use Prim.Native.Nat.{ℕ, zero, suc, _+_, _*_, _/_, _%_, _≤_, _<_, max}
 use native.Mathlib.Omega.{arith}
 use lib.Bits.{bitAnd, and-mask}
-use lib.Dec.{T, eqb, leb, ltb}
+use lib.Dec.{eqb, leb, ltb}
 use lib.IntN.{ℤ, pos, negsuc, negℤ, natAbs, _+ℤ_, _*ℤ_}
 use lib.ListN.{length, getD}
 use lib.Signed.{ltZ, leZ}
@@ -13,20 +13,19 @@ use mir.Syntax.{w64}
 use mir.Val.{SFits}
 use borrow.Author.Tests.{leb-true, leb-false, le-leb, lt-leb, ltb-true, ltb-false, lt-ltb, le-ltb}
 use Rattle.integers.specs.Bounds.{Within, within-natural, within-product, within-wider, fits-within, fits-wider}
-use Rattle.integers.specs.Casts.{size-pos}
 use Rattle.integers.specs.Pairs.{gain, loss, v, neg, le! }
 use Rattle.integers.specs.Tests.{le-leZ}
-use Rattle.integers.specs.Sums.{sum, sumℕ, count, every, largest, when, both, every-at, sum-step, sum-within, sumℕ-term, sumℕ-prefix}
+use Rattle.integers.specs.Sums.{sum, sumℕ, count, every, largest, when, both, every-at, sum-step, sum-within, sumℕ-term}
 use Rattle.rules.specs.declared.Direction.{Direction}
 use Rattle.rules.specs.declared.Direction.the-variants.{Raise, Lower}
-use Rattle.rules.specs.Quantities.{points, regions, most-units, measure-limit, amount-limit, deviation-limit, residual-default-limit}
+use Rattle.rules.specs.Quantities.{points, regions, measure-limit, amount-limit, deviation-limit, residual-default-limit}
 use Rattle.rules.specs.Bytes.{bit}
 use Rattle.rules.specs.Book.{toward}
 use Rattle.rules.specs.Fields.{sized, default-fine}
 use Rattle.rules.specs.RequirementRecord.{set-fine}
 use Rattle.rules.specs.LimitsLaws.{size-fits}
-use Rattle.interval.specs.Lent.{series-start, series-length, figures-each, figures-length}
-use Rattle.kept.specs.Kept.{Kept, kept-rcr, kept-reliable, kept-few-bad, kept-weighed, kept-response}
+use Rattle.interval.specs.Lent.{series-start, figures-each}
+use Rattle.kept.specs.Kept.{Kept, kept-rcr, kept-reliable, kept-few-bad}
 use Rattle.kept.specs.Range.{series-fine, figures-fine}
 use Rattle.response.specs.declared.points.Sums.{Sums}
 use Rattle.response.specs.declared.units.Units.{Units}

@@ -27,6 +27,7 @@ const LEAST_DEFAULT: i64 = -50_000_000_000_000_000;
 
 const PLACES: u8 = 10;
 
+// Is a number from `low` to `high`?
 fn between(low: i64, high: i64, x: i64) -> bool
     ensures { λ r. ⌜ r ≡ (leZ low x && leZ x high) ⌝ }
 {

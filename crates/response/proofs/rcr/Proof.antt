@@ -1,7 +1,6 @@
 -- The early returns are the tests of `rcr-reply` in their order; past them the answer is told by reliability, bad units and the points.
 use mathlib.Core.Path.{_≡_, sym, _∙_}
 use mathlib.Core.Bool.{true, false, _&&_}
-use native.Mathlib.Omega.{arith}
 use borrow.Author.Needs.{needs}
 use borrow.Author.Tests.{not-true, not-false}
 use lib.Dec.{leb}
