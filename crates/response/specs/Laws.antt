@@ -15,22 +15,23 @@ use borrow.Author.Tests.{leb-true, leb-false, le-leb, lt-leb, ltb-true, ltb-fals
 use Rattle.integers.specs.Bounds.{Within, within-natural, within-product, within-wider, fits-within, fits-wider}
 use Rattle.integers.specs.Pairs.{gain, loss, v, neg, le! }
 use Rattle.integers.specs.Tests.{le-leZ}
-use Rattle.integers.specs.Sums.{sum, sumℕ, count, every, largest, when, both, every-at, sum-step, sum-within, sumℕ-term}
+use Rattle.integers.specs.Sums.{sum, sumℕ, count, every, largest, when, both, every-at, every-all, sum-step, sum-within, sumℕ-term}
 use Rattle.rules.specs.declared.Direction.{Direction}
 use Rattle.rules.specs.declared.Direction.the-variants.{Raise, Lower}
 use Rattle.rules.specs.Quantities.{points, regions, measure-limit, amount-limit, deviation-limit, residual-default-limit}
 use Rattle.rules.specs.Bytes.{bit}
-use Rattle.rules.specs.Book.{toward}
+use Rattle.rules.specs.Refusals.{taken}
+use Rattle.rules.specs.Book.{toward, Requirement}
 use Rattle.rules.specs.Fields.{sized, default-fine}
 use Rattle.rules.specs.RequirementRecord.{set-fine}
 use Rattle.rules.specs.LimitsLaws.{size-fits}
 use Rattle.interval.specs.Lent.{series-start, figures-each}
 use Rattle.kept.specs.Kept.{Kept, kept-rcr, kept-reliable, kept-few-bad}
-use Rattle.kept.specs.Range.{series-fine, figures-fine}
+use Rattle.kept.specs.Range.{series-fine, figures-fine, rows-fine, kept-fine}
 use Rattle.response.specs.declared.points.Sums.{Sums}
 use Rattle.response.specs.declared.units.Units.{Units}
 use Rattle.response.specs.declared.Response.the-variants.{Is}
-use Rattle.response.specs.Promises.{lent, asked, room, lent-fine, places-fine, rcr-reply, RcrPromise}
+use Rattle.response.specs.Promises.{lent, asked, room, lent-fine, places-fine, fields-fine, lists-long, rcr-reply, RcrPromise}
 
 -- ---- the five regions at a point
 abbrev pub there : List ℤ → ℕ → ℕ → ℤ
@@ -312,3 +313,20 @@ module _ (units percent : ℕ) (d : Direction) (set : ℕ) (ms ps ns gs : List �
   pub rcr-of-points : {n : ℕ} → n ≡ points-largest d set ms ps ns gs → kept-reliable (lent units percent ms ps ns gs qs) (asked d set) ≡ true → kept-few-bad (lent units percent ms ps ns gs qs) (asked d set) ≡ true → n ≡ kept-rcr (lent units percent ms ps ns gs qs) (asked d set)
   unfolding kept-rcr
   rcr-of-points g e f = rw (e, f) g
+
+-- ---- of lists that the calls have kept in range RCR is told
+module _ (k : Kept) (fine : kept-fine k ≡ true) where
+  rows-places : rows-fine k ≡ true → places-fine (k .units) (k .places) ≡ true
+  unfolding rows-fine places-fine
+  rows-places e = every-all (k .units) _ (λ i l. both (ltb (getD (k .places) i 0) (2 * regions)) _ (every-at (k .units) _ e i l) .0)
+
+  pub kept-lent-fine : lent-fine k ≡ true
+  unfolding lent-fine
+  kept-lent-fine =
+      let s = both (series-fine k) _ fine in
+      let f = both (figures-fine k) (rows-fine k) (s .1) in
+      rw (s .0, f .0, rows-places (f .1))
+
+  pub kept-rcr-told : (q : Requirement) → fields-fine k q ≡ true → lists-long k ≡ true → rcr-reply k q ≡ taken (record { rcr = kept-rcr k q; reliable = kept-reliable k q })
+  unfolding rcr-reply
+  kept-rcr-told q f l = rw (f, l, kept-lent-fine)
