@@ -1,36 +1,37 @@
 -- What the parts of RCR promise each other, and the laws that join them to the promise of the whole.
-use mathlib.Core.Path.{_≡_, refl, _∙_, ap, ap₂}
+use mathlib.Core.Path.{_≡_, refl, sym, _∙_, ap, ap₂}
 use mathlib.Core.Bool.{Bool, true, false, cond, not, _&&_, _||_}
 use mathlib.Core.List.{List, []}
-use Prim.Native.Nat.{ℕ, _+_, _*_, _/_, _%_, _≤_, _<_, _^_, max}
+use Prim.Native.Nat.{ℕ, zero, suc, _+_, _*_, _/_, _%_, _≤_, _<_, max}
 use native.Mathlib.Omega.{arith}
 use lib.Bits.{bitAnd, and-mask}
-use lib.Dec.{T, eqb, leb, ltb}
+use lib.Dec.{eqb, leb, ltb}
 use lib.IntN.{ℤ, pos, negsuc, negℤ, natAbs, _+ℤ_, _*ℤ_}
 use lib.ListN.{length, getD}
 use lib.Signed.{ltZ, leZ}
 use mir.Syntax.{w64}
 use mir.Val.{SFits}
-use borrow.Author.Tests.{leb-true, ltb-true}
+use borrow.Author.Tests.{leb-true, leb-false, le-leb, lt-leb, ltb-true, ltb-false, lt-ltb, le-ltb}
 use Rattle.integers.specs.Bounds.{Within, within-natural, within-product, within-wider, fits-within, fits-wider}
-use Rattle.integers.specs.Casts.{size-pos}
-use Rattle.integers.specs.Pairs.{gain, loss}
-use Rattle.integers.specs.Sums.{sum, sumℕ, count, every, largest, when, both, every-at, sum-step, sum-within, sumℕ-term, sumℕ-prefix}
+use Rattle.integers.specs.Pairs.{gain, loss, v, neg, le! }
+use Rattle.integers.specs.Tests.{le-leZ}
+use Rattle.integers.specs.Sums.{sum, sumℕ, count, every, largest, when, both, every-at, every-all, sum-step, sum-within, sumℕ-term}
 use Rattle.rules.specs.declared.Direction.{Direction}
 use Rattle.rules.specs.declared.Direction.the-variants.{Raise, Lower}
-use Rattle.rules.specs.Quantities.{points, regions, most-units, measure-limit, amount-limit, deviation-limit, residual-default-limit}
+use Rattle.rules.specs.Quantities.{points, regions, measure-limit, amount-limit, deviation-limit, residual-default-limit}
 use Rattle.rules.specs.Bytes.{bit}
-use Rattle.rules.specs.Book.{toward}
+use Rattle.rules.specs.Refusals.{taken}
+use Rattle.rules.specs.Book.{toward, Requirement}
 use Rattle.rules.specs.Fields.{sized, default-fine}
 use Rattle.rules.specs.RequirementRecord.{set-fine}
 use Rattle.rules.specs.LimitsLaws.{size-fits}
-use Rattle.interval.specs.Lent.{series-start, series-length, figures-each, figures-length}
-use Rattle.kept.specs.Kept.{Kept, kept-rcr, kept-reliable, kept-few-bad, kept-weighed, kept-response}
-use Rattle.kept.specs.Range.{series-fine, figures-fine}
+use Rattle.interval.specs.Lent.{series-start, figures-each}
+use Rattle.kept.specs.Kept.{Kept, kept-rcr, kept-reliable, kept-few-bad}
+use Rattle.kept.specs.Range.{series-fine, figures-fine, rows-fine, kept-fine}
 use Rattle.response.specs.declared.points.Sums.{Sums}
 use Rattle.response.specs.declared.units.Units.{Units}
 use Rattle.response.specs.declared.Response.the-variants.{Is}
-use Rattle.response.specs.Promises.{lent, asked, room, lent-fine, places-fine, rcr-reply, RcrPromise}
+use Rattle.response.specs.Promises.{lent, asked, room, lent-fine, places-fine, fields-fine, lists-long, rcr-reply, RcrPromise}
 
 -- ---- the five regions at a point
 abbrev pub there : List ℤ → ℕ → ℕ → ℤ
@@ -44,6 +45,23 @@ sums-here most sums t = leb (sumℕ regions (λ r. natAbs (there sums t r))) mos
 
 abbrev pub series-here : ℕ → List ℤ → List ℤ → List ℤ → Bool
 series-here units measures positive negative = series-fine (lent units 0 measures positive negative [] [])
+
+-- a size is told by both ends
+pub sized-between : (k : ℕ) (x : ℤ) → leZ (negℤ (pos k)) x && leZ x (pos k) ≡ sized k x
+sized-between k (pos n) = ap (λ (t : Bool). t && leb n k) (le-leZ (le! (neg (v (pos k))) (v (pos n)) (omega arith)))
+sized-between zero (negsuc n) = sym (lt-leb (suc n) 0 (omega arith))
+sized-between (suc k) (negsuc n) = swapped (leb n k) ∙ sym (same k n)
+  where
+    swapped : (t : Bool) → t && true ≡ t
+    swapped true = refl
+    swapped false = refl
+
+    same : (k n : ℕ) → leb (suc n) (suc k) ≡ leb n k
+    same k n = go (leb n k) refl
+      where
+        go : (t : Bool) → leb n k ≡ t → leb (suc n) (suc k) ≡ t
+        go true e = le-leb (suc n) (suc k) (omega (arith, leb-true n k e))
+        go false e = lt-leb (suc n) (suc k) (omega (arith, leb-false n k e))
 
 -- ---- a region's figures, from where they start
 abbrev pub defaults-here : List ℤ → ℕ → Bool
@@ -84,6 +102,20 @@ all-stand-is Lower set units percent measures positive negative figures places =
 -- ---- units by their places: the region is the place shifted by one, and a good unit's lowest bit is 1
 pub place-masked : (place : ℕ) → eqb (bitAnd place 1) 1 ≡ eqb (place % 2) 1
 place-masked place = ap (λ (y : ℕ). eqb y 1) (and-mask place 1)
+
+-- every number is below k where the largest is
+both-below : (a b k : ℕ) → ltb (max a b) k ≡ ltb a k && ltb b k
+both-below a b k = go (ltb a k) refl (ltb b k) refl
+  where
+    go : (s : Bool) → ltb a k ≡ s → (t : Bool) → ltb b k ≡ t → ltb (max a b) k ≡ s && t
+    go true e true f = lt-ltb (max a b) k (omega (arith, ltb-true a k e, ltb-true b k f))
+    go true e false f = le-ltb (max a b) k (omega (arith, ltb-false b k f))
+    go false e t f = le-ltb (max a b) k (omega (arith, ltb-false a k e))
+
+pub largest-below : (n k : ℕ) (f : ℕ → ℕ) → 0 < k → ltb (largest n f) k ≡ every n (λ i. ltb (f i) k)
+unfolding largest every
+largest-below zero k f h = lt-ltb 0 k h
+largest-below (suc n) k f h = both-below (largest n f) (f n) k ∙ ap (λ (t : Bool). t && ltb (f n) k) (largest-below n k f h)
 
 pub record PlacesFine (units : ℕ) (places : List ℕ) : Type 0 where
   pub here : (i : ℕ) → i < units → getD places i 0 < 10
@@ -278,6 +310,23 @@ module _ (units percent : ℕ) (d : Direction) (set : ℕ) (ms ps ns gs : List �
   unfolding kept-rcr
   rcr-many-bad e f = rw (e, f)
 
-  pub rcr-of-points : kept-reliable (lent units percent ms ps ns gs qs) (asked d set) ≡ true → kept-few-bad (lent units percent ms ps ns gs qs) (asked d set) ≡ true → points-largest d set ms ps ns gs ≡ kept-rcr (lent units percent ms ps ns gs qs) (asked d set)
+  pub rcr-of-points : {n : ℕ} → n ≡ points-largest d set ms ps ns gs → kept-reliable (lent units percent ms ps ns gs qs) (asked d set) ≡ true → kept-few-bad (lent units percent ms ps ns gs qs) (asked d set) ≡ true → n ≡ kept-rcr (lent units percent ms ps ns gs qs) (asked d set)
   unfolding kept-rcr
-  rcr-of-points e f = rw (e, f)
+  rcr-of-points g e f = rw (e, f) g
+
+-- ---- of lists that the calls have kept in range RCR is told
+module _ (k : Kept) (fine : kept-fine k ≡ true) where
+  rows-places : rows-fine k ≡ true → places-fine (k .units) (k .places) ≡ true
+  unfolding rows-fine places-fine
+  rows-places e = every-all (k .units) _ (λ i l. both (ltb (getD (k .places) i 0) (2 * regions)) _ (every-at (k .units) _ e i l) .0)
+
+  pub kept-lent-fine : lent-fine k ≡ true
+  unfolding lent-fine
+  kept-lent-fine =
+      let s = both (series-fine k) _ fine in
+      let f = both (figures-fine k) (rows-fine k) (s .1) in
+      rw (s .0, f .0, rows-places (f .1))
+
+  pub kept-rcr-told : (q : Requirement) → fields-fine k q ≡ true → lists-long k ≡ true → rcr-reply k q ≡ taken (record { rcr = kept-rcr k q; reliable = kept-reliable k q })
+  unfolding rcr-reply
+  kept-rcr-told q f l = rw (f, l, kept-lent-fine)

@@ -1,9 +1,10 @@
 // Which lent numbers a requirement is answered from: those in range, else 11. A list that is too short is not in range.
 ghost use mathlib.Core.Path.{_≡_};
 ghost use mathlib.Core.Bool.{_&&_};
-ghost use Prim.Native.Nat.{_<_, _≤_, _+_, _^_};
-ghost use lib.ListN.{length};
+ghost use Prim.Native.Nat.{_<_, _≤_, _+_, _^_, max};
+ghost use lib.ListN.{length, getD};
 ghost use lib.Signed.{leZ};
+ghost use Rattle.integers.specs.Sums.{largest};
 ghost use Rattle.response.specs.Promises.{SeriesPromise, FiguresPromise, lent, lent-fine, places-fine};
 ghost use Rattle.response.specs.Laws.{measures-here, sums-here, series-here, defaults-here, region-here, figures-here};
 use super::FIGURES;
@@ -14,7 +15,9 @@ use super::REGIONS;
 use super::SERIES_LENGTH;
 use super::sizes::size;
 
-const MEASURE_LIMIT: u64 = 5_000_000;
+const LEAST_MEASURE: i64 = -5_000_000;
+
+const MOST_MEASURE: i64 = 5_000_000;
 
 const DEVIATION_LIMIT: u64 = 15_000_000;
 
@@ -24,6 +27,16 @@ const LEAST_DEFAULT: i64 = -50_000_000_000_000_000;
 
 const PLACES: u8 = 10;
 
+// Is a number from `low` to `high`?
+fn between(low: i64, high: i64, x: i64) -> bool
+    ensures { λ r. ⌜ r ≡ (leZ low x && leZ x high) ⌝ }
+{
+    if x < low {
+        return false;
+    }
+    x <= high
+}
+
 // The five regions' measures at one point.
 fn measures_within(t: usize, measures: &[i64]) -> bool
     requires { ⌜ (t < 75) × (375 ≤ length (now measures)) ⌝ }
@@ -31,7 +44,7 @@ fn measures_within(t: usize, measures: &[i64]) -> bool
 {
     let mut region: usize = 0;
     while region < REGIONS {
-        if MEASURE_LIMIT < size(measures[POINTS * region + t]) {
+        if !between(LEAST_MEASURE, MOST_MEASURE, measures[POINTS * region + t]) {
             return false;
         }
         region += 1;
@@ -101,15 +114,6 @@ pub fn series_in_range(units: u16, measures: &[i64], positive: &[i64], negative:
     points_within(units, measures, positive, negative)
 }
 
-fn between(low: i64, high: i64, x: i64) -> bool
-    ensures { λ r. ⌜ r ≡ (leZ low x && leZ x high) ⌝ }
-{
-    if x < low {
-        return false;
-    }
-    x <= high
-}
-
 // Six defaults from a place on.
 fn defaults_within(start: usize, figures: &[i64]) -> bool
     requires { ⌜ start + 9 ≤ length (now figures) ⌝ }
@@ -166,18 +170,34 @@ pub fn figures_in_range(figures: &[i64]) -> bool
     regions_within(figures)
 }
 
+// The highest place. A loop with no early end reads sixteen places at a time.
+fn highest_place(units: usize, places: &[u8]) -> u8
+    requires { ⌜ units ≤ length (now places) ⌝ }
+    ensures { λ r. ⌜ r ≡ largest units (λ i. getD (now (places .entry)) i 0) ⌝ }
+{
+    let mut highest: u8 = 0;
+    let mut row: usize = 0;
+    while row < units {
+        highest = higher(highest, places[row]);
+        row += 1;
+    }
+    highest
+}
+
+fn higher(a: u8, b: u8) -> u8
+    ensures { λ r. ⌜ r ≡ max a b ⌝ }
+{
+    if a < b {
+        return b;
+    }
+    a
+}
+
 fn places_within(units: usize, places: &[u8]) -> bool
     requires { ⌜ units ≤ length (now places) ⌝ }
     ensures { λ r. ⌜ r ≡ places-fine units (now (places .entry)) ⌝ }
 {
-    let mut row: usize = 0;
-    while row < units {
-        if PLACES <= places[row] {
-            return false;
-        }
-        row += 1;
-    }
-    true
+    highest_place(units, places) < PLACES
 }
 
 // Every lent number that RCR reads.

@@ -1,7 +1,6 @@
 -- The early returns are the tests of `rcr-reply` in their order; past them the answer is told by reliability, bad units and the points.
 use mathlib.Core.Path.{_≡_, sym, _∙_}
 use mathlib.Core.Bool.{true, false, _&&_}
-use native.Mathlib.Omega.{arith}
 use borrow.Author.Needs.{needs}
 use borrow.Author.Tests.{not-true, not-false}
 use lib.Dec.{leb}
@@ -111,7 +110,7 @@ returns-6 c =
     let a = E (d .before .before .before) .args in
     let e = reliable-told (d .before) ∙ not-false _ (d .if4 .left) in
     let f = few-told (b .before) ∙ not-false _ (b .if5 .left) in
-    passed-reply (passed (d .before .before)) (a .direction) _ true (c .largest-response .ensures ∙ rcr-of-points (a .units) (a .percent) (a .direction) (a .set) (a .measures .now) (a .positive .now) (a .negative .now) (a .figures .now) (a .places .now) e f) (sym e)
+    passed-reply (passed (d .before .before)) (a .direction) _ true (rcr-of-points (a .units) (a .percent) (a .direction) (a .set) (a .measures .now) (a .positive .now) (a .negative .now) (a .figures .now) (a .places .now) (c .largest-response .ensures) e f) (sym e)
 
 pub rcr-spec : {M : Type 1} → statement M
 rcr-spec =

@@ -1,6 +1,4 @@
 -- Two signed tests, one for each end.
-use mathlib.Core.Path.{_≡_, sym, _∙_, ap}
-use mathlib.Core.Bool.{false, not}
 use mir.Facts.{toZ-ofZ}
 use Rattle.integers.specs.Tests.{leZ-not}
 use Rattle.response.proofs.range.between.Statement.{statement}

@@ -1,6 +1,5 @@
 -- Each branch settles one part: series, figures, places.
 use mathlib.Core.Path.{_≡_, sym, _∙_}
-use native.Mathlib.Omega.{arith}
 use borrow.Author.Needs.{needs}
 use borrow.Author.Tests.{not-true, not-false}
 use Rattle.kept.specs.Range.{series-fine, figures-fine}

@@ -1,17 +1,15 @@
 -- Before a region every one passed is within the limit; the first that is not ends the loop.
-use mathlib.Core.Path.{_≡_, sym, _∙_, ap}
+use mathlib.Core.Path.{_≡_, sym, _∙_}
 use mathlib.Core.Bool.{Bool, true}
 use Prim.Native.Nat.{ℕ, _-_, _≤_}
 use native.Mathlib.Omega.{arith}
 use borrow.Author.Needs.{needs, sfits-of}
-use borrow.Author.Tests.{lt-leb, le-leb}
-use lib.Dec.{leb}
-use lib.IntN.{natAbs}
+use borrow.Author.Tests.{not-true, not-false}
 use mir.Facts.{toZ-ofZ}
 use Rattle.integers.specs.Sums.{every, every-step, every-none, every-fails}
 use Rattle.rules.specs.Quantities.{regions, measure-limit}
 use Rattle.rules.specs.Fields.{sized}
-use Rattle.response.specs.Laws.{there}
+use Rattle.response.specs.Laws.{there, sized-between}
 use Rattle.response.proofs.range.measures_within.Statement.{statement}
 use Rattle.response.proofs.range.measures_within.Tie as tie
 
@@ -21,35 +19,37 @@ Inv-loop t measures region₀ region = (region ≤ 5) × (every region (λ r. si
 abbrev μ-loop : tie.MeasureT-loop
 μ-loop t measures region₀ region = 5 - region
 
-abbrev L : tie.After-size Inv-loop μ-loop → tie.At-loop Inv-loop μ-loop
+abbrev L : tie.After-between Inv-loop μ-loop → tie.At-loop Inv-loop μ-loop
 L c = c .before .before .before
 
 abbrev tests : tie.At-loop Inv-loop μ-loop → ℕ → Bool
 tests l r = sized measure-limit (there (l .before .args .measures .now) (l .before .args .t) r)
 
-told : (c : tie.After-size Inv-loop μ-loop) → tests (L c) (L c .loop .region) ≡ leb (c .size .result) measure-limit
-told c = ap (λ (n : ℕ). leb n measure-limit) (sym (rw (toZ-ofZ (sfits-of (c .before .size-arg .given))) at (c .size .ensures)))
+told : (c : tie.After-between Inv-loop μ-loop) → tests (L c) (L c .loop .region) ≡ c .between .result
+told c =
+    let l = L c in
+    sym (rw (toZ-ofZ (sfits-of (c .before .between-arg .given))) at (c .between .ensures) ∙ sized-between measure-limit (there (l .before .args .measures .now) (l .before .args .t) (l .loop .region)))
 
 loop-holds : tie.Need-loop-holds Inv-loop μ-loop
 loop-holds c = (omega arith, every-none _)
 
-mul-size : tie.Need-mul-size Inv-loop μ-loop
-mul-size c = omega arith
+mul-between : tie.Need-mul-between Inv-loop μ-loop
+mul-between c = omega arith
 
-add-size : tie.Need-add-size Inv-loop μ-loop
-add-size c = omega arith
+add-between : tie.Need-add-between Inv-loop μ-loop
+add-between c = omega arith
 
-mul-size-2 : tie.Need-mul-size-2 Inv-loop μ-loop
-mul-size-2 c = omega arith
+mul-between-2 : tie.Need-mul-between-2 Inv-loop μ-loop
+mul-between-2 c = omega arith
 
-shared-slice-copy-out-size : tie.Need-shared-slice-copy-out-size Inv-loop μ-loop
-shared-slice-copy-out-size c = omega arith
+shared-slice-copy-out-between : tie.Need-shared-slice-copy-out-between Inv-loop μ-loop
+shared-slice-copy-out-between c = omega arith
 
-size-requires : tie.Need-size-requires Inv-loop μ-loop
-size-requires c κs = search needs
+between-requires : tie.Need-between-requires Inv-loop μ-loop
+between-requires c κs = search needs
 
 returns : tie.Need-returns Inv-loop μ-loop
-returns c = sym (every-fails regions (tests (L (c .before))) (L (c .before) .loop .region) (omega arith) (told (c .before) ∙ lt-leb _ _ (c .if1 .taken)))
+returns c = sym (every-fails regions (tests (L (c .before))) (L (c .before) .loop .region) (omega arith) (told (c .before) ∙ not-true _ (c .if1 .taken)))
 
 add-region : tie.Need-add-region Inv-loop μ-loop
 add-region c = omega arith
@@ -58,7 +58,7 @@ loop-less : tie.Need-loop-less Inv-loop μ-loop
 loop-less c = omega arith
 
 loop-again : tie.Need-loop-again Inv-loop μ-loop
-loop-again c = (omega arith, every-step _ (tests (L (c .before))) (L (c .before) .loop .inv .1) (told (c .before) ∙ le-leb _ _ (c .if1 .left)))
+loop-again c = (omega arith, every-step _ (tests (L (c .before))) (L (c .before) .loop .inv .1) (told (c .before) ∙ not-false _ (c .if1 .left)))
 
 returns-2 : tie.Need-returns-2 Inv-loop μ-loop
 returns-2 c = let e : c .before .loop .region ≡ regions = omega arith in sym (rw e at (c .before .loop .inv .1))
@@ -70,11 +70,11 @@ measures-within-spec =
     Inv-loop
     μ-loop
     loop-holds
-    mul-size
-    add-size
-    mul-size-2
-    shared-slice-copy-out-size
-    size-requires
+    mul-between
+    add-between
+    mul-between-2
+    shared-slice-copy-out-between
+    between-requires
     returns
     add-region
     loop-less

@@ -1,13 +1,12 @@
 -- One more than a number below zero has a negative at every width, and its size is one less.
-use mathlib.Core.Path.{_≡_, sym, _∙_}
-use Prim.Native.Nat.{ℕ, _+_, _-_}
-use lib.IntN.{ℤ, pos, natAbs, _+ℤ_, _-ℤ_}
-use lib.Signed.{_<ℤ_, yes-nonNeg}
+use mathlib.Core.Path.{sym}
+use Prim.Native.Nat.{_+_, _-_}
+use lib.IntN.{ℤ, pos, _+ℤ_, _-ℤ_}
+use lib.Signed.{_<ℤ_}
 use mir.Syntax.{w64}
 use mir.Val.{SFits}
 use mir.Facts.{toZ-ofZ}
 use native.Mathlib.Omega.{arith}
-use Rattle.integers.specs.Pairs.{loss}
 use Rattle.integers.specs.Tests.{ltZ-true, ltZ-false}
 use Rattle.integers.specs.Casts.{turned, fits-up, fits-loss, some-loss, no-loss}
 use Rattle.response.proofs.sizes.below.Statement.{statement}

@@ -1,8 +1,7 @@
 -- By its sign a size is one of the two parts; the other is 0.
-use mathlib.Core.Path.{_≡_}
 use native.Mathlib.Omega.{arith}
 use borrow.Author.Needs.{needs}
-use lib.IntN.{pos, natAbs}
+use lib.IntN.{pos}
 use lib.Signed.{_<ℤ_, _≤ℤ_}
 use mir.Facts.{toZ-ofZ}
 use Rattle.integers.specs.Bounds.{abs-is}

@@ -3,7 +3,7 @@ use mathlib.Core.Path.{_≡_, sym, ap}
 use Prim.Native.Nat.{ℕ, _+_, _-_, _≤_}
 use native.Mathlib.Omega.{arith}
 use borrow.Author.Needs.{needs}
-use Rattle.integers.specs.Sums.{count, count-≤, sumℕ-step, sumℕ-none}
+use Rattle.integers.specs.Sums.{count-≤, sumℕ-step, sumℕ-none}
 use Rattle.response.specs.Laws.{unit-there, bad-unit-there, units-there, bad-there}
 use Rattle.response.proofs.units.count_units.Statement.{statement}
 use Rattle.response.proofs.units.count_units.Tie as tie

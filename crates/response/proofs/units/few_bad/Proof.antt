@@ -1,9 +1,8 @@
 -- Neither count is over 512, so neither product wraps.
-use mathlib.Core.Path.{_≡_, _∙_, ap₂}
+use mathlib.Core.Path.{ap₂}
 use Prim.Native.Nat.{ℕ, _*_, _≤_}
 use native.Mathlib.Nat.{mul-le-mul}
 use native.Mathlib.Omega.{arith}
-use borrow.Author.Needs.{needs}
 use lib.Dec.{leb}
 use Rattle.integers.specs.Sums.{count-≤}
 use Rattle.response.specs.Laws.{unit-there, bad-unit-there}
