@@ -1,0 +1,300 @@
+// The listing of a book that has been taken: the interval, then for each requirement its line and a line for each member. Each function
+// answers whether the listing goes on. It stops where a line cannot be written; a refusal would stop it too, but what the calls leave of a
+// book is never refused.
+ghost use Prim.Native.Nat.{_<_, _≤_};
+ghost use lib.ListN.{length};
+ghost use Rattle.settle.specs.Columns.{Columns};
+use super::output;
+use answer::Answer;
+use answer::Answered;
+use interval::Tally;
+use listing::Amounts;
+use listing::Figures;
+use listing::Pool;
+use members::Row;
+use rules::Direction;
+
+const REQUIREMENT: usize = 24;
+
+// Where a requirement's record holds its region set.
+const SET: usize = 2;
+
+const MEMBERS: usize = 513;
+
+// Where the next member's amounts stand in the columns.
+enum Printed {
+    Next(usize),
+    Stopped,
+}
+
+fn amounts(
+    place: usize,
+    performances: &[i64],
+    factors: &[i64],
+    payments: &[i64],
+    used: &[i64],
+    unused: &[i64],
+) -> Amounts
+    requires { ⌜ (place < 513) × Columns (now performances) (now factors) (now payments) (now used) (now unused) ⌝ }
+{
+    Amounts {
+        performance: performances[place],
+        factor: factors[place],
+        payment: payments[place],
+        used: used[place],
+        unused: unused[place],
+    }
+}
+
+// The unit of a row, if it is a member.
+fn print_row(
+    row: u16,
+    place: usize,
+    units: u16,
+    direction: Direction,
+    set: u8,
+    figures: &[i64],
+    numbers: &[u16],
+    places: &[u8],
+    performances: &[i64],
+    factors: &[i64],
+    payments: &[i64],
+    used: &[i64],
+    unused: &[i64],
+) -> Printed
+    requires { ⌜ Columns (now performances) (now factors) (now payments) (now used) (now unused) ⌝ }
+{
+    if MEMBERS <= place {
+        return Printed::Stopped;
+    }
+    let who = members::roster::member(row, units, direction, set, figures, numbers, places);
+    match who {
+        Row::Unit(number, standing) => {
+            let shares = amounts(place, performances, factors, payments, used, unused);
+            if output::unit(number, standing, shares) {
+                return Printed::Next(place + 1);
+            }
+            Printed::Stopped
+        }
+        Row::Other => Printed::Next(place),
+        Row::Refused(_) => Printed::Stopped,
+    }
+}
+
+fn print_rows(
+    units: u16,
+    direction: Direction,
+    set: u8,
+    figures: &[i64],
+    numbers: &[u16],
+    places: &[u8],
+    performances: &[i64],
+    factors: &[i64],
+    payments: &[i64],
+    used: &[i64],
+    unused: &[i64],
+) -> Printed
+    requires { ⌜ Columns (now performances) (now factors) (now payments) (now used) (now unused) ⌝ }
+{
+    let mut place: usize = 0;
+    let mut row: u16 = 0;
+    while row < units {
+        let next = print_row(
+            row,
+            place,
+            units,
+            direction,
+            set,
+            figures,
+            numbers,
+            places,
+            performances,
+            factors,
+            payments,
+            used,
+            unused,
+        );
+        let Printed::Next(further) = next else {
+            return next;
+        };
+        place = further;
+        row += 1;
+    }
+    Printed::Next(place)
+}
+
+fn figures_of(given: Answer) -> Figures {
+    let used = given.used;
+    let unused = given.unused;
+    let direction = given.direction;
+    Figures {
+        number: given.number,
+        direction: direction,
+        rcr: given.rcr,
+        pool: given.pool,
+        used: Pool {
+            cents: used.pool,
+            unplaced: used.unplaced,
+        },
+        unused: Pool {
+            cents: unused.pool,
+            unplaced: unused.unplaced,
+        },
+    }
+}
+
+// A requirement's line, its units' lines and its residual's.
+fn print_members(
+    given: Answer,
+    units: u16,
+    set: u8,
+    figures: &[i64],
+    numbers: &[u16],
+    places: &[u8],
+    performances: &[i64],
+    factors: &[i64],
+    payments: &[i64],
+    used: &[i64],
+    unused: &[i64],
+) -> bool
+    requires { ⌜ Columns (now performances) (now factors) (now payments) (now used) (now unused) ⌝ }
+{
+    if !output::requirement(figures_of(given)) {
+        return false;
+    }
+    let direction = given.direction;
+    let rows = print_rows(
+        units,
+        direction,
+        set,
+        figures,
+        numbers,
+        places,
+        performances,
+        factors,
+        payments,
+        used,
+        unused,
+    );
+    let Printed::Next(place) = rows else {
+        return false;
+    };
+    if MEMBERS <= place {
+        return false;
+    }
+    let standing = given.residual;
+    let shares = amounts(place, performances, factors, payments, used, unused);
+    output::residual(standing, shares)
+}
+
+fn print_answer(
+    tally: Tally,
+    part: &[u8],
+    measures: &[i64],
+    positive: &[i64],
+    negative: &[i64],
+    figures: &[i64],
+    numbers: &[u16],
+    places: &[u8],
+    raise: &[i64],
+    lower: &[i64],
+    defaults: &[i64],
+    performances: &mut [i64],
+    factors: &mut [i64],
+    payments: &mut [i64],
+    used: &mut [i64],
+    unused: &mut [i64],
+) -> bool
+    requires { ⌜ Columns (now performances) (now factors) (now payments) (now used) (now unused) ⌝ }
+{
+    let answered = answer::call::answer(
+        tally,
+        part,
+        measures,
+        positive,
+        negative,
+        figures,
+        places,
+        raise,
+        lower,
+        defaults,
+        performances,
+        factors,
+        payments,
+        used,
+        unused,
+    );
+    let Answered::Given(given) = answered else {
+        return false;
+    };
+    let set = little::u8_at(part, SET);
+    print_members(
+        given,
+        tally.units,
+        set,
+        figures,
+        numbers,
+        places,
+        performances,
+        factors,
+        payments,
+        used,
+        unused,
+    )
+}
+
+pub(crate) fn print_book(
+    tally: Tally,
+    bytes: &[u8],
+    measures: &[i64],
+    positive: &[i64],
+    negative: &[i64],
+    figures: &[i64],
+    numbers: &[u16],
+    places: &[u8],
+    raise: &[i64],
+    lower: &[i64],
+    defaults: &[i64],
+    performances: &mut [i64],
+    factors: &mut [i64],
+    payments: &mut [i64],
+    used: &mut [i64],
+    unused: &mut [i64],
+) -> bool
+    requires { ⌜ Columns (now performances) (now factors) (now payments) (now used) (now unused) ⌝ }
+{
+    if !output::interval(tally.interval) {
+        return false;
+    }
+    let mut left = tally.requirements;
+    let mut start: usize = 0;
+    while left > 0 {
+        if bytes.len() - start < REQUIREMENT {
+            return false;
+        }
+        let end = start + REQUIREMENT;
+        if !print_answer(
+            tally,
+            &bytes[start..end],
+            measures,
+            positive,
+            negative,
+            figures,
+            numbers,
+            places,
+            raise,
+            lower,
+            defaults,
+            performances,
+            factors,
+            payments,
+            used,
+            unused,
+        ) {
+            return false;
+        }
+        start = end;
+        left -= 1;
+    }
+    true
+}
