@@ -42,6 +42,8 @@ struct Program {
     command: Vec<String>,
     /// The second program's language opens a closed output anew before the program starts.
     sees_closed_output: bool,
+    /// The library's language ends every program with status 0: what failed is told on standard error alone.
+    has_status: bool,
 }
 
 /// What a run printed, what it said on standard error, and how it ended.
@@ -125,13 +127,24 @@ impl Program {
         Ok(())
     }
 
-    /// An output that nobody takes ends the program with a status other than 0.
-    fn notices(&self, input: &Path, output: Stdio) -> Result<(), String> {
-        let run = self.run(File::open(input).map_err(text)?.into(), output, |_| {})?;
-        if run.status.success() {
+    /// A failure is told by a status other than 0; by a program that has none, on standard error.
+    fn told(&self, run: &Run) -> Result<(), String> {
+        if !run.status.success() {
+            return Ok(());
+        }
+        if self.has_status {
             return Err("ends with status 0".to_string());
         }
+        if run.said.is_empty() {
+            return Err("ends with status 0 and says nothing on standard error".to_string());
+        }
         Ok(())
+    }
+
+    /// An output that nobody takes is told.
+    fn notices(&self, input: &Path, output: Stdio) -> Result<(), String> {
+        let run = self.run(File::open(input).map_err(text)?.into(), output, |_| {})?;
+        self.told(&run)
     }
 
     fn notices_no_reader(&self, input: &Path) -> Result<(), String> {
@@ -148,7 +161,12 @@ impl Program {
     fn notices_closed_output(&self, input: &Path) -> Result<(), String> {
         let mut command = ["sh", "-c", "exec \"$@\" >&-", "sh"].map(str::to_string).to_vec();
         command.extend(self.command.iter().cloned());
-        let closed = Program { name: self.name.clone(), command, sees_closed_output: true };
+        let closed = Program {
+            name: self.name.clone(),
+            command,
+            sees_closed_output: true,
+            has_status: self.has_status,
+        };
         closed.notices(input, Stdio::null())
     }
 
@@ -161,10 +179,7 @@ impl Program {
         if !run.output.is_empty() {
             return Err(format!("prints {}", String::from_utf8_lossy(&run.output)));
         }
-        if run.status.success() {
-            return Err("ends with status 0".to_string());
-        }
-        Ok(())
+        self.told(&run)
     }
 }
 
@@ -249,10 +264,19 @@ fn main() -> io::Result<ExitCode> {
     let library = library_command();
     println!("{}", announcement(library.as_deref()));
     let own = std::env::current_exe()?.with_file_name("settle").display().to_string();
-    let mut programs =
-        vec![Program { name: "second".to_string(), command: vec![own], sees_closed_output: false }];
+    let mut programs = vec![Program {
+        name: "second".to_string(),
+        command: vec![own],
+        sees_closed_output: false,
+        has_status: true,
+    }];
     if let Some(command) = library {
-        programs.push(Program { name: "library".to_string(), command, sees_closed_output: true });
+        programs.push(Program {
+            name: "library".to_string(),
+            command,
+            sees_closed_output: true,
+            has_status: false,
+        });
     }
     let mut tried = Tried { passed: 0, failed: 0 };
     for program in &programs {
