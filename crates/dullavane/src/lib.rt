@@ -1,12 +1,12 @@
 // dullavane: the calls as the firmware makes them from C. Only numbers and lists cross over; the tally stands in eight lent words. A call answers 0, or the
 // number of the refusal, and then nothing lent has changed.
 ghost use Rattle.dullavane.specs.Promises.{ContentsCalled, SettingsCalled, FrequencyCalled, UnitCalled, RequirementCalled};
+use frequencies::frequency::frequency;
 use interval::contents::contents;
-use interval::frequency::frequency;
 use interval::requirement::requirement;
 use interval::settings::settings;
-use interval::unit::unit;
 use rules::refusal_number;
+use units::unit::unit;
 use words::Held;
 use words::start;
 use words::tally_in;

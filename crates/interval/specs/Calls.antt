@@ -3,10 +3,11 @@
 use mathlib.Core.Path.{_≡_, refl}
 use mathlib.Core.Bool.{Bool, cond, _&&_}
 use mathlib.Core.List.{List}
-use Prim.Native.Nat.{ℕ, _+_, _*_}
+use Prim.Native.Nat.{ℕ, _+_, _*_, _<_}
 use lib.Dec.{eqb, leb, ltb}
 use lib.IntN.{ℤ}
 use lib.ListN.{length}
+use borrow.Author.Tests.{lt-ltb}
 use Rattle.rules.specs.declared.Refusal.{Refusal}
 use Rattle.rules.specs.declared.Refusal.the-variants.{OutOfTurn, TooShort}
 use Rattle.rules.specs.Quantities.{points}
@@ -31,7 +32,7 @@ use Rattle.interval.specs.declared.Tally.{Tally}
 use Rattle.interval.specs.declared.Opened as o
 use Rattle.interval.specs.declared.Taking as k
 use Rattle.interval.specs.declared.Step.{Step}
-use Rattle.interval.specs.Tally.{in-range, settings-turn, frequency-turn, unit-turn, requirement-turn, next-region, units-taken, units-end, book-end}
+use Rattle.interval.specs.Tally.{in-range, settings-turn, frequency-turn, unit-turn, requirement-turn, next-region, units-taken, units-end, book-end, most-records}
 use Rattle.interval.specs.Lent.{series-length, figures-length, series-in-range}
 
 -- ---- the table of contents starts a tally
@@ -71,6 +72,14 @@ counted least t =
       percent = t .percent;
       interval = t .interval;
     }
+
+-- a tally that counts as many records as a book can have counts no further
+unfoldable pub count-step : ℕ → Tally → Step
+count-step least t = cond (ltb (t .records) most-records) (taken-step (counted least t)) (refused-step t OutOfTurn)
+
+pub count-taken : (least : ℕ) (t : Tally) → t .records < most-records → count-step least t ≡ taken-step (counted least t)
+unfolding count-step
+count-taken least t h = rw (lt-ltb (t .records) most-records h)
 
 -- ---- settings
 unfoldable pub settings-reply : Tally → List ℕ → Reply Settings
@@ -119,8 +128,11 @@ unit-reply t part readings deviations measures positive negative numbers places 
     (unit-record (t .least) part))))
 
 -- after the last unit the first requirement may have any number
+abbrev pub least-after : Tally → ℕ → ℕ
+least-after t number = cond (eqb (t .records + 1) (units-end t)) 0 (number + 1)
+
 abbrev pub unit-counted : Tally → Unit → Tally
-unit-counted t u = counted (cond (eqb (t .records + 1) (units-end t)) 0 (u .number + 1)) t
+unit-counted t u = counted (least-after t (u .number)) t
 
 -- ---- a requirement
 unfoldable pub requirement-reply : Tally → List ℕ → Reply Requirement

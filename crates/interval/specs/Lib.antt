@@ -5,17 +5,3 @@ pub mod Lent
 pub mod LentLaws
 pub mod Calls
 pub mod Promises
-pub mod Frequency
-pub mod FrequencyLaws
-pub mod UnitLaws
-pub mod UnitAnswer
-pub mod ChainLaws
-pub mod Taken
-pub mod Chain
-pub mod ChainSteps
-pub mod ChainTheorem
-pub mod ChainValues
-pub mod Honest
-pub mod BookRecords
-pub mod BookChain
-pub mod BookEnd

@@ -1,12 +1,14 @@
 -- What each call promises, completely: its reply, the tally and every lent number, on refusals too; and that any two answers that a promise allows
 -- are equal. Primed lists are what the call leaves.
 use mathlib.Core.Path.{_≡_, sym, _∙_}
+use mathlib.Core.Bool.{Bool, _&&_}
 use mathlib.Core.List.{List}
 use Prim.Native.Nat.{ℕ, _+_, _*_}
 use lib.IntN.{ℤ, pos}
 use lib.ListN.{getD, set}
 use Rattle.integers.specs.Fills.{filled}
 use Rattle.rules.specs.declared.Direction.the-variants.{Raise, Lower}
+use Rattle.rules.specs.declared.Refusal.{Refusal}
 use Rattle.rules.specs.Quantities.{points}
 use Rattle.rules.specs.Refusals.{Reply}
 use Rattle.rules.specs.Book.{Region, Unit}
@@ -17,9 +19,9 @@ use Rattle.rules.specs.Performance.{performance}
 use Rattle.interval.specs.declared.Tally.{Tally}
 use Rattle.interval.specs.declared.Opened.{Opened}
 use Rattle.interval.specs.declared.Step.{Step}
-use Rattle.interval.specs.Tally.{settings-of, next-region, units-taken}
+use Rattle.interval.specs.Tally.{settings-of, next-region, in-range, frequency-turn, unit-turn, units-taken}
 use Rattle.interval.specs.Lent.{placed, series-start, figures-each, figures-of, place-of, six, summed}
-use Rattle.interval.specs.Calls.{opened, stepped, left, settings-reply, settled, frequency-reply, counted, unit-reply, unit-counted, requirement-reply}
+use Rattle.interval.specs.Calls.{opened, refused-step, stepped, left, count-step, least-after, settings-reply, settled, frequency-reply, counted, unit-reply, unit-counted, requirement-reply}
 
 -- ---- contents
 pub record ContentsPromise (part : List ℕ) (r : Opened) : Type 0 where
@@ -97,3 +99,19 @@ pub record RequirementPromise (t : Tally) (part : List ℕ) (r : Step) : Type 0 
 
 pub requirement-only : {t : Tally} {part : List ℕ} {r r′ : Step} → RequirementPromise t part r → RequirementPromise t part r′ → r ≡ r′
 requirement-only a b = a .reply ∙ sym (b .reply)
+
+-- ---- the parts that the calls with lent lists share: each answers one value
+pub frequency-turn-only : (t : Tally) {r r′ : Bool} → r ≡ (in-range t && frequency-turn t) → r′ ≡ (in-range t && frequency-turn t) → r ≡ r′
+frequency-turn-only t a b = a ∙ sym b
+
+pub unit-turn-only : (t : Tally) {r r′ : Bool} → r ≡ (in-range t && unit-turn t) → r′ ≡ (in-range t && unit-turn t) → r ≡ r′
+unit-turn-only t a b = a ∙ sym b
+
+pub next-least-only : (t : Tally) (number : ℕ) {r r′ : ℕ} → r ≡ least-after t number → r′ ≡ least-after t number → r ≡ r′
+next-least-only t number a b = a ∙ sym b
+
+pub refuse-only : {t : Tally} {refusal : Refusal} {r r′ : Step} → r ≡ refused-step t refusal → r′ ≡ refused-step t refusal → r ≡ r′
+refuse-only a b = a ∙ sym b
+
+pub count-only : (least : ℕ) (t : Tally) {r r′ : Step} → r ≡ count-step least t → r′ ≡ count-step least t → r ≡ r′
+count-only least t a b = a ∙ sym b

@@ -20,6 +20,10 @@ units-end t = before-units + t .units
 abbrev pub book-end : Tally → ℕ
 book-end t = units-end t + t .requirements
 
+-- no book has more records
+abbrev pub most-records : ℕ
+most-records = before-units + most-units + most-requirements
+
 -- how many units were taken, once units may be
 abbrev pub units-taken : Tally → ℕ
 units-taken t = t .records - before-units

@@ -9,7 +9,7 @@ use Rattle.integers.specs.Sums.{both}
 use Rattle.rules.specs.Quantities.{most-units, most-requirements}
 use Rattle.rules.specs.Limits.{SettingsFit}
 use Rattle.interval.specs.declared.Tally.{Tally}
-use Rattle.interval.specs.Tally.{settings-of, before-units, units-end, book-end, settings-kept, in-range, frequency-turn, requirement-turn}
+use Rattle.interval.specs.Tally.{settings-of, before-units, units-end, book-end, most-records, settings-kept, in-range, frequency-turn, requirement-turn}
 
 pub record InRange (t : Tally) : Type 0 where
   pub units : t .units ≤ most-units
@@ -63,7 +63,7 @@ below-past start n k h = go (ltb (n - start) k) refl
 
 -- ---- at a turn
 pub record RequirementTurn (t : Tally) : Type 0 where
-  pub few : t .records < 600
+  pub few : t .records < most-records
   pub units : t .units ≤ most-units
   pub requirements : t .requirements ≤ most-requirements
 

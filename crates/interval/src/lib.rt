@@ -1,17 +1,13 @@
 // interval: the calculator step by step, as the firmware calls it. A book's records are handed in one by one, in its order:
 // contents, settings, five frequency records, the units, the requirements. Each call takes the tally, hands it on or back, and writes to
-// what is lent only where it refuses nothing.
+// what is lent only where it refuses nothing. The calls that lend lists stand above, in `frequencies` and `units`; what they promise stands in specs/.
 use rules::Refusal;
 
 pub mod contents;
-pub mod frequency;
-mod lent;
-mod points;
 pub mod requirement;
 pub mod settings;
-mod steps;
-mod turns;
-pub mod unit;
+pub mod steps;
+pub mod turns;
 
 // How far the book is. `records` counts what was taken after the table of contents: the settings, five frequency records, the
 // units, the requirements. `least` is the least number that the next unit or requirement may have.

@@ -15,7 +15,7 @@ use rules::Refusal;
 
 // Is the record that comes next the book's last?
 fn comes_last(tally: Tally) -> bool
-    requires { ⌜ (tally .records < 600) × (tally .units ≤ 512) × (tally .requirements ≤ 32) ⌝ }
+    requires { ⌜ (tally .records < 550) × (tally .units ≤ 512) × (tally .requirements ≤ 32) ⌝ }
     ensures { λ r. ⌜ r ≡ eqb (tally .records + 1) (book-end tally) ⌝ }
 {
     tally.records + 1 == BEFORE_UNITS + tally.units + tally.requirements

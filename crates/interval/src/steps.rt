@@ -1,13 +1,16 @@
 // The two ways a step ends: one record further, or the tally as it came.
 ghost use mathlib.Core.Path.{_≡_};
-ghost use Prim.Native.Nat.{_<_};
-ghost use Rattle.interval.specs.Calls.{refused-step, taken-step, counted};
+ghost use Rattle.interval.specs.Calls.{refused-step, count-step, least-after};
 use super::Step;
 use super::Taking;
 use super::Tally;
+use super::turns::BEFORE_UNITS;
 use rules::Refusal;
 
-pub(crate) fn refuse(tally: Tally, refusal: Refusal) -> Step
+// Settings, five regions, 512 units and 32 requirements.
+const MOST_RECORDS: u16 = 550;
+
+pub fn refuse(tally: Tally, refusal: Refusal) -> Step
     ensures { λ r. ⌜ r ≡ refused-step tally refusal ⌝ }
 {
     Step {
@@ -16,11 +19,13 @@ pub(crate) fn refuse(tally: Tally, refusal: Refusal) -> Step
     }
 }
 
-// One record more; `least` is the least number that the next may have.
-pub(crate) fn count(tally: Tally, least: u32) -> Step
-    requires { ⌜ tally .records < 600 ⌝ }
-    ensures { λ r. ⌜ r ≡ taken-step (counted least tally) ⌝ }
+// One record more; `least` is the least number that the next may have. Refuses 11 where no book has more records.
+pub fn count(tally: Tally, least: u32) -> Step
+    ensures { λ r. ⌜ r ≡ count-step least tally ⌝ }
 {
+    if MOST_RECORDS <= tally.records {
+        return refuse(tally, Refusal::OutOfTurn);
+    }
     Step {
         tally: Tally {
             units: tally.units,
@@ -34,4 +39,14 @@ pub(crate) fn count(tally: Tally, least: u32) -> Step
         },
         taking: Taking::Taken,
     }
+}
+
+// The least number that may follow a unit's: after the last unit the first requirement may have any.
+pub fn next_least(tally: Tally, number: u16) -> u32
+    ensures { λ r. ⌜ r ≡ least-after tally number ⌝ }
+{
+    if tally.records as u32 + 1 == BEFORE_UNITS as u32 + tally.units as u32 {
+        return 0;
+    }
+    number as u32 + 1
 }

@@ -9,7 +9,7 @@ const MOST_UNITS: u16 = 512;
 const MOST_REQUIREMENTS: u16 = 32;
 
 // The settings and five frequency records come before the units.
-pub(crate) const BEFORE_UNITS: u16 = 6;
+pub const BEFORE_UNITS: u16 = 6;
 
 fn settings_in_range(tally: Tally) -> bool
     ensures { λ r. ⌜ r ≡ settings-kept tally ⌝ }
@@ -59,7 +59,7 @@ pub(crate) fn settings_turn(tally: Tally) -> bool
     tally.records == 0
 }
 
-pub(crate) fn frequency_turn(tally: Tally) -> bool
+pub fn frequency_turn(tally: Tally) -> bool
     ensures { λ r. ⌜ r ≡ (in-range tally && frequency-turn tally) ⌝ }
 {
     if !in_range(tally) {
@@ -71,7 +71,7 @@ pub(crate) fn frequency_turn(tally: Tally) -> bool
     tally.records < BEFORE_UNITS
 }
 
-pub(crate) fn unit_turn(tally: Tally) -> bool
+pub fn unit_turn(tally: Tally) -> bool
     ensures { λ r. ⌜ r ≡ (in-range tally && unit-turn tally) ⌝ }
 {
     if !in_range(tally) {

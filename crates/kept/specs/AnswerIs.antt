@@ -30,7 +30,7 @@ use Rattle.rules.specs.Rcr.{weighed-measure, response, all-reliable, few-bad, r
 use Rattle.rules.specs.RcrLaws.{response-is}
 use Rattle.rules.specs.Answer.{answered, answer}
 use Rattle.interval.specs.Lent.{series-start}
-use Rattle.interval.specs.ChainLaws.{listed-shift}
+use Rattle.chain.specs.ChainLaws.{listed-shift}
 use Rattle.kept.specs.Kept.{Kept, reliable-of, residual-default, region-of, good-of, performance-of, unit-default, row-standing, row-member, some-good-or-none-of, residual-of, residual-value, residual-row, rows, kept-members, kept-weighed, kept-response, kept-reliable, kept-few-bad, kept-rcr, kept-answer}
 use Rattle.kept.specs.Keeps.{Keeps}
 

@@ -14,11 +14,11 @@ use Rattle.rules.specs.LimitsLaws.{book-fits}
 use Rattle.rules.specs.Answer.{answer}
 use Rattle.interval.specs.declared.Tally.{Tally}
 use Rattle.interval.specs.Tally.{settings-of, before-units}
-use Rattle.interval.specs.Taken.{counts-in}
-use Rattle.interval.specs.Chain.{Lent, Chain}
-use Rattle.interval.specs.Honest.{Enough}
-use Rattle.interval.specs.BookRecords.{part-of}
-use Rattle.interval.specs.BookChain.{BookMeans, book-chain, book-means}
+use Rattle.chain.specs.Taken.{counts-in}
+use Rattle.chain.specs.Chain.{Lent, Chain}
+use Rattle.chain.specs.Honest.{Enough}
+use Rattle.chain.specs.BookRecords.{part-of}
+use Rattle.chain.specs.BookChain.{BookMeans, book-chain, book-means}
 use Rattle.kept.specs.Kept.{Kept, kept-answer}
 use Rattle.kept.specs.Keeps.{Keeps}
 use Rattle.kept.specs.AnswerIs.{answer-is}

@@ -10,7 +10,7 @@ use Rattle.book.specs.Requirement.{requirement-answer}
 use Rattle.interval.specs.declared.Step.{Step}
 use Rattle.interval.specs.Tally.{in-range, requirement-turn, book-end}
 use Rattle.interval.specs.TallyLaws.{RequirementTurn, requirement-comes}
-use Rattle.interval.specs.Calls.{requirement-reply, required-from, required-is}
+use Rattle.interval.specs.Calls.{count-taken, requirement-reply, required-from, required-is}
 use Rattle.interval.specs.Promises.{RequirementPromise}
 use Rattle.interval.proofs.requirement.requirement.Statement.{statement}
 use Rattle.interval.proofs.requirement.requirement.Tie as tie
@@ -60,7 +60,7 @@ add-count : tie.Need-add-count
 add-count c = search needs
 
 count-requires : tie.Need-count-requires
-count-requires c κs = comes (c .before .before .before .before .before .before) .few
+count-requires c κs = search needs
 
 enum-known-read-2 : tie.Need-enum-known-read-2
 enum-known-read-2 c = search needs
@@ -71,7 +71,7 @@ refuse-requires-2 c κs = search needs
 returns-2 : tie.Need-returns-2
 returns-2 c =
     let a = c .before .before .before .before .before in
-    answers a _ (c .count .ensures ∙ ap (required-from (start (a .before .before) .args .tally)) (sym (c .before .before .before .read .given .1)))
+    answers a _ (c .count .ensures ∙ count-taken _ _ (comes (a .before .before) .few) ∙ ap (required-from (start (a .before .before) .args .tally)) (sym (c .before .before .before .read .given .1)))
 
 returns-3 : tie.Need-returns-3
 returns-3 c =

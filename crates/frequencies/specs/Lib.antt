@@ -1,0 +1,3 @@
+-- What the parts of a frequency call promise each other, and how they make its promise
+pub mod Frequency
+pub mod FrequencyLaws

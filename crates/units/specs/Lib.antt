@@ -1,0 +1,3 @@
+-- What the parts of a unit call promise each other, and how they make its promise
+pub mod UnitLaws
+pub mod UnitAnswer
