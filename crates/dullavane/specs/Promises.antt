@@ -95,15 +95,15 @@ pub record SettingsCalled (ws part : List ℕ) (r : ℕ) (ws′ : List ℕ) : Ty
   pub answer : Called (λ t s. SettingsPromise t part s) (Unit {0}) (held ws) ws r ws′
 
 pub dullavane-settings-only : {ws part : List ℕ} {r r₂ : ℕ} {ws′ ws₂ : List ℕ} → SettingsCalled ws part r ws′ → SettingsCalled ws part r₂ ws₂ → (r ≡ r₂) × (ws′ ≡ ws₂)
-dullavane-settings-only {ws} {part} a b =
-    alone-only (λ t s. SettingsPromise t part s) (λ t s s₂ x y. settings-only x y) ws _ _ _ _ (a .answer) (b .answer)
+dullavane-settings-only {ws} a b =
+    alone-only _ (λ t s s₂ x y. settings-only x y) ws _ _ _ _ (a .answer) (b .answer)
 
 pub record RequirementCalled (ws part : List ℕ) (r : ℕ) (ws′ : List ℕ) : Type 0 where
   pub answer : Called (λ t s. RequirementPromise t part s) (Unit {0}) (held ws) ws r ws′
 
 pub dullavane-requirement-only : {ws part : List ℕ} {r r₂ : ℕ} {ws′ ws₂ : List ℕ} → RequirementCalled ws part r ws′ → RequirementCalled ws part r₂ ws₂ → (r ≡ r₂) × (ws′ ≡ ws₂)
-dullavane-requirement-only {ws} {part} a b =
-    alone-only (λ t s. RequirementPromise t part s) (λ t s s₂ x y. requirement-only x y) ws _ _ _ _ (a .answer) (b .answer)
+dullavane-requirement-only {ws} a b =
+    alone-only _ (λ t s s₂ x y. requirement-only x y) ws _ _ _ _ (a .answer) (b .answer)
 
 -- ---- a frequency record
 module _ (ws part fs : List ℕ) (ms ps ns gs : List ℤ) where
@@ -119,7 +119,7 @@ module _ (ws part fs : List ℕ) (ms ps ns gs : List ℤ) where
   pub dullavane-frequency-only : {r r₂ : ℕ} {ws′ ws₂ fs′ fs₂ : List ℕ} {ms′ ps′ ns′ gs′ ms₂ ps₂ ns₂ gs₂ : List ℤ} → FrequencyCalled r ws′ fs′ ms′ ps′ ns′ gs′ → FrequencyCalled r₂ ws₂ fs₂ ms₂ ps₂ ns₂ gs₂ → (r ≡ r₂) × (ws′ ≡ ws₂) × ((fs′ ≡ fs₂) × (ms′ ≡ ms₂) × (ps′ ≡ ps₂) × (ns′ ≡ ns₂) × (gs′ ≡ gs₂))
   dullavane-frequency-only {fs′ = fs′} {fs₂ = fs₂} {ms′ = ms′} {ps′ = ps′} {ns′ = ns′} {gs′ = gs′} {ms₂ = ms₂} {ps₂ = ps₂} {ns₂ = ns₂} {gs₂ = gs₂} a b =
       called-only (FrequencyCall fs′ ms′ ps′ ns′ gs′) (FrequencyCall fs₂ ms₂ ps₂ ns₂ gs₂) (FrequencyKept fs′ ms′ ps′ ns′ gs′) (FrequencyKept fs₂ ms₂ ps₂ ns₂ gs₂) ((fs′ ≡ fs₂) × (ms′ ≡ ms₂) × (ps′ ≡ ps₂) × (ns′ ≡ ns₂) × (gs′ ≡ gs₂))
-      (λ t s s₂ x y. let o = frequency-only t part fs ms ps ns gs x y in (o .0, (o .1, o .2, o .3, o .4, o .5)))
+      (λ t s s₂ x y. let o = frequency-only _ _ _ _ _ _ _ x y in (o .0, (o .1, o .2, o .3, o .4, o .5)))
       (λ x y. (x .0 ∙ sym (y .0), x .1 ∙ sym (y .1), x .2 ∙ sym (y .2), x .3 ∙ sym (y .3), x .4 ∙ sym (y .4)))
       ws _ _ _ _ (held ws) (a .answer) (b .answer)
 
@@ -137,6 +137,6 @@ module _ (ws part : List ℕ) (rs ds ms ps ns : List ℤ) (us qs : List ℕ) (xs
   pub dullavane-unit-only : {r r₂ : ℕ} {ws′ ws₂ : List ℕ} {rs′ ds′ ps′ ns′ rs₂ ds₂ ps₂ ns₂ : List ℤ} {us′ qs′ us₂ qs₂ : List ℕ} {xs′ ys′ fs′ xs₂ ys₂ fs₂ : List ℤ} → UnitCalled r ws′ rs′ ds′ ps′ ns′ us′ qs′ xs′ ys′ fs′ → UnitCalled r₂ ws₂ rs₂ ds₂ ps₂ ns₂ us₂ qs₂ xs₂ ys₂ fs₂ → (r ≡ r₂) × (ws′ ≡ ws₂) × ((rs′ ≡ rs₂) × (ds′ ≡ ds₂) × (ps′ ≡ ps₂) × (ns′ ≡ ns₂) × (us′ ≡ us₂) × (qs′ ≡ qs₂) × (xs′ ≡ xs₂) × (ys′ ≡ ys₂) × (fs′ ≡ fs₂))
   dullavane-unit-only {rs′ = rs′} {ds′ = ds′} {ps′ = ps′} {ns′ = ns′} {rs₂ = rs₂} {ds₂ = ds₂} {ps₂ = ps₂} {ns₂ = ns₂} {us′ = us′} {qs′ = qs′} {us₂ = us₂} {qs₂ = qs₂} {xs′ = xs′} {ys′ = ys′} {fs′ = fs′} {xs₂ = xs₂} {ys₂ = ys₂} {fs₂ = fs₂} a b =
       called-only (UnitCall rs′ ds′ ps′ ns′ us′ qs′ xs′ ys′ fs′) (UnitCall rs₂ ds₂ ps₂ ns₂ us₂ qs₂ xs₂ ys₂ fs₂) (UnitKept rs′ ds′ ps′ ns′ us′ qs′ xs′ ys′ fs′) (UnitKept rs₂ ds₂ ps₂ ns₂ us₂ qs₂ xs₂ ys₂ fs₂) ((rs′ ≡ rs₂) × (ds′ ≡ ds₂) × (ps′ ≡ ps₂) × (ns′ ≡ ns₂) × (us′ ≡ us₂) × (qs′ ≡ qs₂) × (xs′ ≡ xs₂) × (ys′ ≡ ys₂) × (fs′ ≡ fs₂))
-      (λ t s s₂ x y. let o = unit-only t part rs ds ms ps ns us qs xs ys fs x y in (o .0, (o .1, o .2, o .3, o .4, o .5, o .6, o .7, o .8, o .9)))
+      (λ t s s₂ x y. let o = unit-only _ _ _ _ _ _ _ _ _ _ _ _ x y in (o .0, (o .1, o .2, o .3, o .4, o .5, o .6, o .7, o .8, o .9)))
       (λ x y. (x .0 ∙ sym (y .0), x .1 ∙ sym (y .1), x .2 ∙ sym (y .2), x .3 ∙ sym (y .3), x .4 ∙ sym (y .4), x .5 ∙ sym (y .5), x .6 ∙ sym (y .6), x .7 ∙ sym (y .7), x .8 ∙ sym (y .8)))
       ws _ _ _ _ (held ws) (a .answer) (b .answer)

@@ -116,11 +116,11 @@ narrowed u q k s l p e =
 -- words that hold a tally are eight at least
 pub held-long : (ws : List ℕ) (t : Tally) → held ws ≡ taken t → tally-words ≤ length ws
 unfolding held
-held-long ws t e = go (leb tally-words (length ws)) refl e
+held-long ws t e = go (leb tally-words (length ws)) _ refl e
   where
-    go : (x : Bool) → leb tally-words (length ws) ≡ x → unless x TooShort (unless (words-fit ws) OutOfTurn (taken (tally-of ws))) ≡ taken t → tally-words ≤ length ws
-    go true l e = leb-true _ _ l
-    go false l e = let z : _≡_ {A = ℕ} 0 1 = cc in omega arith
+    go : (x : Bool) (rest : Reply Tally) → leb tally-words (length ws) ≡ x → unless x TooShort rest ≡ taken t → tally-words ≤ length ws
+    go true rest l e = leb-true _ _ l
+    go false rest l e = let z : _≡_ {A = ℕ} 0 1 = cc in omega arith
 
 -- what is held is known by its answer
 pub held-is : (y : Reply Tally) {t : Tally} → h.the-variants.Is t ≡ held-as y → y ≡ taken t
