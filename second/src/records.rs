@@ -13,7 +13,7 @@ fn marks(good: &[bool; POINTS]) -> String {
     good.iter().map(|&good| if good { '1' } else { '0' }).collect()
 }
 
-fn hex_bytes(word: &str) -> Option<Vec<u8>> {
+pub fn hex_bytes(word: &str) -> Option<Vec<u8>> {
     if word == "-" {
         return Some(Vec::new());
     }

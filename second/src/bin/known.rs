@@ -6,6 +6,7 @@
 use std::fs;
 use std::path::Path;
 use std::process::ExitCode;
+use std::sync::atomic::{AtomicUsize, Ordering};
 
 use second::library::{announcement, library_command, library_output};
 use second::listing::settle;
@@ -15,7 +16,7 @@ use second::{sweep, vectors, worked, write};
 
 const WORKED: &str = "tests/worked";
 const VECTORS: &str = "tests/vectors";
-const MOST_NAMED: i32 = 40;
+const MOST_NAMED: usize = 40;
 
 /// A program's name, and what it prints for a book.
 struct Program {
@@ -28,7 +29,8 @@ impl Program {
         let Some(command) = &self.command else {
             return Ok(settle(bytes));
         };
-        let scratch = Path::new("target").join(format!("known-{}", std::process::id()));
+        let worker = format!("{:?}", std::thread::current().id()).replace(['(', ')'], "-");
+        let scratch = Path::new("target").join(format!("known-{}-{worker}", std::process::id()));
         let output = library_output(command, bytes, &scratch);
         let _ = fs::remove_file(&scratch);
         String::from_utf8(output?).map_err(|_| "output is no text".to_string())
@@ -61,6 +63,55 @@ fn check_trial(program: &Program, trial: &Trial) -> Result<(), String> {
     }
 }
 
+/// A book whose answer is known, and the test of what a program prints for it.
+struct Known {
+    name: String,
+    check: Box<dyn Fn(&Program) -> Result<(), String> + Sync>,
+}
+
+fn all_known() -> Vec<Known> {
+    let mut all = Vec::new();
+    for worked in worked::all() {
+        let name = worked.name;
+        all.push(Known {
+            name: name.to_string(),
+            check: Box::new(move |program| check_worked(program, name)),
+        });
+    }
+    for vector in vectors::all(Path::new(VECTORS)) {
+        let name = vector.name.to_string();
+        let check = move |program: &Program| {
+            let output = program.output(&write::to_bytes(&vector.book))?;
+            check_output(Path::new(VECTORS), &vector, &output)
+        };
+        all.push(Known { name, check: Box::new(check) });
+    }
+    for trial in sweep::all() {
+        let name = trial.name.clone();
+        all.push(Known { name, check: Box::new(move |program| check_trial(program, &trial)) });
+    }
+    all
+}
+
+/// Every known book through a program, as many at a time as there are processors.
+fn failures(program: &Program, all: &[Known]) -> Vec<String> {
+    let workers = std::thread::available_parallelism().map_or(1, |workers| workers.get());
+    let next = AtomicUsize::new(0);
+    let work = || {
+        let mut failed = Vec::new();
+        while let Some(known) = all.get(next.fetch_add(1, Ordering::Relaxed)) {
+            if let Err(what) = (known.check)(program) {
+                failed.push(format!("FAILED {} on {}: {what}", program.name, known.name));
+            }
+        }
+        failed
+    };
+    std::thread::scope(|scope| {
+        let running: Vec<_> = (0..workers).map(|_| scope.spawn(work)).collect();
+        running.into_iter().flat_map(|worker| worker.join().expect("a worker")).collect()
+    })
+}
+
 fn main() -> ExitCode {
     fs::create_dir_all("target").expect("run from the top of the repository");
     let command = library_command();
@@ -69,31 +120,11 @@ fn main() -> ExitCode {
     if command.is_some() {
         programs.push(Program { name: "library", command });
     }
-    let (mut passed, mut failed) = (0, 0);
-    let mut count = |program: &Program, name: &str, result: Result<(), String>| match result {
-        Ok(()) => passed += 1,
-        Err(what) => {
-            failed += 1;
-            if failed <= MOST_NAMED {
-                println!("FAILED {} on {name}: {what}", program.name);
-            }
-        }
-    };
-    let dir = Path::new(VECTORS);
-    for program in &programs {
-        for worked in worked::all() {
-            count(program, worked.name, check_worked(program, worked.name));
-        }
-        for vector in vectors::all(dir) {
-            let output = program.output(&write::to_bytes(&vector.book));
-            count(program, vector.name, output.and_then(|output| check_output(dir, &vector, &output)));
-        }
-        for trial in sweep::all() {
-            count(program, &trial.name, check_trial(program, &trial));
-        }
-    }
-    println!("known: {passed} passed, {failed} failed");
-    if failed == 0 {
+    let all = all_known();
+    let failed: Vec<String> = programs.iter().flat_map(|program| failures(program, &all)).collect();
+    failed.iter().take(MOST_NAMED).for_each(|line| println!("{line}"));
+    println!("known: {} passed, {} failed", programs.len() * all.len() - failed.len(), failed.len());
+    if failed.is_empty() {
         ExitCode::SUCCESS
     } else {
         ExitCode::FAILURE

@@ -1,0 +1,480 @@
+//! Scripts of random calls for the model in `boundary` and for the library's own boundary: chains over
+//! made books that are disturbed on the way, and tallies and lent numbers of any kind.
+
+use std::io::Write;
+
+use crate::book::*;
+use crate::boundary::*;
+use crate::chance::Chance;
+use crate::damage::damage;
+use crate::make::{make, CLASSES};
+use crate::quantities::*;
+use crate::write::to_bytes;
+
+const RECORD_CALLS: [&str; 4] = ["settings", "frequency", "unit", "requirement"];
+const SMALL_ROSTERS: [usize; 9] = [0, 1, 1, 2, 2, 3, 5, 7, 13];
+
+/// The bytes of a made book, and how many units and requirements it has.
+struct Made {
+    bytes: Vec<u8>,
+    units: usize,
+    requirements: usize,
+}
+
+impl Made {
+    /// Where the record that comes after so many others starts, its size and its call.
+    fn record(&self, records: usize) -> (usize, usize, &'static str) {
+        let units_from = 1 + REGIONS;
+        let requirements_from = units_from + self.units;
+        if records == 0 {
+            (CONTENTS_SIZE, SETTINGS_SIZE, "settings")
+        } else if records < units_from {
+            (FREQUENCIES_AT + FREQUENCY_SIZE * (records - 1), FREQUENCY_SIZE, "frequency")
+        } else if records < requirements_from {
+            (UNITS_AT + UNIT_SIZE * (records - units_from), UNIT_SIZE, "unit")
+        } else {
+            let body = UNITS_AT + UNIT_SIZE * self.units;
+            (body + REQUIREMENT_SIZE * (records - requirements_from), REQUIREMENT_SIZE, "requirement")
+        }
+    }
+
+    fn records(&self) -> usize {
+        1 + REGIONS + self.units + self.requirements
+    }
+
+    /// Any record that this call takes; None where the book has no unit.
+    fn any_of(&self, chance: &mut Chance, kind: &str) -> Option<usize> {
+        let first = (0..self.records()).find(|&place| self.record(place).2 == kind)?;
+        let count = (0..self.records()).filter(|&place| self.record(place).2 == kind).count();
+        Some(first + chance.place(count))
+    }
+}
+
+/// The bytes from a place on, as many as there are.
+fn part(bytes: &[u8], start: usize, length: usize) -> &[u8] {
+    let start = start.min(bytes.len());
+    &bytes[start..(start + length).min(bytes.len())]
+}
+
+fn hex(bytes: &[u8]) -> String {
+    if bytes.is_empty() {
+        return "-".to_string();
+    }
+    bytes.iter().map(|byte| format!("{byte:02x}")).collect()
+}
+
+fn words(numbers: &[i128]) -> String {
+    numbers.iter().map(|number| number.to_string()).collect::<Vec<_>>().join(" ")
+}
+
+/// How many numbers of a list a book of so many units needs.
+fn needed(name: &str, units: usize) -> usize {
+    match name {
+        "tally" => TALLY_WORDS,
+        "frequencies" | "readings" | "deviations" => POINTS,
+        "measures" | "positive" | "negative" => SERIES,
+        "figures" => FIGURES_OF_A_REGION * REGIONS,
+        "numbers" | "places" | "raise" | "lower" => units,
+        "defaults" => 6 * units,
+        "reply" => REPLY_WORDS,
+        _ => units + 1,
+    }
+}
+
+/// A script on its way out, with the model run along so that the next line can fit.
+pub struct Script<W: Write> {
+    chance: Chance,
+    lent: Lent,
+    out: W,
+    answers: bool,
+    pub calls: usize,
+}
+
+impl<W: Write> Script<W> {
+    pub fn new(seed: u64, answers: bool, out: W) -> Script<W> {
+        Script { chance: Chance::new(seed), lent: Lent::default(), out, answers, calls: 0 }
+    }
+
+    fn say(&mut self, line: String) {
+        script_line(&mut self.lent, &line);
+        writeln!(self.out, "{line}").expect("a script that can be written");
+    }
+
+    fn call(&mut self, kind: &str, part: &[u8]) -> u8 {
+        writeln!(self.out, "call {kind} {}", hex(part)).expect("a script that can be written");
+        self.calls += 1;
+        self.lent.call(kind, part)
+    }
+
+    fn put(&mut self, name: &str, place: usize, numbers: &[i128]) {
+        if !numbers.is_empty() {
+            self.say(format!("put {name} {place} {}", words(numbers)));
+        }
+    }
+
+    /// Any number that the list's type can hold, or one next to nothing.
+    fn any_number(&mut self, name: &str) -> i128 {
+        let &(_, lowest, highest) = NAMES.iter().find(|(known, ..)| *known == name).expect("a list");
+        let drawn = self.chance.between(lowest, highest);
+        let small = self.chance.any_size(highest);
+        self.chance.pick(&[lowest, highest, drawn, drawn, small, small, 0, 1])
+    }
+
+    fn made_book(&mut self) -> Made {
+        let (class, _) = self.chance.pick(&CLASSES);
+        let large = self.chance.pick(&[40, 76, 512]);
+        let small = self.chance.pick(&SMALL_ROSTERS);
+        let roster = if self.chance.one_in(150) { large } else { small };
+        let mut book = make(self.chance.draw(), class, Some(roster)).expect("a class of the list");
+        let most = self.chance.pick(&[1, 1, 2, 3, 32]);
+        book.requirements.truncate(most);
+        Made { bytes: to_bytes(&book), units: roster, requirements: book.requirements.len() }
+    }
+
+    /// Every list lent anew, exactly as long as it has to be or longer, all of one number.
+    fn lend_all(&mut self, units: usize) {
+        for (name, ..) in NAMES {
+            let more = self.chance.pick(&[0, 0, 0, 1, 5]);
+            let number = self.any_number(name);
+            self.say(format!("list {name} {} {number}", needed(name, units) + more));
+        }
+    }
+
+    fn tally_words(&self) -> Vec<i128> {
+        self.lent.list("tally").numbers[..TALLY_WORDS].to_vec()
+    }
+
+    /// The record with nothing after it, or with some of what follows; the last one alone.
+    fn honest_part(&mut self, made: &Made, records: usize) -> Vec<u8> {
+        let (start, size, _) = made.record(records);
+        let more = self.chance.pick(&[0, 0, 0, 1, 24, 400]);
+        part(&made.bytes, start, size + more).to_vec()
+    }
+
+    /// A whole book in turn, disturbed before each record.
+    fn chain(&mut self) {
+        let made = self.made_book();
+        self.lend_all(made.units);
+        self.call("contents", part(&made.bytes, 0, CONTENTS_SIZE));
+        let disturbed_one_in = if made.units > 20 { 20 } else { 2 };
+        let mut refused = 0;
+        for records in 0..made.records() {
+            while self.chance.one_in(disturbed_one_in) {
+                self.disturb(&made, records);
+            }
+            let honest = self.honest_part(&made, records);
+            refused += i32::from(self.call(made.record(records).2, &honest) != 0);
+            if refused > 3 {
+                return;
+            }
+        }
+        for _ in 0..self.chance.between(0, 4) {
+            self.disturb(&made, made.records() - 1);
+        }
+        self.ask(&made);
+    }
+
+    /// An answer, mostly to a requirement of the book.
+    fn ask(&mut self, made: &Made) {
+        if !self.answers {
+            return;
+        }
+        for _ in 0..self.chance.between(1, 3) {
+            let place = made.any_of(&mut self.chance, "requirement").expect("a requirement");
+            let bytes = self.honest_part(made, place);
+            self.call("answer", &bytes);
+        }
+    }
+
+    /// One call that goes, or may go, wrong: of the record whose turn it is, or for an answer.
+    fn disturb(&mut self, made: &Made, records: usize) {
+        let asked = self.answers && records >= 1 + REGIONS + made.units && self.chance.one_in(2);
+        let (start, size, turn) = made.record(records);
+        let kind = if asked { "answer" } else { turn };
+        let honest = self.honest_part(made, records);
+        match self.chance.place(10) {
+            0 | 1 => {
+                let broken = self.broken(made, start, size);
+                let before = self.tally_words();
+                self.call(kind, &broken);
+                self.put("tally", 0, &before);
+            }
+            2 => {
+                let length = self.chance.place(size);
+                self.call(kind, &honest[..length.min(honest.len())]);
+            }
+            3 => self.call_with_another_record(made, kind),
+            4 => self.call_out_of_turn(made, kind, &honest),
+            5 => self.call_with_a_short_list(kind, &honest),
+            6 => self.call_with_a_word_off(kind, &honest),
+            7 => self.call_with_a_number_off(kind, &honest),
+            8 => {
+                let before = self.tally_words();
+                self.call(kind, &[part(&made.bytes, start, size), &[0]].concat());
+                self.put("tally", 0, &before);
+            }
+            // Before the last unit an answer is out of turn, which need not be tried often.
+            _ if asked || self.chance.one_in(8) => self.ask(made),
+            _ => {}
+        }
+    }
+
+    /// The record out of a damaged book, damaged itself unless chance is against it.
+    fn broken(&mut self, made: &Made, start: usize, size: usize) -> Vec<u8> {
+        let whole = part(&made.bytes, start, size);
+        for _ in 0..30 {
+            let bytes = damage(self.chance.draw(), &made.bytes);
+            let broken = part(&bytes, start, size);
+            if broken.len() == size && broken != whole {
+                return broken.to_vec();
+            }
+        }
+        whole.to_vec()
+    }
+
+    fn call_with_another_record(&mut self, made: &Made, kind: &str) {
+        let other = self.chance.pick(&RECORD_CALLS);
+        let length = self.chance.place(400);
+        let bytes = match made.any_of(&mut self.chance, other) {
+            Some(place) if other != kind => self.honest_part(made, place),
+            _ => (0..length).map(|_| self.chance.draw() as u8).collect(),
+        };
+        let before = self.tally_words();
+        self.call(kind, &bytes);
+        self.put("tally", 0, &before);
+    }
+
+    fn call_out_of_turn(&mut self, made: &Made, kind: &str, honest: &[u8]) {
+        let other = self.chance.pick(&RECORD_CALLS);
+        if other == kind {
+            // The table of contents begins a new chain, if its bytes are a table.
+            let length = self.chance.pick(&[0, 8, CONTENTS_SIZE - 1, CONTENTS_SIZE, CONTENTS_SIZE + 1]);
+            let broken = damage(self.chance.draw(), &made.bytes);
+            let before = self.tally_words();
+            self.call("contents", part(&broken, 0, length));
+            self.put("tally", 0, &before);
+            return;
+        }
+        let own = made.any_of(&mut self.chance, other).map(|place| self.honest_part(made, place));
+        let bytes = if self.chance.one_in(3) { None } else { own };
+        self.call(other, &bytes.unwrap_or(honest.to_vec()));
+    }
+
+    fn call_with_a_short_list(&mut self, kind: &str, honest: &[u8]) {
+        let name = self.chance.pick(lists_of(kind));
+        let lent = self.lent.list(name).lent;
+        if lent == 0 {
+            return;
+        }
+        let any = self.chance.place(lent);
+        let shorter = self.chance.pick(&[lent - 1, lent - 1, any, lent.saturating_sub(6)]);
+        let before = self.tally_words();
+        self.say(format!("lend {name} {shorter}"));
+        let cut = if self.chance.one_in(4) { honest.len() / 2 } else { honest.len() };
+        self.call(kind, &honest[..cut]);
+        self.say(format!("lend {name} {lent}"));
+        self.put("tally", 0, &before);
+    }
+
+    fn call_with_a_word_off(&mut self, kind: &str, honest: &[u8]) {
+        let before = self.tally_words();
+        for _ in 0..self.chance.pick(&[1, 1, 1, 2]) {
+            let place = self.chance.place(TALLY_WORDS);
+            let word = self.word(place, before[place]);
+            self.put("tally", place, &[word]);
+        }
+        let cut = if self.chance.one_in(4) { honest.len() / 2 } else { honest.len() };
+        self.call(kind, &honest[..cut]);
+        self.put("tally", 0, &before);
+    }
+
+    /// A word of the tally around its limit, its width, or what it was.
+    fn word(&mut self, place: usize, before: i128) -> i128 {
+        let limit = [512, 32, before, 65_536, 10_000, 75, 100, 0][place];
+        let width = [16, 16, 16, 32, 16, 8, 8, 32][place];
+        let drawn = self.chance.between(0, u32::MAX as i128);
+        let field = 1i128 << width;
+        let near = [before - 1, before + 1, limit - 1, limit, limit + 1, 0, 1];
+        let wide = [before + field, field - 1, field, drawn, u32::MAX as i128];
+        let near = self.chance.pick(&near);
+        let wide = self.chance.pick(&wide);
+        self.chance.pick(&[near, near, wide]).clamp(0, u32::MAX as i128)
+    }
+
+    /// The largest size that a lent number may have.
+    fn limit_of(&self, name: &str, place: usize) -> i128 {
+        let tally = Tally::from_words(&self.tally_words());
+        match name {
+            "measures" => MEASURE_LIMIT,
+            "positive" | "negative" => DEVIATION_LIMIT * tally.units_taken().clamp(0, UNITS_LIMIT),
+            "places" => 9,
+            "raise" | "lower" => PERFORMANCE_LIMIT,
+            "defaults" => -UNIT_DEFAULT_LOWEST,
+            "figures" => match place % FIGURES_OF_A_REGION {
+                0 => GENERATION_LIMIT,
+                1 | 2 => 1,
+                _ => -RESIDUAL_DEFAULT_LOWEST,
+            },
+            _ => 0,
+        }
+    }
+
+    /// A number at its limit, one over it, or of any kind.
+    fn number_off(&mut self, name: &str, place: usize) -> i128 {
+        let limit = self.limit_of(name, place);
+        let any = self.any_number(name);
+        let off = self.chance.pick(&[limit, -limit, limit + 1, -limit - 1, any, 1, -1]);
+        if name == "places" {
+            off.rem_euclid(256)
+        } else {
+            off
+        }
+    }
+
+    fn call_with_a_number_off(&mut self, kind: &str, honest: &[u8]) {
+        let name = self.chance.pick(lists_of(kind));
+        let lent = self.lent.list(name).lent;
+        if name == "tally" || name == "frequencies" || name == "readings" || lent == 0 {
+            return;
+        }
+        // In the series of the region that the record names, every second time.
+        let region = usize::from(honest.get(2).copied().unwrap_or(0)).min(REGIONS - 1);
+        let in_region = POINTS * region + self.chance.place(POINTS);
+        let any = self.chance.place(lent);
+        let place = if lent >= SERIES && self.chance.one_in(2) { in_region } else { any };
+        let before = self.lent.list(name).numbers[place];
+        let tally = self.tally_words();
+        let off = self.number_off(name, place);
+        let off = if name == "numbers" { off.rem_euclid(65_536) } else { off };
+        self.put(name, place, &[off]);
+        let cut = self.chance.pick(&[honest.len(), honest.len(), honest.len() / 2, 2, 0]);
+        self.call(kind, &honest[..cut.min(honest.len())]);
+        self.put(name, place, &[before]);
+        self.put("tally", 0, &tally);
+    }
+
+    /// A tally that could come from a chain over a book like this, at any place in it.
+    fn likely_tally(&mut self, made: &Made) -> Vec<i128> {
+        let records = self.chance.place(made.records() + 1);
+        let drawn = self.chance.between(0, 65_536);
+        let smoothing = self.chance.between(1, 10_000);
+        vec![
+            made.units as i128,
+            made.requirements as i128,
+            records as i128,
+            self.chance.pick(&[0, 0, 0, 0, 1, 65_535, 65_536, drawn]),
+            self.chance.pick(&[1, 2_222, 5_000, 10_000, smoothing]),
+            self.chance.pick(&[0, 10, 75]),
+            self.chance.pick(&[0, 20, 50, 100]),
+            self.chance.between(0, u32::MAX as i128),
+        ]
+    }
+
+    /// Lent numbers within their limits, in every list that a call reads.
+    fn likely_numbers(&mut self, made: &Made, taken: i128) {
+        let measure_reach = self.chance.pick(&[20_000, 20_000, MEASURE_LIMIT]);
+        let measures: Vec<i128> =
+            (0..SERIES).map(|_| self.chance.between(-measure_reach, measure_reach)).collect();
+        self.put("measures", 0, &measures);
+        for (name, sign) in [("positive", 1), ("negative", -1)] {
+            let most = DEVIATION_LIMIT * taken.max(0) / self.chance.pick(&[1, REGIONS as i128, 5_000]);
+            let sums: Vec<i128> = (0..SERIES).map(|_| sign * self.chance.any_size(most)).collect();
+            self.put(name, 0, &sums);
+        }
+        for region in 0..REGIONS {
+            let mut figures = vec![self.chance.any_size(GENERATION_LIMIT)];
+            figures.extend((0..2).map(|_| i128::from(!self.chance.one_in(8))));
+            figures.extend((0..6).map(|_| -self.chance.any_size(-RESIDUAL_DEFAULT_LOWEST)));
+            self.put("figures", FIGURES_OF_A_REGION * region, &figures);
+        }
+        let rows = made.units;
+        let bad_one_in = self.chance.pick(&[3, 10, 100]);
+        let places: Vec<i128> = (0..rows)
+            .map(|_| 2 * self.chance.between(0, 4) + i128::from(!self.chance.one_in(bad_one_in)))
+            .collect();
+        self.put("places", 0, &places);
+        for name in ["raise", "lower"] {
+            let sizes: Vec<i128> = (0..rows)
+                .map(|_| self.chance.pick(&[1, -1]) * self.chance.any_size(PERFORMANCE_LIMIT))
+                .collect();
+            self.put(name, 0, &sizes);
+        }
+        let defaults: Vec<i128> =
+            (0..6 * rows).map(|_| -self.chance.any_size(-UNIT_DEFAULT_LOWEST)).collect();
+        self.put("defaults", 0, &defaults);
+    }
+
+    /// Tallies and lent numbers that no chain has left.
+    fn arbitrary(&mut self) {
+        let made = self.made_book();
+        self.lend_all(made.units);
+        for _ in 0..self.chance.between(3, 8) {
+            let tally = self.likely_tally(&made);
+            let records = tally[2] as usize;
+            self.put("tally", 0, &tally);
+            if !self.chance.one_in(5) {
+                self.likely_numbers(&made, records as i128 - 1 - REGIONS as i128);
+            }
+            let turn = records.min(made.records() - 1);
+            for _ in 0..self.chance.between(1, 4) {
+                self.disturb(&made, turn);
+                let honest = self.honest_part(&made, turn);
+                self.call(made.record(turn).2, &honest);
+                if turn >= 1 + REGIONS + made.units {
+                    self.ask(&made);
+                }
+            }
+            if self.chance.one_in(4) {
+                let any: Vec<i128> = (0..TALLY_WORDS).map(|_| self.any_number("tally")).collect();
+                self.put("tally", 0, &any);
+                let kind = self.chance.pick(&RECORD_CALLS);
+                let honest = self.honest_part(&made, turn);
+                self.call(kind, &honest);
+            }
+        }
+    }
+
+    /// The most that may be kept of a full roster, and sums of the wrong sign that no chain leaves: the
+    /// weights of an answer come up to their limit or pass it.
+    fn heaviest(&mut self) {
+        let units = UNITS_LIMIT as usize;
+        let mut book = make(self.chance.draw(), "heavy", Some(1)).expect("a class of the list");
+        book.requirements.iter_mut().for_each(|requirement| requirement.region_set |= 16 + 8 + 4 + 2);
+        let made = Made { bytes: to_bytes(&book), units: 1, requirements: book.requirements.len() };
+        self.lend_all(units);
+        let words = [UNITS_LIMIT, 1, 6 + UNITS_LIMIT + self.chance.between(0, 1), 0, 10_000, 75, 100, 7];
+        self.put("tally", 0, &words);
+        let measure = self.chance.pick(&[MEASURE_LIMIT, -MEASURE_LIMIT]);
+        self.say(format!("list measures {SERIES} {measure}"));
+        let both = self.chance.pick(&[1, -1]);
+        for name in ["positive", "negative"] {
+            let sum = self.chance.pick(&[both, both, both, -both, 0]) * DEVIATION_LIMIT * UNITS_LIMIT
+                / REGIONS as i128;
+            self.say(format!("list {name} {SERIES} {sum}"));
+        }
+        let figures = [GENERATION_LIMIT, 1, 1].into_iter().chain([RESIDUAL_DEFAULT_LOWEST; 6]);
+        let figures: Vec<i128> = figures.cycle().take(FIGURES_OF_A_REGION * REGIONS).collect();
+        self.put("figures", 0, &figures);
+        let place = self.chance.between(0, 9);
+        self.say(format!("list places {units} {place}"));
+        for name in ["raise", "lower"] {
+            let size = self.chance.pick(&[PERFORMANCE_LIMIT, -PERFORMANCE_LIMIT]);
+            self.say(format!("list {name} {units} {size}"));
+        }
+        self.say(format!("list defaults {} {UNIT_DEFAULT_LOWEST}", 6 * units));
+        self.ask(&made);
+    }
+
+    /// Sequences until there are so many calls.
+    pub fn write(&mut self, calls: usize) {
+        while self.calls < calls {
+            if self.answers && self.chance.one_in(10) {
+                self.heaviest();
+            } else if self.chance.one_in(2) {
+                self.chain();
+            } else {
+                self.arbitrary();
+            }
+        }
+    }
+}

@@ -1,0 +1,179 @@
+/* Reads a script of calls (second/README.md, Lines of `calls`) and prints of each call what the library replies and leaves. The C
+   library's functions and the calls are declared here by hand, so that the kit's own compiler builds this with no header. */
+typedef unsigned char u8;
+typedef unsigned short u16;
+typedef unsigned int u32;
+typedef unsigned long u64;
+typedef int i32;
+typedef long i64;
+extern int getchar(void);
+extern int printf(const char *form, ...);
+extern void exit(int status);
+extern int strcmp(const char *a, const char *b);
+
+extern u32 dullavane_contents(const u8 *part, u64 bytes, u32 *tally, u64 words);
+extern u32 dullavane_settings(u32 *tally, u64 words, const u8 *part, u64 bytes);
+extern u32 dullavane_frequency(u32 *tally, u64 words, const u8 *part, u64 bytes, u32 *frequencies, u64, i64 *measures, u64, i64 *positive, u64,
+                               i64 *negative, u64, i64 *figures, u64);
+extern u32 dullavane_unit(u32 *tally, u64 words, const u8 *part, u64 bytes, i32 *readings, u64, i64 *deviations, u64, i64 *measures, u64,
+                          i64 *positive, u64, i64 *negative, u64, u16 *numbers, u64, u8 *places, u64, i64 *raise, u64, i64 *lower, u64,
+                          i64 *defaults, u64);
+extern u32 dullavane_requirement(u32 *tally, u64 words, const u8 *part, u64 bytes);
+#ifdef ANSWERS
+extern u32 dullavane_answer(u32 *tally, u64 words, const u8 *part, u64 bytes, i64 *measures, u64, i64 *positive, u64, i64 *negative, u64,
+                            i64 *figures, u64, u8 *places, u64, i64 *raise, u64, i64 *lower, u64, i64 *defaults, u64, i64 *performances, u64,
+                            i64 *factors, u64, i64 *payments, u64, i64 *used, u64, i64 *unused, u64, u64 *reply, u64);
+#endif
+
+enum { TALLY, FREQUENCIES, READINGS, DEVIATIONS, MEASURES, POSITIVE, NEGATIVE, FIGURES, NUMBERS, PLACES, RAISE, LOWER, DEFAULTS,
+       PERFORMANCES, FACTORS, PAYMENTS, USED, UNUSED, REPLY, LISTS };
+enum { MOST = 6 * 512 + 64, BEHIND = 3, LONGEST_WORD = 1 << 14 };
+
+/* A list: the bytes of one of its numbers, whether they have a sign, how many are lent, how many stand there. */
+static struct { const char *name; u32 width, sign; u64 lent, there; } lists[LISTS] = {
+    {"tally", 4, 0, 0, 0},      {"frequencies", 4, 0, 0, 0}, {"readings", 4, 1, 0, 0}, {"deviations", 8, 1, 0, 0}, {"measures", 8, 1, 0, 0},
+    {"positive", 8, 1, 0, 0},   {"negative", 8, 1, 0, 0},    {"figures", 8, 1, 0, 0},  {"numbers", 2, 0, 0, 0},    {"places", 1, 0, 0, 0},
+    {"raise", 8, 1, 0, 0},      {"lower", 8, 1, 0, 0},       {"defaults", 8, 1, 0, 0}, {"performances", 8, 1, 0, 0},
+    {"factors", 8, 1, 0, 0},    {"payments", 8, 1, 0, 0},    {"used", 8, 1, 0, 0},     {"unused", 8, 1, 0, 0},     {"reply", 8, 0, 0, 0}};
+static u64 room[LISTS][MOST];
+static char word[LONGEST_WORD];
+static u8 part[LONGEST_WORD / 2];
+
+static void stop(const char *why) {
+    printf("bad script: %s %s\n", why, word);
+    exit(1);
+}
+
+/* The next word; answers whether the line goes on after it, -1 at the end of the input. */
+static int next_word(void) {
+    int n = 0, c = getchar();
+    if (c < 0) return -1;
+    for (; c >= 0 && c != ' ' && c != '\n'; c = getchar()) {
+        if (n == LONGEST_WORD - 1) stop("a long word");
+        word[n++] = (char)c;
+    }
+    word[n] = 0;
+    return c == ' ';
+}
+
+static u64 number(void) {
+    u64 size = 0;
+    for (const char *at = word + (word[0] == '-'); *at; at++) size = size * 10 + (u64)(*at - '0');
+    return word[0] == '-' ? -size : size;
+}
+
+static u64 next_number(void) {
+    next_word();
+    return number();
+}
+
+static int next_list(void) {
+    next_word();
+    for (int i = 0; i < LISTS; i++)
+        if (!strcmp(lists[i].name, word)) return i;
+    stop("no list");
+    return 0;
+}
+
+static void set(int list, u64 place, u64 value) {
+    if (place >= MOST) stop("a place");
+    if (lists[list].width == 1) ((u8 *)room[list])[place] = (u8)value;
+    else if (lists[list].width == 2) ((u16 *)room[list])[place] = (u16)value;
+    else if (lists[list].width == 4) ((u32 *)room[list])[place] = (u32)value;
+    else room[list][place] = value;
+}
+
+static u64 get(int list, u64 place) {
+    if (lists[list].width == 1) return ((u8 *)room[list])[place];
+    if (lists[list].width == 2) return ((u16 *)room[list])[place];
+    if (lists[list].width == 4) return lists[list].sign ? (u64)(i64)((i32 *)room[list])[place] : ((u32 *)room[list])[place];
+    return room[list][place];
+}
+
+static void print_list(int list) {
+    printf(" %s", lists[list].name);
+    u64 sum = 0xcbf29ce484222325ul;
+    for (u64 i = 0; i < lists[list].there; i++) {
+        if (list == TALLY) printf(" %lu", get(list, i));
+        sum = (sum ^ get(list, i)) * 0x100000001b3ul;
+    }
+    if (list != TALLY) printf(" %016lx", sum);
+}
+
+static u64 hex_digit(char c) { return (u64)(c <= '9' ? c - '0' : c - 'a' + 10); }
+
+/* The bytes of a word in hexadecimal; `-` is none. */
+static u64 take_part(void) {
+    u64 bytes = 0;
+    if (word[0] == '-') return 0;
+    for (; word[2 * bytes]; bytes++) part[bytes] = (u8)(hex_digit(word[2 * bytes]) << 4 | hex_digit(word[2 * bytes + 1]));
+    return bytes;
+}
+
+#define LENT(list) room[list], lists[list].lent
+#define LENT_AS(type, list) (type *)room[list], lists[list].lent
+#define SERIES LENT_AS(i64, MEASURES), LENT_AS(i64, POSITIVE), LENT_AS(i64, NEGATIVE)
+#define ROWS LENT_AS(u8, PLACES), LENT_AS(i64, RAISE), LENT_AS(i64, LOWER), LENT_AS(i64, DEFAULTS)
+
+static void print_call(const char *kind, u32 reply, const int *lent, int count) {
+    printf("%s %u", kind, reply);
+    for (int i = 0; i < count; i++) print_list(lent[i]);
+    printf("\n");
+}
+
+static void call(void) {
+    static const int tally[] = {TALLY};
+    static const int frequency[] = {TALLY, FREQUENCIES, MEASURES, POSITIVE, NEGATIVE, FIGURES};
+    static const int unit[] = {TALLY, READINGS, DEVIATIONS, MEASURES, POSITIVE, NEGATIVE, NUMBERS, PLACES, RAISE, LOWER, DEFAULTS};
+    char kind = 0, second = 0;
+    next_word();
+    kind = word[0];
+    second = word[1];
+    next_word();
+    u64 bytes = take_part();
+    if (kind == 'c') print_call("contents", dullavane_contents(part, bytes, LENT_AS(u32, TALLY)), tally, 1);
+    else if (kind == 's') print_call("settings", dullavane_settings(LENT_AS(u32, TALLY), part, bytes), tally, 1);
+    else if (kind == 'f')
+        print_call("frequency", dullavane_frequency(LENT_AS(u32, TALLY), part, bytes, LENT_AS(u32, FREQUENCIES), SERIES, LENT_AS(i64, FIGURES)),
+                   frequency, 6);
+    else if (kind == 'u')
+        print_call("unit", dullavane_unit(LENT_AS(u32, TALLY), part, bytes, LENT_AS(i32, READINGS), LENT_AS(i64, DEVIATIONS), SERIES,
+                                          LENT_AS(u16, NUMBERS), ROWS), unit, 11);
+    else if (kind == 'r' && second == 'e') print_call("requirement", dullavane_requirement(LENT_AS(u32, TALLY), part, bytes), tally, 1);
+#ifdef ANSWERS
+    else if (kind == 'a') {
+        static const int answer[] = {TALLY, MEASURES, POSITIVE, NEGATIVE, FIGURES, PLACES, RAISE, LOWER, DEFAULTS,
+                                     PERFORMANCES, FACTORS, PAYMENTS, USED, UNUSED, REPLY};
+        print_call("answer", dullavane_answer(LENT_AS(u32, TALLY), part, bytes, SERIES, LENT_AS(i64, FIGURES), ROWS, LENT_AS(i64, PERFORMANCES),
+                                              LENT_AS(i64, FACTORS), LENT_AS(i64, PAYMENTS), LENT_AS(i64, USED), LENT_AS(i64, UNUSED),
+                                              LENT(REPLY)), answer, 15);
+    }
+#endif
+    else stop("no call");
+}
+
+int main(void) {
+    for (int more = next_word(); more >= 0; more = next_word()) {
+        if (!strcmp(word, "call")) {
+            call();
+            continue;
+        }
+        char order = word[0] == 'p' ? 'p' : word[1];
+        int list = next_list();
+        u64 first = next_number();
+        if (order == 'e') {
+            lists[list].lent = first;
+        } else if (order == 'i') {
+            u64 value = next_number();
+            lists[list].lent = first;
+            lists[list].there = first + BEHIND;
+            for (u64 i = 0; i < first + BEHIND; i++) set(list, i, value);
+        } else {
+            for (int on = 1; on == 1;) {
+                on = next_word();
+                set(list, first++, number());
+            }
+        }
+    }
+    return 0;
+}
