@@ -1,0 +1,2 @@
+-- What the code of the answer is held to
+pub mod Pools
