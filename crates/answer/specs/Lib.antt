@@ -1,2 +1,8 @@
--- What the code of the answer is held to
+-- The answer to a requirement
 pub mod Pools
+pub mod Shares
+pub mod Promises
+pub mod Lent
+pub mod Given
+pub mod Call
+pub mod BookAnswered

@@ -5,3 +5,4 @@ pub mod Residual
 pub mod Lists
 pub mod Values
 pub mod Roster
+pub mod Sizes

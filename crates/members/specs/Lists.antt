@@ -69,3 +69,13 @@ module _ {A : Type 0} (p : ℕ → Bool) (g : ℕ → A) where
       ∙ ap (λ (l : List ℕ). map g l) (those-++ p (listed 0 n (λ i. i)) (n ∷ []))
       ∙ map-append g (those p (listed 0 n (λ i. i))) (those p (n ∷ []))
       ∙ ap (λ (l : List A). gathered p g n ++ l) (single n)
+
+  pub gathered-length : (n : ℕ) → length (gathered p g n) ≤ n
+  gathered-length zero = rw gathered-none (omega arith)
+  gathered-length (suc n) =
+      let more : gathered p g (suc n) ≡ gathered p g n ++ cond (p n) (g n ∷ []) [] = ap (λ (m : ℕ). gathered p g m) (sym (add-one n)) ∙ gathered-more n in
+      rw more (omega (arith, length-append (gathered p g n) (cond (p n) (g n ∷ []) []), last (p n), gathered-length n))
+    where
+      last : (t : Bool) → length (cond t (g n ∷ []) []) ≤ 1
+      last true = omega arith
+      last false = omega arith

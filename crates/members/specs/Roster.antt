@@ -7,14 +7,16 @@ use lib.Dec.{eqb, leb, ltb}
 use lib.IntN.{ℤ, pos}
 use lib.ListN.{length, getD}
 use lib.Signed.{leZ}
-use borrow.Author.Tests.{leb-true, ltb-true}
-use Rattle.integers.specs.Sums.{both}
+use native.Mathlib.Omega.{arith}
+use borrow.Author.Tests.{leb-true, ltb-true, le-leb, lt-ltb}
+use Rattle.integers.specs.Sums.{every, both, every-at}
 use Rattle.rules.specs.declared.Direction.{Direction}
 use Rattle.rules.specs.declared.Direction.the-variants.{Raise, Lower}
 use Rattle.rules.specs.declared.Reason.the-variants.{BadUnit}
 use Rattle.rules.specs.declared.Refusal.the-variants.{OutOfTurn, TooShort}
 use Rattle.rules.specs.declared.Standing.{Standing}
-use Rattle.rules.specs.Quantities.{regions, most-units}
+use Rattle.rules.specs.Quantities.{regions, most-units, amount-limit, residual-default-limit}
+use Rattle.rules.specs.Fields.{default-fine}
 use Rattle.rules.specs.Refusals.{Reply, taken, refused, unless}
 use Rattle.rules.specs.Bytes.{bit}
 use Rattle.rules.specs.Book.{Requirement, covers}
@@ -22,11 +24,13 @@ use Rattle.rules.specs.RequirementRecord.{set-fine}
 use Rattle.rules.specs.Standings.{standing}
 use Rattle.rules.specs.Members.{Name, unit, residual, Member as Sharer}
 use Rattle.interval.specs.Lent.{figures-each, figures-length}
-use Rattle.kept.specs.Kept.{Kept, region-of, row-standing, row-member, residual-row, rows, kept-members}
+use Rattle.kept.specs.Kept.{Kept, figure, region-of, row-standing, row-member, residual-row, rows, kept-members}
+use Rattle.kept.specs.Range.{from-0, figures-fine, rows-fine}
 use Rattle.response.specs.Promises.{asked}
 use Rattle.members.specs.declared.Row.{Row}
 use Rattle.members.specs.declared.Row.the-variants.{Unit, Other, Refused}
 use Rattle.members.specs.Made.{reliable-at, flag}
+use Rattle.members.specs.Range.{row-fine, rows-all-fine, rows-fine-is}
 use Rattle.members.specs.Lists.{gathered}
 
 -- room, by the lengths of the lists
@@ -111,3 +115,29 @@ unfolding kept-members
 walk k q =
     map-append named (map (row-member k (q .direction)) (rows k q)) (residual-row k q ∷ [])
     ∙ ap (λ (l : List Named). l ++ (named (residual-row k q) ∷ [])) (map-map named (row-member k (q .direction)) (rows k q))
+
+-- ---- of numbers in range no row is refused
+module _ (k : Kept) (q : Requirement) (i : ℕ) where
+  figure-fine : (d : Direction) → getD (k .places) i 0 < 10 → figures-fine k ≡ true → (leZ (pos 0) (getD (k .figures) (figures-each * (getD (k .places) i 0 / 2) + reliable-at d) (pos 0)) && leZ (getD (k .figures) (figures-each * (getD (k .places) i 0 / 2) + reliable-at d) (pos 0)) (pos 1)) ≡ true
+  unfolding figures-fine
+  figure-fine d l e = go d
+    where
+      r : ℕ
+      r = getD (k .places) i 0 / 2
+
+      below : r < regions
+      below = omega arith
+
+      first : (from-0 k 1 (figure k r 1) && (from-0 k 1 (figure k r 2) && every 6 (λ j. default-fine residual-default-limit (figure k r (3 + j))))) ≡ true
+      first = both (from-0 k amount-limit (figure k r 0)) _ (every-at regions _ e r below) .1
+
+      go : (d : Direction) → (leZ (pos 0) (getD (k .figures) (figures-each * r + reliable-at d) (pos 0)) && leZ (getD (k .figures) (figures-each * r + reliable-at d) (pos 0)) (pos 1)) ≡ true
+      go Raise = both (from-0 k 1 (figure k r 1)) _ first .0
+      go Lower = both (from-0 k 1 (figure k r 2)) _ (both (from-0 k 1 (figure k r 1)) _ first .1) .0
+
+  pub member-taken : (leb (k .units) most-units && set-fine (q .set)) ≡ true → i < k .units → figures-length ≤ length (k .figures) → k .units ≤ length (k .numbers) → k .units ≤ length (k .places) → figures-fine k ≡ true → rows-fine k ≡ true → member-reply k q i ≡ taken (row-of k q i)
+  unfolding member-reply rows-all-fine
+  member-taken a l fs us qs f r =
+      let row = every-at (k .units) (λ j. row-fine j (k .places) (k .raise) (k .lower) (k .defaults)) (sym (rows-fine-is k) ∙ r) i l in
+      let place = both (ltb (getD (k .places) i 0) (2 * regions)) _ row .0 in
+      rw (a, lt-ltb i (k .units) l, le-leb figures-length (length (k .figures)) fs, le-leb (k .units) (length (k .numbers)) us, le-leb (k .units) (length (k .places)) qs, place, figure-fine (q .direction) (ltb-true _ _ place) f)

@@ -17,7 +17,7 @@ use Rattle.rules.specs.declared.Direction.{Direction}
 use Rattle.rules.specs.declared.Refusal.{Refusal}
 use Rattle.rules.specs.declared.Refusal.the-variants.{OutOfTurn, TooShort}
 use Rattle.rules.specs.declared.Standing.{Standing}
-use Rattle.rules.specs.Quantities.{regions, most-units, amount-limit, performance-limit, residual-default-limit}
+use Rattle.rules.specs.Quantities.{regions, most-units, amount-limit, performance-limit, unit-default-limit, residual-default-limit}
 use Rattle.rules.specs.Refusals.{Reply, taken, refused, unless}
 use Rattle.rules.specs.Bytes.{bit}
 use Rattle.rules.specs.Book.{Requirement, covers}
@@ -30,13 +30,14 @@ use Rattle.kept.specs.Kept.{Kept, figure, row-member, residual-row, region-of, 
 use Rattle.kept.specs.Range.{from-0, figures-fine, rows-fine}
 use Rattle.response.specs.Promises.{asked}
 use Rattle.members.specs.declared.Field.{Field}
+use Rattle.members.specs.declared.Field.the-variants.{Payment}
 use Rattle.members.specs.declared.Gathered.{Gathered}
 use Rattle.members.specs.declared.Gathered.the-variants.{Are, Refused}
 use Rattle.members.specs.declared.Member.{Member}
 use Rattle.members.specs.Made.{picked, field-of, shown, field-shown, place-region, unit-made, row-shown, RowReady, residual-to, residual-shown}
 use Rattle.members.specs.Range.{kept-rows, rows-room, room-means, row-fine, rows-all-fine, rows-fine-is}
 use Rattle.members.specs.Residual.{RowsFit, RegionsFit}
-use Rattle.members.specs.Lists.{headed, headed-none, headed-more, gathered, gathered-none, gathered-more}
+use Rattle.members.specs.Lists.{headed, headed-none, headed-more, gathered, gathered-none, gathered-more, gathered-length}
 
 -- ---- room, by the lengths of the lists: the column takes one number more than there are units
 abbrev pub values-room : ℕ → ℕ → ℕ → ℕ → ℕ → ℕ → ℕ → Bool
@@ -155,6 +156,29 @@ kept-values f k q =
     each [] = refl
     each (i ∷ is) = ap₂ (λ (z : ℤ) (l : List ℤ). z ∷ l) (at i) (each is)
 
+-- one more than the units, at most
+pub members-few : (k : Kept) (q : Requirement) → length (kept-members k q) ≤ k .units + 1
+members-few k q =
+    let d = q .direction in
+    let p = meant Payment d (q .set) (k .figures) (k .places) (k .raise) (k .lower) (k .defaults) in
+    let g = row-number Payment d (q .set) (k .figures) (k .places) (k .raise) (k .lower) (k .defaults) in
+    let z = picked Payment (residual-to d (q .set) (k .units) (k .figures) (k .places) (k .raise) (k .lower) regions) in
+    omega (arith, ap length (kept-values Payment k q), length-map (kept-members k q) (field-of Payment), length-append (gathered p g (k .units)) (z ∷ []), gathered-length p g (k .units))
+
+-- the same numbers from what the call reads of what is kept
+pub values-of-kept : (f : Field) (k : Kept) (q : Requirement) → map (field-of f) (kept-members (kept-rows (k .units) (k .figures) (k .places) (k .raise) (k .lower) (k .defaults)) (asked (q .direction) (q .set))) ≡ map (field-of f) (kept-members k q)
+values-of-kept f k q = kept-values f (kept-rows (k .units) (k .figures) (k .places) (k .raise) (k .lower) (k .defaults)) (asked (q .direction) (q .set)) ∙ sym (kept-values f k q)
+
+pub many-of-kept : (k : Kept) (q : Requirement) → length (kept-members (kept-rows (k .units) (k .figures) (k .places) (k .raise) (k .lower) (k .defaults)) (asked (q .direction) (q .set))) ≡ length (kept-members k q)
+many-of-kept k q =
+    sym (length-map (kept-members (kept-rows (k .units) (k .figures) (k .places) (k .raise) (k .lower) (k .defaults)) (asked (q .direction) (q .set))) (field-of Payment))
+    ∙ ap length (values-of-kept Payment k q)
+    ∙ length-map (kept-members k q) (field-of Payment)
+
+pub last-of-kept : (k : Kept) (q : Requirement) → residual-row (kept-rows (k .units) (k .figures) (k .places) (k .raise) (k .lower) (k .defaults)) (asked (q .direction) (q .set)) .standing ≡ residual-row k q .standing
+last-of-kept k q =
+    ap (λ (m : Member). m .standing) (residual-shown (kept-rows (k .units) (k .figures) (k .places) (k .raise) (k .lower) (k .defaults)) (asked (q .direction) (q .set)) ∙ sym (residual-shown k q))
+
 -- ---- numbers in range
 default-within : (limit : ℕ) (x : ℤ) → default-fine limit x ≡ true → Within limit x
 default-within limit x e =
@@ -165,18 +189,23 @@ default-within limit x e =
 pub record Fine (units : ℕ) (fs : List ℤ) (qs : List ℕ) (xs ys ds : List ℤ) : Type 0 where
   pub rows : RowsReady units fs qs xs ys ds
   pub regions : RegionsFit units fs qs xs ys
+  pub defaults : (i f : ℕ) → i < units → f < 6 → Within unit-default-limit (getD ds (6 * i + f) (pos 0))
 
 module _ (k : Kept) (few : k .units ≤ most-units) (long : figures-length ≤ length (k .figures)) (room : rows-room (k .units) (length (k .places)) (length (k .raise)) (length (k .lower)) (length (k .defaults)) ≡ true) (fine : (figures-fine k && rows-fine k) ≡ true) where
   row-is : (i : ℕ) → i < k .units → row-fine i (k .places) (k .raise) (k .lower) (k .defaults) ≡ true
   unfolding rows-all-fine
   row-is i l = every-at (k .units) (λ i. row-fine i (k .places) (k .raise) (k .lower) (k .defaults)) (sym (rows-fine-is k) ∙ both (figures-fine k) (rows-fine k) fine .1) i l
 
-  parts : (i : ℕ) → i < k .units → (getD (k .places) i 0 < 10) × Within performance-limit (getD (k .raise) i (pos 0)) × Within performance-limit (getD (k .lower) i (pos 0))
+  parts : (i : ℕ) → i < k .units → (getD (k .places) i 0 < 10) × Within performance-limit (getD (k .raise) i (pos 0)) × Within performance-limit (getD (k .lower) i (pos 0)) × ((f : ℕ) → f < 6 → Within unit-default-limit (getD (k .defaults) (6 * i + f) (pos 0)))
   parts i l =
       let a = both (ltb (getD (k .places) i 0) (2 * regions)) _ (row-is i l) in
       let b = both (sized performance-limit (getD (k .raise) i (pos 0))) _ (a .1) in
-      let c = both (sized performance-limit (getD (k .lower) i (pos 0))) _ (b .1) in
-      (ltb-true _ _ (a .0), size-fits performance-limit _ (b .0), size-fits performance-limit _ (c .0))
+      let c = both (sized performance-limit (getD (k .lower) i (pos 0))) _ (b .1) in (
+        ltb-true _ _ (a .0),
+        size-fits performance-limit _ (b .0),
+        size-fits performance-limit _ (c .0),
+        λ f m. default-within unit-default-limit _ (every-at 6 (λ f. default-fine unit-default-limit (getD (k .defaults) (6 * i + f) (pos 0))) (c .1) f m),
+      )
 
   default-is : (r f : ℕ) → r < regions → f < 6 → Within residual-default-limit (getD (k .figures) (figures-each * r + (3 + f)) (pos 0))
   unfolding figures-fine
@@ -208,6 +237,7 @@ module _ (k : Kept) (few : k .units ≤ most-units) (long : figures-length ≤ l
           lower = record { few = few; places = m .0; room = m .2; within = λ i l. parts i l .2 };
           defaults = default-is;
         };
+        defaults = λ i f l m. parts i l .3 f m;
       }
 
 -- ---- the residual's number behind those of the rows
