@@ -1,0 +1,171 @@
+/* dullavane.h: the interval calculator, for firmware.
+
+   Every five minutes a box is sent one interval book. The firmware hands its records to the calls below one by one, in the book's order, and
+   then asks for the answer to each regulation requirement: what every plant did for grid frequency, and what it is credited or charged, to the
+   cent. The library keeps nothing between calls, allocates nothing and blocks on nothing: all that it knows of a book stands in lists that the
+   caller lends, and every call ends.
+
+   A LIST is a pointer and the number of its elements (not bytes), one argument after the other. A list may be longer than is asked for; what
+   stands past the numbers named here is neither read nor written. Two lists of one call must not overlap. Lists of int64_t are aligned to 8
+   bytes. Lengths are uint64_t on every processor, also on a 32-bit one.
+
+   A CALL returns 0, or the number of a refusal (below). After a refusal everything lent is as it was, the tally too: the same call can be made
+   again with other bytes, or the book given up.
+
+   THE TALLY says how far a book is: 8 words that dullavane_contents makes and every call that takes a record moves on.
+       [0] units announced, 0 to 512             [4] smoothing, 1 to 10,000
+       [1] requirements announced, 1 to 32       [5] bad-frequency limit, 0 to 75
+       [2] records taken after the contents      [6] bad-unit percent, 0 to 100
+       [3] least number the next may have        [7] interval number
+   It can be copied, stored and handed in again with the lists as they were at that time. Words that no chain of calls could have left are
+   safe: a call answers, or refuses with 11.
+
+   A PART is the bytes of the book that start at the record whose turn it is: at least the record, or as many as there are. Only the last
+   requirement looks past its record: there the part has to be all that is left of the book, so that bytes too many are seen (refusal 4).
+
+   ORDER OF CALLS                                            records   part of the book
+       dullavane_contents      once                                    56 bytes, the table of contents
+       dullavane_settings      once                          0         8 bytes
+       dullavane_frequency     five times, regions 0 to 4    1 to 5    368 bytes each
+       dullavane_unit          tally[0] times                6 ..      372 bytes each
+       dullavane_requirement   tally[1] times                          24 bytes each; keep them for the answers
+       dullavane_answer        after the last unit, for any requirement, in any order, as often as wanted
+       dullavane_member        likewise, for any row: who stands in it
+   The book has ended, and may be settled, when tally[2] is 6 + tally[0] + tally[1].
+
+   REFUSALS
+        1  the part ends before its record does
+        2  the book does not begin with the mark FCF1
+        3  the table of contents: an entry, the entry count or the zero field is wrong
+        4  bytes follow the last requirement
+        5  a count in the table is over or under its limit
+        6  a field of the settings breaks its rule
+        7  a field of a frequency record breaks its rule
+        8  a field of a unit breaks its rule
+        9  a unit's number does not rise
+       10  a field of a requirement breaks its rule, or its number does not rise
+       11  not this call's turn; or the tally, or a lent number that the call reads, is out of range: none that these calls leave is
+       12  a lent list is too short
+   A call tests 12 for the tally's 8 words first, since without them there is no tally; then 11 for the tally and its turn, 12 for the lists, 11 for
+   lent numbers that it reads, 1, and then the record's fields by their place.
+
+   LISTS TO LEND (N is the number of units, at most 512)                                   bytes at N = 512
+       tally          8 uint32_t                                                                         32
+       frequencies    75 uint32_t, of the region taken last; of no use afterwards                       300
+       readings       75 int32_t, of the unit taken last; of no use afterwards                          300
+       deviations     75 int64_t, of the unit taken last; of no use afterwards                          600
+       measures       375 int64_t, region r from 75 r on                                              3,000
+       positive       375 int64_t, sums of deviations above zero, likewise                            3,000
+       negative       375 int64_t, sums of deviations below zero, likewise                            3,000
+       figures        45 int64_t, 9 a region: generation, raise reliable, lower reliable, six defaults  360
+       numbers        N uint16_t, a unit's number, in the order of the book                           1,024
+       places         N uint8_t, 2 x region, 1 more where no reading is bad                             512
+       raise          N int64_t, performances                                                         4,096
+       lower          N int64_t, performances                                                         4,096
+       defaults       6 N int64_t, six a unit                                                        24,576
+   and for the answers
+       performances, factors, payments, used, unused    N + 1 int64_t each                           20,520
+       reply          DULLAVANE_REPLY_WORDS uint64_t
+   Lists that are never needed at once may share memory: frequencies, readings and deviations with the answers' columns.
+
+   What is proved of each call, for any bytes, words and lists whatever: its return value and every lent number after it are those of the
+   definitions that document 01 is written out in. What is outside the proof: this header, the caller, and the compiler's back end. */
+#ifndef DULLAVANE_H
+#define DULLAVANE_H
+
+#include <stdint.h>
+
+#ifdef __cplusplus
+extern "C" {
+#endif
+
+enum {
+    DULLAVANE_TALLY_WORDS = 8,
+    DULLAVANE_REGIONS = 5,
+    DULLAVANE_POINTS = 75,
+    DULLAVANE_SERIES = 375,
+    DULLAVANE_FIGURES = 45,
+    DULLAVANE_MOST_UNITS = 512,
+    DULLAVANE_MOST_REQUIREMENTS = 32,
+    DULLAVANE_CONTENTS_SIZE = 56,
+    DULLAVANE_SETTINGS_SIZE = 8,
+    DULLAVANE_FREQUENCY_SIZE = 368,
+    DULLAVANE_UNIT_SIZE = 372,
+    DULLAVANE_REQUIREMENT_SIZE = 24
+};
+
+/* The words of an answer, in their order: how many members the requirement has, its RCR, the three pools, what of the used and of the unused pool is
+   unplaced, and how the residual stands (a standing as below). Pools and what is unplaced are cents; RCR is in 75ths of a hundredth of a MW. */
+enum {
+    DULLAVANE_MEMBERS,
+    DULLAVANE_RCR,
+    DULLAVANE_POOL,
+    DULLAVANE_USED_POOL,
+    DULLAVANE_UNUSED_POOL,
+    DULLAVANE_UNPLACED_USED,
+    DULLAVANE_UNPLACED_UNUSED,
+    DULLAVANE_RESIDUAL,
+    DULLAVANE_REPLY_WORDS
+};
+
+/* The words of a row: 1 where its unit is a member of the requirement and 0 where it is not, the unit's number, its standing. A unit that is no
+   member has 0 in all three. */
+enum { DULLAVANE_IS_MEMBER, DULLAVANE_NUMBER, DULLAVANE_STANDING, DULLAVANE_MEMBER_WORDS };
+
+/* How a member stands: live, by its own performance, or by its default, with the reason. */
+enum { DULLAVANE_LIVE, DULLAVANE_UNRELIABLE_REGION, DULLAVANE_BAD_UNIT, DULLAVANE_NO_GOOD_UNIT };
+
+/* Starts a tally from the table of contents. Whatever the 8 words held is gone, unless it refuses: 12 (no room for 8 words), then 1, 2, 3, 5. */
+uint32_t dullavane_contents(const uint8_t *part, uint64_t part_bytes, uint32_t *tally, uint64_t tally_words);
+
+/* Takes the settings. Refuses 12, 11, 1, 6. */
+uint32_t dullavane_settings(uint32_t *tally, uint64_t tally_words, const uint8_t *part, uint64_t part_bytes);
+
+/* Takes the frequency record of the next region: writes its 75 frequencies, its measures and figures, and sets its sums to 0. Refuses 12, 11, 12,
+   1, 7. */
+uint32_t dullavane_frequency(uint32_t *tally, uint64_t tally_words, const uint8_t *part, uint64_t part_bytes,
+                             uint32_t *frequencies, uint64_t frequencies_length, int64_t *measures, uint64_t measures_length,
+                             int64_t *positive, uint64_t positive_length, int64_t *negative, uint64_t negative_length,
+                             int64_t *figures, uint64_t figures_length);
+
+/* Takes a unit: writes its readings and deviations, adds the deviations to its region's sums if no reading is bad, and fills its row in the five
+   columns. The columns have to have room for this row only. Refuses 12, 11, 12, 11 (a measure or a sum of the region that the record names is out
+   of range), 1, 8, 9. */
+uint32_t dullavane_unit(uint32_t *tally, uint64_t tally_words, const uint8_t *part, uint64_t part_bytes,
+                        int32_t *readings, uint64_t readings_length, int64_t *deviations, uint64_t deviations_length,
+                        const int64_t *measures, uint64_t measures_length, int64_t *positive, uint64_t positive_length,
+                        int64_t *negative, uint64_t negative_length, uint16_t *numbers, uint64_t numbers_length,
+                        uint8_t *places, uint64_t places_length, int64_t *raise, uint64_t raise_length,
+                        int64_t *lower, uint64_t lower_length, int64_t *defaults, uint64_t defaults_length);
+
+/* Takes a requirement. Nothing of it is kept but its number's successor: keep its 24 bytes for dullavane_answer. With the last one the book ends.
+   Refuses 12, 11, 1, 10, and with the last one 4. */
+uint32_t dullavane_requirement(uint32_t *tally, uint64_t tally_words, const uint8_t *part, uint64_t part_bytes);
+
+/* Answers a requirement, from its 24 bytes and what the calls have left in the lists; it may be asked again, and changes nothing but the five columns and
+   the reply. Each column has one number for every member, in this order: the units of the requirement's regions as they stand in the book, then one
+   residual; numbers past those stay. performances and factors (billionths) are as document 01 has them, payments, used and unused are cents, and charges
+   are negative. Each column has to have room for tally[0] + 1 numbers. Refuses 12, 11 (also before the last unit), 12, 11 (a lent number is out of
+   range), 1, 10. */
+uint32_t dullavane_answer(const uint32_t *tally, uint64_t tally_words, const uint8_t *part, uint64_t part_bytes,
+                          const int64_t *measures, uint64_t measures_length, const int64_t *positive, uint64_t positive_length,
+                          const int64_t *negative, uint64_t negative_length, const int64_t *figures, uint64_t figures_length,
+                          const uint8_t *places, uint64_t places_length, const int64_t *raise, uint64_t raise_length,
+                          const int64_t *lower, uint64_t lower_length, const int64_t *defaults, uint64_t defaults_length,
+                          int64_t *performances, uint64_t performances_length, int64_t *factors, uint64_t factors_length,
+                          int64_t *payments, uint64_t payments_length, int64_t *used, uint64_t used_length,
+                          int64_t *unused, uint64_t unused_length, uint64_t *reply, uint64_t reply_words);
+
+/* Says who stands in a row of the roster (0 is the first unit) for a requirement of this direction (byte 3 of its record: 0 raise, 1 lower) and region
+   set (byte 2). The members of an answer's columns are the rows that are members, in their order, and then the residual. Refuses 12 (the tally's words),
+   11 (the tally; before the last unit; a row, direction or set over its width), 12 (no room for the three words), 11 (no such row or set), 12 (a list),
+   11 (a lent number is out of range). */
+uint32_t dullavane_member(const uint32_t *tally, uint64_t tally_words, uint32_t row, uint32_t direction, uint32_t set,
+                          const int64_t *figures, uint64_t figures_length, const uint16_t *numbers, uint64_t numbers_length,
+                          const uint8_t *places, uint64_t places_length, uint32_t *member, uint64_t member_words);
+
+#ifdef __cplusplus
+}
+#endif
+
+#endif
