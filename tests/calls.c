@@ -1,31 +1,17 @@
 /* Reads a script of calls (second/README.md, Lines of `calls`) and prints of each call what the library replies and leaves. The C
-   library's functions and the calls are declared here by hand, so that the kit's own compiler builds this with no header. */
-typedef unsigned char u8;
-typedef unsigned short u16;
-typedef unsigned int u32;
-typedef unsigned long u64;
-typedef int i32;
-typedef long i64;
+   library's functions are declared here by hand, so that the kit's own compiler builds this with no header of a C library. */
+#include "dullavane.h"
+
+typedef uint8_t u8;
+typedef uint16_t u16;
+typedef uint32_t u32;
+typedef uint64_t u64;
+typedef int32_t i32;
+typedef int64_t i64;
 extern int getchar(void);
 extern int printf(const char *form, ...);
 extern void exit(int status);
 extern int strcmp(const char *a, const char *b);
-
-extern u32 dullavane_contents(const u8 *part, u64 bytes, u32 *tally, u64 words);
-extern u32 dullavane_settings(u32 *tally, u64 words, const u8 *part, u64 bytes);
-extern u32 dullavane_frequency(u32 *tally, u64 words, const u8 *part, u64 bytes, u32 *frequencies, u64, i64 *measures, u64, i64 *positive, u64,
-                               i64 *negative, u64, i64 *figures, u64);
-extern u32 dullavane_unit(u32 *tally, u64 words, const u8 *part, u64 bytes, i32 *readings, u64, i64 *deviations, u64, i64 *measures, u64,
-                          i64 *positive, u64, i64 *negative, u64, u16 *numbers, u64, u8 *places, u64, i64 *raise, u64, i64 *lower, u64,
-                          i64 *defaults, u64);
-extern u32 dullavane_requirement(u32 *tally, u64 words, const u8 *part, u64 bytes);
-#ifdef ANSWERS
-extern u32 dullavane_answer(u32 *tally, u64 words, const u8 *part, u64 bytes, i64 *measures, u64, i64 *positive, u64, i64 *negative, u64,
-                            i64 *figures, u64, u8 *places, u64, i64 *raise, u64, i64 *lower, u64, i64 *defaults, u64, i64 *performances, u64,
-                            i64 *factors, u64, i64 *payments, u64, i64 *used, u64, i64 *unused, u64, u64 *reply, u64);
-extern u32 dullavane_member(u32 *tally, u64 words, u32 row, u32 direction, u32 set, i64 *figures, u64, u16 *numbers, u64, u8 *places, u64,
-                            u32 *member, u64);
-#endif
 
 enum { TALLY, FREQUENCIES, READINGS, DEVIATIONS, MEASURES, POSITIVE, NEGATIVE, FIGURES, NUMBERS, PLACES, RAISE, LOWER, DEFAULTS,
        PERFORMANCES, FACTORS, PAYMENTS, USED, UNUSED, REPLY, MEMBER, LISTS };
@@ -113,14 +99,12 @@ static u64 take_part(void) {
     return bytes;
 }
 
-#ifdef ANSWERS
 /* A word of four bytes of the part; a missing byte is 0. */
 static u32 part_word(u64 place, u64 bytes) {
     u32 word = 0;
     for (u64 i = 4 * place + 4; i-- > 4 * place;) word = word << 8 | (i < bytes ? part[i] : 0);
     return word;
 }
-#endif
 
 #define LENT(list) room[list], lists[list].lent
 #define LENT_AS(type, list) (type *)room[list], lists[list].lent
@@ -152,7 +136,6 @@ static void call(void) {
         print_call("unit", dullavane_unit(LENT_AS(u32, TALLY), part, bytes, LENT_AS(i32, READINGS), LENT_AS(i64, DEVIATIONS), SERIES,
                                           LENT_AS(u16, NUMBERS), ROWS), unit, 11);
     else if (kind == 'r' && second == 'e') print_call("requirement", dullavane_requirement(LENT_AS(u32, TALLY), part, bytes), tally, 1);
-#ifdef ANSWERS
     else if (kind == 'a') {
         static const int answer[] = {TALLY, MEASURES, POSITIVE, NEGATIVE, FIGURES, PLACES, RAISE, LOWER, DEFAULTS,
                                      PERFORMANCES, FACTORS, PAYMENTS, USED, UNUSED, REPLY};
@@ -164,7 +147,6 @@ static void call(void) {
         print_call("member", dullavane_member(LENT_AS(u32, TALLY), part_word(0, bytes), part_word(1, bytes), part_word(2, bytes), LENT_AS(i64, FIGURES),
                                               LENT_AS(u16, NUMBERS), LENT_AS(u8, PLACES), LENT_AS(u32, MEMBER)), member, 5);
     }
-#endif
     else stop("no call");
 }
 

@@ -367,7 +367,11 @@ impl<W: Write> Script<W> {
         let before = self.lent.list(name).numbers[place];
         let tally = self.tally_words();
         let off = self.number_off(name, place);
-        let off = if name == "numbers" { off.rem_euclid(65_536) } else { off };
+        let off = match name {
+            "numbers" => off.rem_euclid(1 << 16),
+            "member" => off.rem_euclid(1 << 32),
+            _ => off,
+        };
         self.put(name, place, &[off]);
         let cut = self.chance.pick(&[honest.len(), honest.len(), honest.len() / 2, 2, 0]);
         self.call(kind, &honest[..cut.min(honest.len())]);

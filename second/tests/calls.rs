@@ -123,7 +123,7 @@ fn a_refusal_changes_nothing_and_each_is_reached() {
         ("frequency", vec![0, 1, 7, 11, 12]),
         ("unit", vec![0, 1, 8, 9, 11, 12]),
         ("requirement", vec![0, 1, 4, 10, 11, 12]),
-        ("answer", vec![0, 1, 5, 10, 11, 12]),
+        ("answer", vec![0, 1, 10, 11, 12]),
         ("member", vec![0, 11, 12]),
     ];
     for (kind, replies) in expected {
