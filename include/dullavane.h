@@ -94,6 +94,27 @@ enum {
     DULLAVANE_REQUIREMENT_SIZE = 24
 };
 
+/* The words of an answer, in their order: how many members the requirement has, its RCR, the three pools, what of the used and of the unused pool is
+   unplaced, and how the residual stands (a standing as below). Pools and what is unplaced are cents; RCR is in 75ths of a hundredth of a MW. */
+enum {
+    DULLAVANE_MEMBERS,
+    DULLAVANE_RCR,
+    DULLAVANE_POOL,
+    DULLAVANE_USED_POOL,
+    DULLAVANE_UNUSED_POOL,
+    DULLAVANE_UNPLACED_USED,
+    DULLAVANE_UNPLACED_UNUSED,
+    DULLAVANE_RESIDUAL,
+    DULLAVANE_REPLY_WORDS
+};
+
+/* The words of a row: 1 where its unit is a member of the requirement and 0 where it is not, the unit's number, its standing. A unit that is no
+   member has 0 in all three. */
+enum { DULLAVANE_IS_MEMBER, DULLAVANE_NUMBER, DULLAVANE_STANDING, DULLAVANE_MEMBER_WORDS };
+
+/* How a member stands: live, by its own performance, or by its default, with the reason. */
+enum { DULLAVANE_LIVE, DULLAVANE_UNRELIABLE_REGION, DULLAVANE_BAD_UNIT, DULLAVANE_NO_GOOD_UNIT };
+
 /* Starts a tally from the table of contents. Whatever the 8 words held is gone, unless it refuses: 12 (no room for 8 words), then 1, 2, 3, 5. */
 uint32_t dullavane_contents(const uint8_t *part, uint64_t part_bytes, uint32_t *tally, uint64_t tally_words);
 
@@ -120,6 +141,28 @@ uint32_t dullavane_unit(uint32_t *tally, uint64_t tally_words, const uint8_t *pa
 /* Takes a requirement. Nothing of it is kept but its number's successor: keep its 24 bytes for dullavane_answer. With the last one the book ends.
    Refuses 12, 11, 1, 10, and with the last one 4. */
 uint32_t dullavane_requirement(uint32_t *tally, uint64_t tally_words, const uint8_t *part, uint64_t part_bytes);
+
+/* Answers a requirement, from its 24 bytes and what the calls have left in the lists; it may be asked again, and changes nothing but the five columns and
+   the reply. Each column has one number for every member, in this order: the units of the requirement's regions as they stand in the book, then one
+   residual; numbers past those stay. performances and factors (billionths) are as document 01 has them, payments, used and unused are cents, and charges
+   are negative. Each column has to have room for tally[0] + 1 numbers. Refuses 12, 11 (also before the last unit), 12, 11 (a lent number is out of
+   range), 1, 10. */
+uint32_t dullavane_answer(const uint32_t *tally, uint64_t tally_words, const uint8_t *part, uint64_t part_bytes,
+                          const int64_t *measures, uint64_t measures_length, const int64_t *positive, uint64_t positive_length,
+                          const int64_t *negative, uint64_t negative_length, const int64_t *figures, uint64_t figures_length,
+                          const uint8_t *places, uint64_t places_length, const int64_t *raise, uint64_t raise_length,
+                          const int64_t *lower, uint64_t lower_length, const int64_t *defaults, uint64_t defaults_length,
+                          int64_t *performances, uint64_t performances_length, int64_t *factors, uint64_t factors_length,
+                          int64_t *payments, uint64_t payments_length, int64_t *used, uint64_t used_length,
+                          int64_t *unused, uint64_t unused_length, uint64_t *reply, uint64_t reply_words);
+
+/* Says who stands in a row of the roster (0 is the first unit) for a requirement of this direction (byte 3 of its record: 0 raise, 1 lower) and region
+   set (byte 2). The members of an answer's columns are the rows that are members, in their order, and then the residual. Refuses 12 (the tally's words),
+   11 (the tally; before the last unit; a row, direction or set over its width), 12 (no room for the three words), 11 (no such row or set), 12 (a list),
+   11 (a lent number is out of range). */
+uint32_t dullavane_member(const uint32_t *tally, uint64_t tally_words, uint32_t row, uint32_t direction, uint32_t set,
+                          const int64_t *figures, uint64_t figures_length, const uint16_t *numbers, uint64_t numbers_length,
+                          const uint8_t *places, uint64_t places_length, uint32_t *member, uint64_t member_words);
 
 #ifdef __cplusplus
 }

@@ -1,0 +1,137 @@
+/* box: an interval book on standard input, record by record through the calls of dullavane.h; its listing, or `refused N`, on standard output: the
+   same bytes as `settle`. Written as firmware would be: no heap, every list of a fixed length, nothing but getchar and putchar from outside, which are
+   declared here so that a compiler with no C library builds this too. A box puts its radio or its serial line in their place. */
+#include "dullavane.h"
+
+int getchar(void);
+int putchar(int c);
+
+enum { UNITS = DULLAVANE_MOST_UNITS, MEMBERS = UNITS + 1, REQUIREMENT = DULLAVANE_REQUIREMENT_SIZE };
+
+/* All that is lent, 65,285 bytes in all with the bytes that are read. */
+static uint32_t tally[DULLAVANE_TALLY_WORDS];
+static union {
+    uint32_t frequencies[DULLAVANE_POINTS]; /* while frequency records come */
+    int32_t readings[DULLAVANE_POINTS];     /* while units come */
+} points;
+static int64_t measures[DULLAVANE_SERIES], positive[DULLAVANE_SERIES], negative[DULLAVANE_SERIES];
+static int64_t figures[DULLAVANE_FIGURES];
+static uint16_t numbers[UNITS];
+static uint8_t places[UNITS];
+static int64_t raise[UNITS], lower[UNITS], defaults[6 * UNITS];
+static int64_t performances[MEMBERS], factors[MEMBERS], payments[MEMBERS], used[MEMBERS], unused[MEMBERS];
+
+/* The requirements' bytes are kept until they are answered. The other records come before them and are read into the same bytes. */
+static uint8_t bytes[DULLAVANE_MOST_REQUIREMENTS * REQUIREMENT + 1];
+
+#define LENT(list) list, sizeof(list) / sizeof(list[0])
+/* A unit's deviations are of no use once it is taken, and the columns of the answers are not needed yet. */
+#define DEVIATIONS performances, DULLAVANE_POINTS
+
+/* As many of the next n bytes as there are. */
+static uint64_t take(uint8_t *to, uint64_t n) {
+    uint64_t i = 0;
+    for (int c; i < n && (c = getchar()) >= 0; i++) to[i] = (uint8_t)c;
+    return i;
+}
+
+static uint32_t take_frequency(void) {
+    uint64_t n = take(bytes, DULLAVANE_FREQUENCY_SIZE);
+    return dullavane_frequency(LENT(tally), bytes, n, LENT(points.frequencies), LENT(measures), LENT(positive), LENT(negative), LENT(figures));
+}
+
+static uint32_t take_unit(void) {
+    uint64_t n = take(bytes, DULLAVANE_UNIT_SIZE);
+    return dullavane_unit(LENT(tally), bytes, n, LENT(points.readings), DEVIATIONS, LENT(measures), LENT(positive), LENT(negative), LENT(numbers),
+                          LENT(places), LENT(raise), LENT(lower), LENT(defaults));
+}
+
+/* The last one is handed on with a byte more, if there is one: then bytes follow the book. */
+static uint32_t take_requirement(uint32_t i) {
+    uint64_t n = take(bytes + REQUIREMENT * i, REQUIREMENT + (i + 1 == tally[1]));
+    return dullavane_requirement(LENT(tally), bytes + REQUIREMENT * i, n);
+}
+
+/* The whole book, or the first refusal. */
+static uint32_t take_book(void) {
+    uint64_t n = take(bytes, DULLAVANE_CONTENTS_SIZE);
+    uint32_t no = dullavane_contents(bytes, n, LENT(tally));
+    if (no) return no;
+    n = take(bytes, DULLAVANE_SETTINGS_SIZE);
+    no = dullavane_settings(LENT(tally), bytes, n);
+    for (uint32_t i = 0; !no && i < DULLAVANE_REGIONS; i++) no = take_frequency();
+    for (uint32_t i = 0; !no && i < tally[0]; i++) no = take_unit();
+    for (uint32_t i = 0; !no && i < tally[1]; i++) no = take_requirement(i);
+    return no;
+}
+
+static void put_text(const char *text) {
+    for (; *text; text++) putchar(*text);
+}
+
+static void put_natural(uint64_t x) {
+    char digits[20];
+    int n = 0;
+    do digits[n++] = (char)('0' + x % 10);
+    while (x /= 10);
+    while (n) putchar(digits[--n]);
+}
+
+static void put_integer(int64_t x) {
+    putchar(' ');
+    if (x < 0) putchar('-');
+    put_natural(x < 0 ? -(uint64_t)x : (uint64_t)x);
+}
+
+/* A member's standing and five numbers end its line. */
+static void put_member(uint64_t standing, uint64_t i) {
+    put_text(standing ? " default" : " live");
+    put_integer(performances[i]);
+    put_integer(factors[i]);
+    put_integer(payments[i]);
+    put_integer(used[i]);
+    put_integer(unused[i]);
+    putchar('\n');
+}
+
+static uint32_t put_answer(const uint8_t *requirement) {
+    uint64_t reply[DULLAVANE_REPLY_WORDS];
+    uint32_t no = dullavane_answer(LENT(tally), requirement, REQUIREMENT, LENT(measures), LENT(positive), LENT(negative), LENT(figures),
+                                   LENT(places), LENT(raise), LENT(lower), LENT(defaults), LENT(performances), LENT(factors), LENT(payments),
+                                   LENT(used), LENT(unused), LENT(reply));
+    if (no) return no;
+    put_text("requirement ");
+    put_natural((uint64_t)(requirement[0] + 256 * requirement[1]));
+    put_text(requirement[3] ? " lower" : " raise");
+    for (int i = DULLAVANE_RCR; i <= DULLAVANE_UNPLACED_UNUSED; i++) put_integer((int64_t)reply[i]);
+    putchar('\n');
+    uint64_t at = 0;
+    for (uint32_t row = 0; row < tally[0]; row++) {
+        uint32_t member[DULLAVANE_MEMBER_WORDS];
+        no = dullavane_member(LENT(tally), row, requirement[3], requirement[2], LENT(figures), LENT(numbers), LENT(places), LENT(member));
+        if (no) return no;
+        if (!member[DULLAVANE_IS_MEMBER]) continue;
+        put_text("unit ");
+        put_natural(member[DULLAVANE_NUMBER]);
+        put_member(member[DULLAVANE_STANDING], at++);
+    }
+    put_text("residual");
+    put_member(reply[DULLAVANE_RESIDUAL], at);
+    return 0;
+}
+
+int main(void) {
+    uint32_t no = take_book();
+    if (!no) {
+        put_text("interval ");
+        put_natural(tally[7]);
+        putchar('\n');
+    }
+    for (uint32_t i = 0; !no && i < tally[1]; i++) no = put_answer(bytes + REQUIREMENT * i);
+    if (no) {
+        put_text("refused ");
+        put_natural(no);
+        putchar('\n');
+    }
+    return 0;
+}
