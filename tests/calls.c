@@ -23,10 +23,12 @@ extern u32 dullavane_requirement(u32 *tally, u64 words, const u8 *part, u64 byte
 extern u32 dullavane_answer(u32 *tally, u64 words, const u8 *part, u64 bytes, i64 *measures, u64, i64 *positive, u64, i64 *negative, u64,
                             i64 *figures, u64, u8 *places, u64, i64 *raise, u64, i64 *lower, u64, i64 *defaults, u64, i64 *performances, u64,
                             i64 *factors, u64, i64 *payments, u64, i64 *used, u64, i64 *unused, u64, u64 *reply, u64);
+extern u32 dullavane_member(u32 *tally, u64 words, u32 row, u32 direction, u32 set, i64 *figures, u64, u16 *numbers, u64, u8 *places, u64,
+                            u32 *member, u64);
 #endif
 
 enum { TALLY, FREQUENCIES, READINGS, DEVIATIONS, MEASURES, POSITIVE, NEGATIVE, FIGURES, NUMBERS, PLACES, RAISE, LOWER, DEFAULTS,
-       PERFORMANCES, FACTORS, PAYMENTS, USED, UNUSED, REPLY, LISTS };
+       PERFORMANCES, FACTORS, PAYMENTS, USED, UNUSED, REPLY, MEMBER, LISTS };
 enum { MOST = 6 * 512 + 64, BEHIND = 3, LONGEST_WORD = 1 << 14 };
 
 /* A list: the bytes of one of its numbers, whether they have a sign, how many are lent, how many stand there. */
@@ -34,7 +36,8 @@ static struct { const char *name; u32 width, sign; u64 lent, there; } lists[LIST
     {"tally", 4, 0, 0, 0},      {"frequencies", 4, 0, 0, 0}, {"readings", 4, 1, 0, 0}, {"deviations", 8, 1, 0, 0}, {"measures", 8, 1, 0, 0},
     {"positive", 8, 1, 0, 0},   {"negative", 8, 1, 0, 0},    {"figures", 8, 1, 0, 0},  {"numbers", 2, 0, 0, 0},    {"places", 1, 0, 0, 0},
     {"raise", 8, 1, 0, 0},      {"lower", 8, 1, 0, 0},       {"defaults", 8, 1, 0, 0}, {"performances", 8, 1, 0, 0},
-    {"factors", 8, 1, 0, 0},    {"payments", 8, 1, 0, 0},    {"used", 8, 1, 0, 0},     {"unused", 8, 1, 0, 0},     {"reply", 8, 0, 0, 0}};
+    {"factors", 8, 1, 0, 0},    {"payments", 8, 1, 0, 0},    {"used", 8, 1, 0, 0},     {"unused", 8, 1, 0, 0},     {"reply", 8, 0, 0, 0},
+    {"member", 4, 0, 0, 0}};
 static u64 room[LISTS][MOST];
 static char word[LONGEST_WORD];
 static u8 part[LONGEST_WORD / 2];
@@ -110,6 +113,15 @@ static u64 take_part(void) {
     return bytes;
 }
 
+#ifdef ANSWERS
+/* A word of four bytes of the part; a missing byte is 0. */
+static u32 part_word(u64 place, u64 bytes) {
+    u32 word = 0;
+    for (u64 i = 4 * place + 4; i-- > 4 * place;) word = word << 8 | (i < bytes ? part[i] : 0);
+    return word;
+}
+#endif
+
 #define LENT(list) room[list], lists[list].lent
 #define LENT_AS(type, list) (type *)room[list], lists[list].lent
 #define SERIES LENT_AS(i64, MEASURES), LENT_AS(i64, POSITIVE), LENT_AS(i64, NEGATIVE)
@@ -147,6 +159,10 @@ static void call(void) {
         print_call("answer", dullavane_answer(LENT_AS(u32, TALLY), part, bytes, SERIES, LENT_AS(i64, FIGURES), ROWS, LENT_AS(i64, PERFORMANCES),
                                               LENT_AS(i64, FACTORS), LENT_AS(i64, PAYMENTS), LENT_AS(i64, USED), LENT_AS(i64, UNUSED),
                                               LENT(REPLY)), answer, 15);
+    } else if (kind == 'm') {
+        static const int member[] = {TALLY, FIGURES, NUMBERS, PLACES, MEMBER};
+        print_call("member", dullavane_member(LENT_AS(u32, TALLY), part_word(0, bytes), part_word(1, bytes), part_word(2, bytes), LENT_AS(i64, FIGURES),
+                                              LENT_AS(u16, NUMBERS), LENT_AS(u8, PLACES), LENT_AS(u32, MEMBER)), member, 5);
     }
 #endif
     else stop("no call");

@@ -77,6 +77,7 @@ fn needed(name: &str, units: usize) -> usize {
         "numbers" | "places" | "raise" | "lower" => units,
         "defaults" => 6 * units,
         "reply" => REPLY_WORDS,
+        "member" => MEMBER_WORDS,
         _ => units + 1,
     }
 }
@@ -183,6 +184,27 @@ impl<W: Write> Script<W> {
             let place = made.any_of(&mut self.chance, "requirement").expect("a requirement");
             let bytes = self.honest_part(made, place);
             self.call("answer", &bytes);
+        }
+        for _ in 0..self.chance.between(0, 4) {
+            self.ask_member(made);
+        }
+    }
+
+    /// Who stands in a row, mostly one that there is, for a direction and a region set.
+    fn ask_member(&mut self, made: &Made) {
+        let row = self.chance.place(made.units.max(1)) as u32;
+        let row = self.chance.pick(&[row, row, row, row, made.units as u32, 65_535, 65_536]);
+        let direction = self.chance.pick(&[0, 0, 0, 1, 1, 1, 2, 256]);
+        let drawn = self.chance.between(1, 31) as u32;
+        let set = self.chance.pick(&[drawn, drawn, drawn, 31, 31, 0, 32, 255, 256, u32::MAX]);
+        let bytes = [row, direction, set].map(u32::to_le_bytes).concat();
+        match self.chance.place(6) {
+            0 => self.call_with_a_short_list("member", &bytes),
+            1 => self.call_with_a_word_off("member", &bytes),
+            2 => self.call_with_a_number_off("member", &bytes),
+            _ => {
+                self.call("member", &bytes);
+            }
         }
     }
 

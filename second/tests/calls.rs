@@ -7,6 +7,7 @@ use second::book::*;
 use second::boundary::*;
 use second::cents::{settle_book, Settled};
 use second::make::{make, CLASSES};
+use second::performance::{Reason, Standing};
 use second::quantities::*;
 use second::script::Script;
 use second::write::to_bytes;
@@ -19,6 +20,15 @@ fn lent_for(units: usize) -> Lent {
     lent
 }
 
+fn standing_word(standing: Standing) -> i128 {
+    match standing {
+        Standing::Live => 0,
+        Standing::Default(Reason::UnreliableRegion) => 1,
+        Standing::Default(Reason::BadUnit) => 2,
+        Standing::Default(Reason::NoGoodUnit) => 3,
+    }
+}
+
 fn settled_reply(settled: &Settled) -> [i128; REPLY_WORDS] {
     [
         settled.lines.len() as i128,
@@ -28,6 +38,7 @@ fn settled_reply(settled: &Settled) -> [i128; REPLY_WORDS] {
         settled.unused_pool,
         settled.used_unplaced,
         settled.unused_unplaced,
+        standing_word(settled.lines.last().expect("a residual").member.standing),
     ]
 }
 
@@ -100,7 +111,7 @@ fn a_refusal_changes_nothing_and_each_is_reached() {
         let (kind, reply) = (words.next().expect("a kind"), words.next().expect("a reply"));
         if reply == "0" {
             // A record that is taken always counts.
-            assert!(before != lent || kind == "answer" || kind == "contents", "{line}");
+            assert!(before != lent || ["answer", "contents", "member"].contains(&kind.as_str()), "{line}");
         } else {
             assert!(before == lent, "{line}");
         }
@@ -113,6 +124,7 @@ fn a_refusal_changes_nothing_and_each_is_reached() {
         ("unit", vec![0, 1, 8, 9, 11, 12]),
         ("requirement", vec![0, 1, 4, 10, 11, 12]),
         ("answer", vec![0, 1, 5, 10, 11, 12]),
+        ("member", vec![0, 11, 12]),
     ];
     for (kind, replies) in expected {
         for reply in replies {

@@ -1,3 +1,6 @@
 -- The tally in words, and what each call over them promises
 pub mod Words
+pub mod Called
 pub mod Promises
+pub mod Asked
+pub mod Answers

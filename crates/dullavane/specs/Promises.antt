@@ -1,59 +1,21 @@
--- What each call over words promises, completely: the call of `interval` on the tally that the words hold, its step told as a number and as words. Where
--- the words hold no tally, their refusal is told and all that is lent stays. Primed lists are what the call leaves.
-use mathlib.Core.Path.{_≡_, refl, sym, _∙_, ap, subst⁻¹}
+-- What each call that takes a record promises, completely. Primed lists are what the call leaves.
+use mathlib.Core.Path.{_≡_, refl, sym, _∙_, ap}
 use mathlib.Core.Bool.{Bool, true, false}
 use mathlib.Core.List.{List}
 use Prim.Native.Nat.{ℕ}
 use lib.Dec.{leb}
 use lib.IntN.{ℤ}
 use lib.ListN.{length}
-use Rattle.rules.specs.declared.Refusal.{Refusal}
 use Rattle.rules.specs.declared.Refusal.the-variants.{TooShort}
-use Rattle.rules.specs.Refusals.{Reply, taken, refused, unless, number}
+use Rattle.rules.specs.Refusals.{Reply, taken, refused, unless}
 use Rattle.rules.specs.Contents.{Counts, contents}
 use Rattle.interval.specs.declared.Tally.{Tally}
 use Rattle.interval.specs.declared.Opened.{Opened}
 use Rattle.interval.specs.declared.Step.{Step}
 use Rattle.interval.specs.Calls.{fresh, opened, left}
 use Rattle.interval.specs.Promises.{SettingsPromise, settings-only, FrequencyPromise, frequency-only, UnitPromise, unit-only, RequirementPromise, requirement-only}
+use Rattle.dullavane.specs.Called.{Called, called-only, alone-only}
 use Rattle.dullavane.specs.Words.{tally-words, with-words, held, opened-reply, started, reply-number, told, words-after}
-
--- a step that the call of `interval` promises, told
-pub record Stepped (Call : Step → Type 0) (ws : List ℕ) (r : ℕ) (ws′ : List ℕ) : Type 0 where
-  pub step : Step
-  pub call : Call step
-  pub reply : r ≡ told step
-  pub tally : ws′ ≡ words-after step ws
-
--- words that hold no tally: Kept says that every other lent list stays
-pub record Unheld (Kept : Type 0) (refusal : Refusal) (ws : List ℕ) (r : ℕ) (ws′ : List ℕ) : Type 0 where
-  pub reply : r ≡ number refusal
-  pub tally : ws′ ≡ ws
-  pub kept : Kept
-
-unfoldable pub Called : (Tally → Step → Type 0) → Type 0 → Reply Tally → List ℕ → ℕ → List ℕ → Type 0
-Called Call Kept (taken t) ws r ws′ = Stepped (Call t) ws r ws′
-Called Call Kept (refused refusal) ws r ws′ = Unheld Kept refusal ws r ws′
-
--- ---- by what the words hold
-module _ (Call : Tally → Step → Type 0) (Kept : Type 0) (ws : List ℕ) {r : ℕ} {ws′ : List ℕ} {y : Reply Tally} where
-  pub was-held : {t : Tally} → y ≡ taken t → Stepped (Call t) ws r ws′ → Called Call Kept y ws r ws′
-  unfolding Called
-  was-held e s = subst⁻¹ (λ (z : Reply Tally). Called Call Kept z ws r ws′) e s
-
-  pub was-unheld : {refusal : Refusal} → y ≡ refused refusal → Unheld Kept refusal ws r ws′ → Called Call Kept y ws r ws′
-  unfolding Called
-  was-unheld e s = subst⁻¹ (λ (z : Reply Tally). Called Call Kept z ws r ws′) e s
-
--- any two answers that such a promise allows are equal, and with them what else is lent, if those of the call are
-module _ (Call Call₂ : Tally → Step → Type 0) (Kept Kept₂ Same : Type 0) (by-call : (t : Tally) (s s₂ : Step) → Call t s → Call₂ t s₂ → (s ≡ s₂) × Same) (by-keeping : Kept → Kept₂ → Same) where
-  pub called-only : (ws : List ℕ) (r r₂ : ℕ) (ws′ ws₂ : List ℕ) (y : Reply Tally) → Called Call Kept y ws r ws′ → Called Call₂ Kept₂ y ws r₂ ws₂ → (r ≡ r₂) × (ws′ ≡ ws₂) × Same
-  unfolding Called
-  called-only ws r r₂ ws′ ws₂ (taken t) a b =
-      let (e, same) = by-call t (a .step) (b .step) (a .call) (b .call) in
-      (a .reply ∙ ap told e ∙ sym (b .reply), a .tally ∙ ap (λ (s : Step). words-after s ws) e ∙ sym (b .tally), same)
-  called-only ws r r₂ ws′ ws₂ (refused refusal) a b =
-      (a .reply ∙ sym (b .reply), a .tally ∙ sym (b .tally), by-keeping (a .kept) (b .kept))
 
 -- ---- contents: a tally of the counts that the table announces, where there are eight words for it
 abbrev pub contents-reply : List ℕ → List ℕ → Reply Counts
@@ -85,25 +47,19 @@ module _ (part ws : List ℕ) where
       go false y = refl
 
 -- ---- calls that lend nothing but the tally's words
-module _ (Call : Tally → Step → Type 0) (only : (t : Tally) (s s₂ : Step) → Call t s → Call t s₂ → s ≡ s₂) where
-  pub alone-only : (ws : List ℕ) (r r₂ : ℕ) (ws′ ws₂ : List ℕ) → Called Call (Unit {0}) (held ws) ws r ws′ → Called Call (Unit {0}) (held ws) ws r₂ ws₂ → (r ≡ r₂) × (ws′ ≡ ws₂)
-  alone-only ws r r₂ ws′ ws₂ a b =
-      let same = called-only Call Call (Unit {0}) (Unit {0}) (Unit {0}) (λ t s s₂ x y. (only t s s₂ x y, tt)) (λ x y. tt) ws r r₂ ws′ ws₂ (held ws) a b in
-      (same .0, same .1)
-
 pub record SettingsCalled (ws part : List ℕ) (r : ℕ) (ws′ : List ℕ) : Type 0 where
-  pub answer : Called (λ t s. SettingsPromise t part s) (Unit {0}) (held ws) ws r ws′
+  pub answer : Called told words-after (λ t s. SettingsPromise t part s) (Unit {0}) (held ws) ws r ws′
 
 pub dullavane-settings-only : {ws part : List ℕ} {r r₂ : ℕ} {ws′ ws₂ : List ℕ} → SettingsCalled ws part r ws′ → SettingsCalled ws part r₂ ws₂ → (r ≡ r₂) × (ws′ ≡ ws₂)
 dullavane-settings-only {ws} a b =
-    alone-only _ (λ t s s₂ x y. settings-only x y) ws _ _ _ _ (a .answer) (b .answer)
+    alone-only told words-after _ (λ t s s₂ x y. settings-only x y) ws _ _ _ _ (held ws) (a .answer) (b .answer)
 
 pub record RequirementCalled (ws part : List ℕ) (r : ℕ) (ws′ : List ℕ) : Type 0 where
-  pub answer : Called (λ t s. RequirementPromise t part s) (Unit {0}) (held ws) ws r ws′
+  pub answer : Called told words-after (λ t s. RequirementPromise t part s) (Unit {0}) (held ws) ws r ws′
 
 pub dullavane-requirement-only : {ws part : List ℕ} {r r₂ : ℕ} {ws′ ws₂ : List ℕ} → RequirementCalled ws part r ws′ → RequirementCalled ws part r₂ ws₂ → (r ≡ r₂) × (ws′ ≡ ws₂)
 dullavane-requirement-only {ws} a b =
-    alone-only _ (λ t s s₂ x y. requirement-only x y) ws _ _ _ _ (a .answer) (b .answer)
+    alone-only told words-after _ (λ t s s₂ x y. requirement-only x y) ws _ _ _ _ (held ws) (a .answer) (b .answer)
 
 -- ---- a frequency record
 module _ (ws part fs : List ℕ) (ms ps ns gs : List ℤ) where
@@ -114,11 +70,11 @@ module _ (ws part fs : List ℕ) (ms ps ns gs : List ℤ) where
   FrequencyKept fs′ ms′ ps′ ns′ gs′ = (fs′ ≡ fs) × (ms′ ≡ ms) × (ps′ ≡ ps) × (ns′ ≡ ns) × (gs′ ≡ gs)
 
   pub record FrequencyCalled (r : ℕ) (ws′ fs′ : List ℕ) (ms′ ps′ ns′ gs′ : List ℤ) : Type 0 where
-    pub answer : Called (FrequencyCall fs′ ms′ ps′ ns′ gs′) (FrequencyKept fs′ ms′ ps′ ns′ gs′) (held ws) ws r ws′
+    pub answer : Called told words-after (FrequencyCall fs′ ms′ ps′ ns′ gs′) (FrequencyKept fs′ ms′ ps′ ns′ gs′) (held ws) ws r ws′
 
   pub dullavane-frequency-only : {r r₂ : ℕ} {ws′ ws₂ fs′ fs₂ : List ℕ} {ms′ ps′ ns′ gs′ ms₂ ps₂ ns₂ gs₂ : List ℤ} → FrequencyCalled r ws′ fs′ ms′ ps′ ns′ gs′ → FrequencyCalled r₂ ws₂ fs₂ ms₂ ps₂ ns₂ gs₂ → (r ≡ r₂) × (ws′ ≡ ws₂) × ((fs′ ≡ fs₂) × (ms′ ≡ ms₂) × (ps′ ≡ ps₂) × (ns′ ≡ ns₂) × (gs′ ≡ gs₂))
   dullavane-frequency-only {fs′ = fs′} {fs₂ = fs₂} {ms′ = ms′} {ps′ = ps′} {ns′ = ns′} {gs′ = gs′} {ms₂ = ms₂} {ps₂ = ps₂} {ns₂ = ns₂} {gs₂ = gs₂} a b =
-      called-only (FrequencyCall fs′ ms′ ps′ ns′ gs′) (FrequencyCall fs₂ ms₂ ps₂ ns₂ gs₂) (FrequencyKept fs′ ms′ ps′ ns′ gs′) (FrequencyKept fs₂ ms₂ ps₂ ns₂ gs₂) ((fs′ ≡ fs₂) × (ms′ ≡ ms₂) × (ps′ ≡ ps₂) × (ns′ ≡ ns₂) × (gs′ ≡ gs₂))
+      called-only told words-after (FrequencyCall fs′ ms′ ps′ ns′ gs′) (FrequencyCall fs₂ ms₂ ps₂ ns₂ gs₂) (FrequencyKept fs′ ms′ ps′ ns′ gs′) (FrequencyKept fs₂ ms₂ ps₂ ns₂ gs₂) ((fs′ ≡ fs₂) × (ms′ ≡ ms₂) × (ps′ ≡ ps₂) × (ns′ ≡ ns₂) × (gs′ ≡ gs₂))
       (λ t s s₂ x y. let o = frequency-only _ _ _ _ _ _ _ x y in (o .0, (o .1, o .2, o .3, o .4, o .5)))
       (λ x y. (x .0 ∙ sym (y .0), x .1 ∙ sym (y .1), x .2 ∙ sym (y .2), x .3 ∙ sym (y .3), x .4 ∙ sym (y .4)))
       ws _ _ _ _ (held ws) (a .answer) (b .answer)
@@ -132,11 +88,11 @@ module _ (ws part : List ℕ) (rs ds ms ps ns : List ℤ) (us qs : List ℕ) (xs
   UnitKept rs′ ds′ ps′ ns′ us′ qs′ xs′ ys′ fs′ = (rs′ ≡ rs) × (ds′ ≡ ds) × (ps′ ≡ ps) × (ns′ ≡ ns) × (us′ ≡ us) × (qs′ ≡ qs) × (xs′ ≡ xs) × (ys′ ≡ ys) × (fs′ ≡ fs)
 
   pub record UnitCalled (r : ℕ) (ws′ : List ℕ) (rs′ ds′ ps′ ns′ : List ℤ) (us′ qs′ : List ℕ) (xs′ ys′ fs′ : List ℤ) : Type 0 where
-    pub answer : Called (UnitCall rs′ ds′ ps′ ns′ us′ qs′ xs′ ys′ fs′) (UnitKept rs′ ds′ ps′ ns′ us′ qs′ xs′ ys′ fs′) (held ws) ws r ws′
+    pub answer : Called told words-after (UnitCall rs′ ds′ ps′ ns′ us′ qs′ xs′ ys′ fs′) (UnitKept rs′ ds′ ps′ ns′ us′ qs′ xs′ ys′ fs′) (held ws) ws r ws′
 
   pub dullavane-unit-only : {r r₂ : ℕ} {ws′ ws₂ : List ℕ} {rs′ ds′ ps′ ns′ rs₂ ds₂ ps₂ ns₂ : List ℤ} {us′ qs′ us₂ qs₂ : List ℕ} {xs′ ys′ fs′ xs₂ ys₂ fs₂ : List ℤ} → UnitCalled r ws′ rs′ ds′ ps′ ns′ us′ qs′ xs′ ys′ fs′ → UnitCalled r₂ ws₂ rs₂ ds₂ ps₂ ns₂ us₂ qs₂ xs₂ ys₂ fs₂ → (r ≡ r₂) × (ws′ ≡ ws₂) × ((rs′ ≡ rs₂) × (ds′ ≡ ds₂) × (ps′ ≡ ps₂) × (ns′ ≡ ns₂) × (us′ ≡ us₂) × (qs′ ≡ qs₂) × (xs′ ≡ xs₂) × (ys′ ≡ ys₂) × (fs′ ≡ fs₂))
   dullavane-unit-only {rs′ = rs′} {ds′ = ds′} {ps′ = ps′} {ns′ = ns′} {rs₂ = rs₂} {ds₂ = ds₂} {ps₂ = ps₂} {ns₂ = ns₂} {us′ = us′} {qs′ = qs′} {us₂ = us₂} {qs₂ = qs₂} {xs′ = xs′} {ys′ = ys′} {fs′ = fs′} {xs₂ = xs₂} {ys₂ = ys₂} {fs₂ = fs₂} a b =
-      called-only (UnitCall rs′ ds′ ps′ ns′ us′ qs′ xs′ ys′ fs′) (UnitCall rs₂ ds₂ ps₂ ns₂ us₂ qs₂ xs₂ ys₂ fs₂) (UnitKept rs′ ds′ ps′ ns′ us′ qs′ xs′ ys′ fs′) (UnitKept rs₂ ds₂ ps₂ ns₂ us₂ qs₂ xs₂ ys₂ fs₂) ((rs′ ≡ rs₂) × (ds′ ≡ ds₂) × (ps′ ≡ ps₂) × (ns′ ≡ ns₂) × (us′ ≡ us₂) × (qs′ ≡ qs₂) × (xs′ ≡ xs₂) × (ys′ ≡ ys₂) × (fs′ ≡ fs₂))
+      called-only told words-after (UnitCall rs′ ds′ ps′ ns′ us′ qs′ xs′ ys′ fs′) (UnitCall rs₂ ds₂ ps₂ ns₂ us₂ qs₂ xs₂ ys₂ fs₂) (UnitKept rs′ ds′ ps′ ns′ us′ qs′ xs′ ys′ fs′) (UnitKept rs₂ ds₂ ps₂ ns₂ us₂ qs₂ xs₂ ys₂ fs₂) ((rs′ ≡ rs₂) × (ds′ ≡ ds₂) × (ps′ ≡ ps₂) × (ns′ ≡ ns₂) × (us′ ≡ us₂) × (qs′ ≡ qs₂) × (xs′ ≡ xs₂) × (ys′ ≡ ys₂) × (fs′ ≡ fs₂))
       (λ t s s₂ x y. let o = unit-only _ _ _ _ _ _ _ _ _ _ _ _ x y in (o .0, (o .1, o .2, o .3, o .4, o .5, o .6, o .7, o .8, o .9)))
       (λ x y. (x .0 ∙ sym (y .0), x .1 ∙ sym (y .1), x .2 ∙ sym (y .2), x .3 ∙ sym (y .3), x .4 ∙ sym (y .4), x .5 ∙ sym (y .5), x .6 ∙ sym (y .6), x .7 ∙ sym (y .7), x .8 ∙ sym (y .8)))
       ws _ _ _ _ (held ws) (a .answer) (b .answer)

@@ -132,13 +132,13 @@ unheld-is (taken t) e = cc
 unheld-is (refused r) e = cc
 
 -- eight stores in a row
-pub eight-stores : (ws : List ℕ) (t : Tally) → tally-words ≤ length ws → set (set (set (set (set (set (set (set ws 0 (t .units)) 1 (t .requirements)) 2 (t .records)) 3 (t .least)) 4 (t .smoothing)) 5 (t .limit)) 6 (t .percent)) 7 (t .interval) ≡ with-words t ws
-eight-stores (a ∷ b ∷ c ∷ d ∷ e ∷ f ∷ g ∷ h ∷ ws) t long = refl
-eight-stores (a ∷ b ∷ c ∷ d ∷ e ∷ f ∷ g ∷ []) t long = absurd (omega arith)
-eight-stores (a ∷ b ∷ c ∷ d ∷ e ∷ f ∷ []) t long = absurd (omega arith)
-eight-stores (a ∷ b ∷ c ∷ d ∷ e ∷ []) t long = absurd (omega arith)
-eight-stores (a ∷ b ∷ c ∷ d ∷ []) t long = absurd (omega arith)
-eight-stores (a ∷ b ∷ c ∷ []) t long = absurd (omega arith)
-eight-stores (a ∷ b ∷ []) t long = absurd (omega arith)
-eight-stores (a ∷ []) t long = absurd (omega arith)
-eight-stores [] t long = absurd (omega arith)
+pub eight-stores : (ws : List ℕ) (a b c d e f g h : ℕ) → 8 ≤ length ws → set (set (set (set (set (set (set (set ws 0 a) 1 b) 2 c) 3 d) 4 e) 5 f) 6 g) 7 h ≡ a ∷ b ∷ c ∷ d ∷ e ∷ f ∷ g ∷ h ∷ drop 8 ws
+eight-stores (i ∷ j ∷ k ∷ l ∷ m ∷ n ∷ o ∷ p ∷ ws) a b c d e f g h long = refl
+eight-stores (i ∷ j ∷ k ∷ l ∷ m ∷ n ∷ o ∷ []) a b c d e f g h long = absurd (omega arith)
+eight-stores (i ∷ j ∷ k ∷ l ∷ m ∷ n ∷ []) a b c d e f g h long = absurd (omega arith)
+eight-stores (i ∷ j ∷ k ∷ l ∷ m ∷ []) a b c d e f g h long = absurd (omega arith)
+eight-stores (i ∷ j ∷ k ∷ l ∷ []) a b c d e f g h long = absurd (omega arith)
+eight-stores (i ∷ j ∷ k ∷ []) a b c d e f g h long = absurd (omega arith)
+eight-stores (i ∷ j ∷ []) a b c d e f g h long = absurd (omega arith)
+eight-stores (i ∷ []) a b c d e f g h long = absurd (omega arith)
+eight-stores [] a b c d e f g h long = absurd (omega arith)

@@ -1,10 +1,18 @@
 // dullavane: the calls as the firmware makes them from C. Only numbers and lists cross over; the tally stands in eight lent words. A call answers 0, or the
 // number of the refusal, and then nothing lent has changed.
+ghost use Rattle.dullavane.specs.Answers.{AnswerCalled};
+ghost use Rattle.dullavane.specs.Asked.{MemberCalled};
 ghost use Rattle.dullavane.specs.Promises.{ContentsCalled, SettingsCalled, FrequencyCalled, UnitCalled, RequirementCalled};
+use asked::direction_of;
+use asked::narrow_asked;
+use asked::ready;
+use asked::tell_answer;
+use asked::tell_row;
 use frequencies::frequency::frequency;
 use interval::contents::contents;
 use interval::requirement::requirement;
 use interval::settings::settings;
+use members::roster::member;
 use rules::refusal_number;
 use units::unit::unit;
 use words::Held;
@@ -12,7 +20,14 @@ use words::start;
 use words::tally_in;
 use words::tell;
 
+mod asked;
 mod words;
+
+// How many words tell who stands in a row.
+const MEMBER_WORDS: usize = 3;
+
+// How many words an answer's figures take.
+const REPLY_WORDS: usize = 8;
 
 // Starts a tally. Refuses 12 for fewer than eight words, then 1, 2, 3 and 5.
 #[no_mangle]
@@ -114,6 +129,90 @@ pub extern "C" fn dullavane_requirement(tally: &mut [u32], part: &[u8]) -> u32
     let holding = tally_in(tally);
     match holding {
         Held::Is(before) => tell(requirement(before, part), tally),
+        Held::Refused(refusal) => refusal_number(refusal),
+    }
+}
+
+// Answers a requirement: its members' numbers in the columns, its figures in eight words. Refuses 12 for the tally's words, 11 before the last unit,
+// 12, 11 for lent numbers, then 1 and 10.
+#[no_mangle]
+pub extern "C" fn dullavane_answer(
+    tally: &[u32],
+    part: &[u8],
+    measures: &[i64],
+    positive: &[i64],
+    negative: &[i64],
+    figures: &[i64],
+    places: &[u8],
+    raise: &[i64],
+    lower: &[i64],
+    defaults: &[i64],
+    performances: &mut [i64],
+    factors: &mut [i64],
+    payments: &mut [i64],
+    used: &mut [i64],
+    unused: &mut [i64],
+    reply: &mut [u64],
+) -> u32
+    ensures { λ r. ⌜ AnswerCalled (now (tally .entry)) (now (part .entry)) (now (measures .entry)) (now (positive .entry)) (now (negative .entry)) (now (figures .entry)) (now (places .entry)) (now (raise .entry)) (now (lower .entry)) (now (defaults .entry)) (now (performances .entry)) (now (factors .entry)) (now (payments .entry)) (now (used .entry)) (now (unused .entry)) (now (reply .entry)) r (now (performances .exit)) (now (factors .exit)) (now (payments .exit)) (now (used .exit)) (now (unused .exit)) (now (reply .exit)) ⌝ }
+{
+    let holding = ready(tally, true, REPLY_WORDS <= reply.len());
+    match holding {
+        Held::Is(before) => {
+            let answered = answer::call::answer(
+                before,
+                part,
+                measures,
+                positive,
+                negative,
+                figures,
+                places,
+                raise,
+                lower,
+                defaults,
+                performances,
+                factors,
+                payments,
+                used,
+                unused,
+            );
+            tell_answer(answered, reply)
+        }
+        Held::Refused(refusal) => refusal_number(refusal),
+    }
+}
+
+// Who stands in a row, for a requirement of this direction and region set: three words. Refuses 12 for the tally's words, 11 out of turn or
+// for a number over its width, 12 for the three words, then as `members` does: 11 for row and set, 12 for lists, 11 for lent numbers.
+#[no_mangle]
+pub extern "C" fn dullavane_member(
+    tally: &[u32],
+    row: u32,
+    direction: u32,
+    set: u32,
+    figures: &[i64],
+    numbers: &[u16],
+    places: &[u8],
+    words: &mut [u32],
+) -> u32
+    ensures { λ r. ⌜ MemberCalled (now (tally .entry)) row direction set (now (figures .entry)) (now (numbers .entry)) (now (places .entry)) (now (words .entry)) r (now (words .exit)) ⌝ }
+{
+    let fine = narrow_asked(row, direction, set);
+    let holding = ready(tally, fine, MEMBER_WORDS <= words.len());
+    match holding {
+        Held::Is(before) => {
+            let toward = direction_of(direction);
+            let found = member(
+                row as u16,
+                before.units,
+                toward,
+                set as u8,
+                figures,
+                numbers,
+                places,
+            );
+            tell_row(found, words)
+        }
         Held::Refused(refusal) => refusal_number(refusal),
     }
 }

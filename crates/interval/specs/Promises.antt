@@ -19,7 +19,7 @@ use Rattle.rules.specs.Performance.{performance}
 use Rattle.interval.specs.declared.Tally.{Tally}
 use Rattle.interval.specs.declared.Opened.{Opened}
 use Rattle.interval.specs.declared.Step.{Step}
-use Rattle.interval.specs.Tally.{settings-of, next-region, in-range, frequency-turn, unit-turn, units-taken}
+use Rattle.interval.specs.Tally.{settings-of, next-region, in-range, frequency-turn, unit-turn, answer-turn, units-taken}
 use Rattle.interval.specs.Lent.{placed, series-start, figures-each, figures-of, place-of, six, summed}
 use Rattle.interval.specs.Calls.{opened, refused-step, stepped, left, count-step, least-after, settings-reply, settled, frequency-reply, counted, unit-reply, unit-counted, requirement-reply}
 
@@ -106,6 +106,9 @@ frequency-turn-only t a b = a ∙ sym b
 
 pub unit-turn-only : (t : Tally) {r r′ : Bool} → r ≡ (in-range t && unit-turn t) → r′ ≡ (in-range t && unit-turn t) → r ≡ r′
 unit-turn-only t a b = a ∙ sym b
+
+pub answer-turn-only : (t : Tally) {r r′ : Bool} → r ≡ (in-range t && answer-turn t) → r′ ≡ (in-range t && answer-turn t) → r ≡ r′
+answer-turn-only t a b = a ∙ sym b
 
 pub next-least-only : (t : Tally) (number : ℕ) {r r′ : ℕ} → r ≡ least-after t number → r′ ≡ least-after t number → r ≡ r′
 next-least-only t number a b = a ∙ sym b

@@ -53,6 +53,10 @@ unit-turn t = leb before-units (t .records) && ltb (t .records) (units-end t)
 abbrev pub requirement-turn : Tally → Bool
 requirement-turn t = leb (units-end t) (t .records) && ltb (t .records) (book-end t)
 
+-- a requirement is answered once all units are in
+abbrev pub answer-turn : Tally → Bool
+answer-turn t = leb (units-end t) (t .records)
+
 -- the region whose frequency record comes next
 abbrev pub next-region : Tally → ℕ
 next-region t = t .records - 1

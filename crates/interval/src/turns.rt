@@ -1,7 +1,7 @@
 // Which tallies a call takes: in range, and at its turn. Every other is refused with 11.
 ghost use mathlib.Core.Path.{_≡_};
 ghost use mathlib.Core.Bool.{_&&_};
-ghost use Rattle.interval.specs.Tally.{in-range, settings-kept, settings-turn, frequency-turn, unit-turn, requirement-turn, units-end, book-end};
+ghost use Rattle.interval.specs.Tally.{in-range, settings-kept, settings-turn, frequency-turn, unit-turn, requirement-turn, answer-turn, units-end, book-end};
 use super::Tally;
 
 const MOST_UNITS: u16 = 512;
@@ -93,4 +93,14 @@ pub(crate) fn requirement_turn(tally: Tally) -> bool
         return false;
     }
     tally.records < BEFORE_UNITS + tally.units + tally.requirements
+}
+
+// Every unit is in: from then on a requirement can be answered, in any order, again and again.
+pub fn answer_turn(tally: Tally) -> bool
+    ensures { λ r. ⌜ r ≡ (in-range tally && answer-turn tally) ⌝ }
+{
+    if !in_range(tally) {
+        return false;
+    }
+    BEFORE_UNITS + tally.units <= tally.records
 }

@@ -2,5 +2,7 @@
 pub mod Kept
 pub mod Range
 pub mod Keeps
+pub mod Fine
 pub mod AnswerIs
 pub mod BookAnswer
+pub mod Ready

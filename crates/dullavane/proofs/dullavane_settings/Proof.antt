@@ -3,7 +3,7 @@ use mathlib.Core.Path.{_≡_, refl, sym, _∙_}
 use borrow.Author.Needs.{needs}
 use Rattle.rules.specs.Refusals.{taken, refused}
 use Rattle.dullavane.specs.Words.{held, held-is, unheld-is, held-long}
-use Rattle.dullavane.specs.Promises.{was-held, was-unheld}
+use Rattle.dullavane.specs.Called.{was-held, was-unheld}
 use Rattle.dullavane.proofs.dullavane_settings.Statement.{statement}
 use Rattle.dullavane.proofs.dullavane_settings.Tie as tie
 
@@ -40,7 +40,7 @@ returns c =
     let call = s .before .before in
     let h = call .before .before in
     let a = h .before .before .before .before .before .before .args in
-    record { answer = was-held _ _ (a .tally .now) (holds h) (record { step = call .settings .result; call = call .settings .ensures; reply = s .tell .ensures .0; tally = s .tell .ensures .1 }) }
+    record { answer = was-held _ _ _ _ (a .tally .now) (holds h) (record { step = call .settings .result; call = call .settings .ensures; reply = s .tell .ensures .0; words = s .tell .ensures .1 }) }
 
 same-length-2 : tie.Need-same-length-2
 same-length-2 c = search needs
@@ -49,7 +49,7 @@ returns-2 : tie.Need-returns-2
 returns-2 c =
     let h = c .before .before in
     let a = h .before .before .before .before .before .before .args in
-    record { answer = was-unheld _ _ (a .tally .now) (holds-none h) (record { reply = c .refusal-number .ensures; tally = refl; kept = tt }) }
+    record { answer = was-unheld _ _ _ _ (a .tally .now) (holds-none h) (record { reply = c .refusal-number .ensures; words = refl; kept = tt }) }
 
 pub dullavane-settings-spec : {M : Type 1} → statement M
 dullavane-settings-spec =

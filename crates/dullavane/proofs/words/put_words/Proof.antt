@@ -52,7 +52,10 @@ same-length : tie.Need-same-length
 same-length c = search needs
 
 returns : tie.Need-returns
-returns c = eight-stores (c .before .before .before .before .before .before .args .words .now) (c .before .before .before .before .before .before .args .tally) (search needs)
+returns c =
+    let a = c .before .before .before .before .before .before .args in
+    let t = a .tally in
+    eight-stores (a .words .now) (t .units) (t .requirements) (t .records) (t .least) (t .smoothing) (t .limit) (t .percent) (t .interval) (search needs)
 
 pub put-words-spec : {M : Type 1} → statement M
 put-words-spec =

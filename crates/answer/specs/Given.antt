@@ -1,0 +1,357 @@
+-- The answer as its parts give it, once every test has been passed: RCR, the pools, the shares over the members' numbers. They are the answer that what is
+-- kept gives, with the lines' numbers in the columns.
+use mathlib.Core.Path.{_≡_, refl, sym, _∙_, ap, ap₂}
+use mathlib.Core.Bool.{Bool, true, false, cond, _&&_}
+use mathlib.Core.List.{List, [], _∷_, _++_, map, map-map}
+use Prim.Native.Nat.{ℕ, zero, suc, _+_, _*_, _-_, _≤_, _<_, max}
+use native.Mathlib.Omega.{arith}
+use lib.Dec.{leb, ltb}
+use lib.IntN.{ℤ, pos, negℤ, natAbs, _-ℤ_}
+use lib.ListN.{length, getD, length-map}
+use lib.Signed.{ltZ}
+use borrow.Author.Tests.{leb-true, le-leb, ltb-true, lt-ltb}
+use Rattle.integers.specs.Pairs.{gain, loss}
+use Rattle.integers.specs.Bounds.{gain-≤, loss-≤}
+use Rattle.integers.specs.Sums.{sum, sumℕ, every, when, both, every-at, every-all, sum-size, largest, largest-≤}
+use Rattle.integers.specs.Fills.{filled, filled-none, filled-ext}
+use Rattle.integers.specs.Totals.{numbered, numbered-length}
+use Rattle.rules.specs.declared.Direction.{Direction}
+use Rattle.rules.specs.declared.Standing.{Standing}
+use Rattle.rules.specs.Quantities.{points, regions, most-units, deviation-limit, price-limit, cost-limit, amount-limit, billion}
+use Rattle.rules.specs.Book.{Requirement, covers, toward}
+use Rattle.rules.specs.RequirementRecord.{set-fine}
+use Rattle.rules.specs.Members.{Member}
+use Rattle.rules.specs.Share.{share-of, unplaced-of}
+use Rattle.rules.specs.Factors.{helpful, unhelpful, both-signs, factor}
+use Rattle.rules.specs.Cents.{any-weight, pool-of, used-pool-of, used-weights, unused-weights, charge}
+use Rattle.rules.specs.Answer.{Line, lines-of, answered, Answer as Full}
+use Rattle.interval.specs.Lent.{series-start}
+use Rattle.kept.specs.Kept.{Kept, kept-members, kept-rcr, kept-reliable, kept-few-bad, kept-weighed, kept-positive, kept-negative, kept-response, kept-answer, residual-row, row-member, rows}
+use Rattle.kept.specs.Range.{series-fine, figures-fine, rows-fine, kept-fine, measures-fine, sums-fine}
+use Rattle.book.specs.declared.RequirementFields.{RequirementFields}
+use Rattle.response.specs.declared.Found.{Found}
+use Rattle.response.specs.declared.Response.{Response}
+use Rattle.response.specs.declared.Response.the-variants.{Is, Refused}
+use Rattle.response.specs.Promises.{lent, asked, room, places-fine, lent-fine, rcr-reply, responded, RcrPromise}
+use Rattle.rules.specs.declared.Refusal.{Refusal}
+use Rattle.rules.specs.Refusals.{taken}
+use Rattle.share.specs.Signs.{signs-at}
+use Rattle.members.specs.declared.Field.{Field}
+use Rattle.members.specs.declared.Field.the-variants.{Payment, Used, Unused}
+use Rattle.members.specs.Made.{field-of}
+use Rattle.members.specs.Range.{kept-rows, rows-room, row-fine, rows-all-fine, rows-fine-is}
+use Rattle.members.specs.Lists.{headed}
+use Rattle.members.specs.Values.{values-room, values-of-kept, many-of-kept, last-of-kept}
+use Rattle.answer.specs.declared.Answer.{Answer}
+use Rattle.answer.specs.declared.shares.Paid.{Paid}
+use Rattle.answer.specs.Pools.{pool-cents, used-cents}
+use Rattle.answer.specs.Shares.{numbers, MembersReady, MembersCharged, MembersPaid, pool-over}
+use Rattle.answer.specs.Promises.{kept-lists, lists-long, columns-long, last-standing, shown}
+
+-- ---- RCR: no test that has been passed is refused, and it is at most 7,680,000,000
+pub record FoundReady (n p s : ℕ) (ms ps ns fs : List ℤ) (qs : List ℕ) : Type 0 where
+  pub fields : (leb n most-units && (leb p 100 && set-fine s)) ≡ true
+  pub long : room n (length ms) (length ps) (length ns) (length fs) (length qs) ≡ true
+  pub fine : lent-fine (lent n p ms ps ns fs qs) ≡ true
+
+abbrev pub found-is : ℕ → ℕ → Direction → ℕ → List ℤ → List ℤ → List ℤ → List ℤ → List ℕ → Found
+found-is n p d s ms ps ns fs qs = record { rcr = kept-rcr (lent n p ms ps ns fs qs) (asked d s); reliable = kept-reliable (lent n p ms ps ns fs qs) (asked d s) }
+
+module _ {n p : ℕ} {d : Direction} {s : ℕ} {ms ps ns fs : List ℤ} {qs : List ℕ} {r : Response} (h : FoundReady n p s ms ps ns fs qs) (e : RcrPromise n p d s ms ps ns fs qs r) where
+  found-reply : r ≡ Is (found-is n p d s ms ps ns fs qs)
+  unfolding rcr-reply
+  found-reply = e .reply ∙ rw (h .fields, h .long, h .fine)
+
+  pub found : (x : Found) → r ≡ Is x → x ≡ found-is n p d s ms ps ns fs qs
+  found x f = let same : Is x ≡ Is (found-is n p d s ms ps ns fs qs) = sym f ∙ found-reply in cc
+
+  pub never-refused : {A : Type 0} (x : Refusal) → r ≡ Refused x → A
+  never-refused x f =
+      let same : Refused x ≡ Is (found-is n p d s ms ps ns fs qs) = sym f ∙ found-reply in
+      let z : _≡_ {A = ℕ} 0 1 = cc in
+      absurd (omega arith)
+
+when-≤ : (t : Bool) (x : ℤ) → natAbs (when t x) ≤ natAbs x
+when-≤ true x = omega arith
+when-≤ false x = omega arith
+
+cond-≤ : (t : Bool) (x k : ℕ) → x ≤ k → cond t x 0 ≤ k
+cond-≤ true x k h = h
+cond-≤ false x k h = omega arith
+
+pub rcr-within : (k : Kept) (q : Requirement) → k .units ≤ most-units → series-fine k ≡ true → kept-rcr k q ≤ 7_680_000_000
+unfolding kept-rcr series-fine
+rcr-within k q few e =
+    cond-≤ (kept-reliable k q && kept-few-bad k q) _ 7_680_000_000 (largest-≤ points 7_680_000_000 _ (λ t l. cond-≤ (ltZ (pos 0) (toward (q .direction) (kept-weighed k q t))) (kept-response k q t) 7_680_000_000 (at t l)))
+  where
+    over : (xs : List ℤ) (t : ℕ) → sums-fine k xs t ≡ true → natAbs (sum regions (λ r. when (covers q r) (getD xs (series-start r + t) (pos 0)))) ≤ 7_680_000_000
+    over xs t f =
+        omega (arith, sum-size regions (λ r. when (covers q r) (getD xs (series-start r + t) (pos 0))) (λ r. natAbs (getD xs (series-start r + t) (pos 0))) (λ r _. when-≤ (covers q r) (getD xs (series-start r + t) (pos 0))), leb-true _ (deviation-limit * k .units) f)
+
+    at : (t : ℕ) → t < points → kept-response k q t ≤ 7_680_000_000
+    at t l =
+        let here = every-at points (λ t. measures-fine k t && (sums-fine k (k .positive) t && sums-fine k (k .negative) t)) e t l in
+        let sums = both (sums-fine k (k .positive) t) (sums-fine k (k .negative) t) (both (measures-fine k t) _ here .1) in
+        omega (arith, over (k .positive) t (sums .0), over (k .negative) t (sums .1), gain-≤ (kept-positive k q t), loss-≤ (kept-negative k q t))
+
+-- ---- lines and columns
+-- what stands in a column where a number of each line depends on its place alone
+lines-column : (g : ℕ → ℤ) (field : Line → ℤ) (h : ℕ → Member → Line) → ((i : ℕ) (m : Member) → field (h i m) ≡ g i) → (ms : List Member) (old : List ℤ) → headed (map field (numbered h ms)) old ≡ filled (length ms) g old
+unfolding headed numbered filled
+lines-column g field h e [] old = sym (filled-none g old)
+lines-column g field h e (m ∷ ms) [] = refl
+lines-column g field h e (m ∷ ms) (y ∷ ys) = ap₂ (λ (z : ℤ) (l : List ℤ). z ∷ l) (e 0 m) (lines-column (λ i. g (suc i)) field (λ i. h (suc i)) (λ i x. e (suc i) x) ms ys)
+
+-- and where it is the member's
+lines-members : (f : Member → ℤ) (field : Line → ℤ) (h : ℕ → Member → Line) → ((i : ℕ) (m : Member) → field (h i m) ≡ f m) → (ms : List Member) → map field (numbered h ms) ≡ map f ms
+unfolding numbered
+lines-members f field h e [] = refl
+lines-members f field h e (m ∷ ms) = ap₂ (λ (z : ℤ) (l : List ℤ). z ∷ l) (e 0 m) (lines-members f field (λ i. h (suc i)) (λ i x. e (suc i) x) ms)
+
+-- the last line is the last member's
+last-line : (h : ℕ → Member → Line) → ((i : ℕ) (m : Member) → h i m .standing ≡ m .standing) → (ms : List Member) (m : Member) → last-standing (numbered h (ms ++ (m ∷ []))) ≡ m .standing
+unfolding numbered
+last-line h e [] m = e 0 m
+last-line h e (x ∷ []) m = e 1 m
+last-line h e (x ∷ y ∷ ms) m = last-line (λ i. h (suc i)) (λ i z. e (suc i) z) (y ∷ ms) m
+
+-- a list that heads a column again
+headed-again : (xs ys old : List ℤ) → length xs ≡ length ys → headed xs (headed ys old) ≡ headed xs old
+unfolding headed
+headed-again [] [] old e = refl
+headed-again [] (y ∷ ys) old e = absurd (omega arith)
+headed-again (x ∷ xs) [] old e = refl
+headed-again (x ∷ xs) (y ∷ ys) [] e = refl
+headed-again (x ∷ xs) (y ∷ ys) (z ∷ zs) e = ap (λ (l : List ℤ). x ∷ l) (headed-again xs ys zs (omega arith))
+
+-- ---- the whole answer
+abbrev pub required : RequirementFields → Requirement
+required f = record { number = f .number; set = f .set; direction = f .direction; price = f .price; cost = f .cost; enabled = f .enabled; used = f .used }
+
+pub record GivenReady (f : RequirementFields) (n p : ℕ) (ms ps ns fs : List ℤ) (qs : List ℕ) (xs ys ds : List ℤ) (a b c d e : ℕ) : Type 0 where
+  pub few : n ≤ most-units
+  pub percent : p ≤ 100
+  pub set : set-fine (f .set) ≡ true
+  pub price : f .price ≤ price-limit
+  pub cost : f .cost ≤ cost-limit
+  pub enabled : f .enabled ≤ amount-limit
+  pub long : lists-long n (length ms) (length ps) (length ns) (length fs) (length qs) (length xs) (length ys) (length ds) ≡ true
+  pub columns : columns-long n a b c d e ≡ true
+  pub fine : kept-fine (kept-lists n p ms ps ns fs [] qs xs ys ds) ≡ true
+
+module _ (f : RequirementFields) (n p : ℕ) (ms ps ns fs : List ℤ) (us qs : List ℕ) (xs ys ds : List ℤ) where
+  abbrev pub all : Kept
+  all = kept-lists n p ms ps ns fs us qs xs ys ds
+
+  abbrev pub full : Full
+  full = kept-answer all (required f)
+
+  pub record GivenIs (old₁ old₂ old₃ old₄ old₅ : List ℤ) (r : Answer) (new₁ new₂ new₃ new₄ new₅ : List ℤ) : Type 0 where
+    pub figures : r ≡ shown full
+    pub performances : new₁ ≡ headed (map (λ l. l .performance) (full .lines)) old₁
+    pub factors : new₂ ≡ headed (map (λ l. l .factor) (full .lines)) old₂
+    pub payments : new₃ ≡ headed (map (λ l. l .payment) (full .lines)) old₃
+    pub used : new₄ ≡ headed (map (λ l. l .used) (full .lines)) old₄
+    pub unused : new₅ ≡ headed (map (λ l. l .unused) (full .lines)) old₅
+
+pub record GivenAll (f : RequirementFields) (n p : ℕ) (ms ps ns fs : List ℤ) (qs : List ℕ) (xs ys ds old₁ old₂ old₃ old₄ old₅ : List ℤ) (r : Answer) (new₁ new₂ new₃ new₄ new₅ : List ℤ) : Type 0 where
+  pub whatever : (us : List ℕ) → GivenIs f n p ms ps ns fs us qs xs ys ds old₁ old₂ old₃ old₄ old₅ r new₁ new₂ new₃ new₄ new₅
+
+-- ---- what the tests give to each part
+module _ {f : RequirementFields} {n p : ℕ} {ms ps ns fs : List ℤ} {qs : List ℕ} {xs ys ds : List ℤ} {a b c d e : ℕ} (h : GivenReady f n p ms ps ns fs qs xs ys ds a b c d e) where
+  abbrev lists : Kept
+  lists = kept-lists n p ms ps ns fs [] qs xs ys ds
+
+  series-is : series-fine lists ≡ true
+  series-is = both (series-fine lists) _ (h .fine) .0
+
+  pub rest-is : (figures-fine lists && rows-fine lists) ≡ true
+  rest-is = both (series-fine lists) _ (h .fine) .1
+
+  places-are : places-fine n qs ≡ true
+  unfolding places-fine rows-all-fine
+  places-are =
+      every-all n _ (λ i l. both (ltb (getD qs i 0) (2 * regions)) _ (every-at n (λ i. row-fine i qs xs ys ds) (sym (rows-fine-is lists) ∙ both (figures-fine lists) (rows-fine lists) rest-is .1) i l) .0)
+
+  pub rcr-ready : FoundReady n p (f .set) ms ps ns fs qs
+  unfolding lent-fine series-fine figures-fine
+  rcr-ready =
+      let x = both (leb 375 (length ms)) _ (h .long) in
+      let y = both (leb 375 (length ps)) _ (x .1) in
+      let z = both (leb 375 (length ns)) _ (y .1) in
+      let w = both (leb 45 (length fs)) _ (z .1) in
+      let q = both (leb n (length qs)) _ (w .1) in
+      record {
+        fields = rw (le-leb n most-units (h .few), le-leb p 100 (h .percent)) (h .set);
+        long = rw (x .0, y .0, z .0, w .0) (q .0);
+        fine = rw (series-is, both (figures-fine lists) (rows-fine lists) rest-is .0) places-are;
+      }
+
+  pub rcr-small : (d : Direction) → kept-rcr (lent n p ms ps ns fs qs) (asked d (f .set)) ≤ 7_680_000_000
+  unfolding series-fine
+  rcr-small d = rcr-within (lent n p ms ps ns fs qs) (asked d (f .set)) (h .few) series-is
+
+  pub record Rooms : Type 0 where
+    pub performances : n < a
+    pub factors : n < b
+    pub payments : n < c
+    pub used : n < d
+    pub unused : n < e
+
+  pub rooms : Rooms
+  rooms =
+      let x = both (ltb n a) _ (h .columns) in
+      let y = both (ltb n b) _ (x .1) in
+      let z = both (ltb n c) _ (y .1) in
+      let w = both (ltb n d) _ (z .1) in
+      record {
+        performances = ltb-true _ _ (x .0);
+        factors = ltb-true _ _ (y .0);
+        payments = ltb-true _ _ (z .0);
+        used = ltb-true _ _ (w .0);
+        unused = ltb-true _ _ (w .1);
+      }
+
+  -- a column of at least one number more than units
+  pub members-ready : (d : Direction) (room : ℕ) → n < room → MembersReady n d (f .set) fs qs xs ys ds room
+  unfolding figures-fine rows-fine
+  members-ready d room l =
+      let x = both (leb 375 (length ms)) _ (h .long) in
+      let y = both (leb 375 (length ps)) _ (x .1) in
+      let z = both (leb 375 (length ns)) _ (y .1) in
+      let w = both (leb 45 (length fs)) _ (z .1) in
+      record {
+        fields = rw (le-leb n most-units (h .few)) (h .set);
+        long = rw (w .0, lt-ltb n room l) (w .1);
+        fine = rest-is;
+      }
+
+-- ---- the parts together
+-- the sides and the weights of a requirement's members, by their numbers
+module _ (k : Kept) (q : Requirement) where
+  abbrev sharers : List Member
+  sharers = kept-members k q
+
+  -- as the calls list them
+  abbrev listed : Field → List ℤ
+  listed f = numbers f (k .units) (q .direction) (q .set) (k .figures) (k .places) (k .raise) (k .lower) (k .defaults)
+
+  listed-is : (f : Field) → listed f ≡ map (field-of f) sharers
+  listed-is f = values-of-kept f k q
+
+  listed-many : (f : Field) → length (listed f) ≡ length sharers
+  listed-many f = ap length (listed-is f) ∙ length-map sharers (field-of f)
+
+  sides : (f : Field) (g : ℤ → ℕ) → map g (listed f) ≡ map (λ m. g (field-of f m)) sharers
+  sides f g = ap (map g) (listed-is f) ∙ map-map g (field-of f) sharers
+
+  sides-many : (f : Field) (g : ℤ → ℕ) → length (map g (listed f)) ≡ length sharers
+  sides-many f g = length-map (listed f) g ∙ listed-many f
+
+  signs-are : (T i : ℕ) → signs-at T (listed Payment) i ≡ both-signs T sharers i
+  signs-are T i = ap₂ (λ (a b : List ℕ). pos (share-of T a i) -ℤ pos (share-of T b i)) (sides Payment gain) (sides Payment loss)
+
+  abbrev lines : ℕ → ℕ → ℕ → List Line
+  lines a b c = lines-of a b c sharers
+
+  performances-are : (a b c : ℕ) → listed Payment ≡ map (λ l. l .performance) (lines a b c)
+  unfolding lines-of
+  performances-are a b c = listed-is Payment ∙ sym (lines-members (λ m. m .payment) (λ l. l .performance) _ (λ i m. refl) sharers)
+
+  factors-are : (a b c : ℕ) (old : List ℤ) → filled (length (listed Payment)) (signs-at billion (listed Payment)) old ≡ headed (map (λ l. l .factor) (lines a b c)) old
+  unfolding lines-of
+  factors-are a b c old =
+      ap (λ (m : ℕ). filled m (signs-at billion (listed Payment)) old) (listed-many Payment)
+      ∙ filled-ext (length sharers) _ (factor sharers) old (λ i _. signs-are billion i)
+      ∙ sym (lines-column (factor sharers) (λ l. l .factor) _ (λ i m. refl) sharers old)
+
+  payments-are : (a b c : ℕ) (old : List ℤ) → filled (length (listed Payment)) (signs-at a (listed Payment)) old ≡ headed (map (λ l. l .payment) (lines a b c)) old
+  unfolding lines-of
+  payments-are a b c old =
+      ap (λ (m : ℕ). filled m (signs-at a (listed Payment)) old) (listed-many Payment)
+      ∙ filled-ext (length sharers) _ (both-signs a sharers) old (λ i _. signs-are a i)
+      ∙ sym (lines-column (both-signs a sharers) (λ l. l .payment) _ (λ i m. refl) sharers old)
+
+  used-are : (a b c : ℕ) (old : List ℤ) → filled (length (map loss (listed Used))) (λ i. negℤ (pos (share-of b (map loss (listed Used)) i))) old ≡ headed (map (λ l. l .used) (lines a b c)) old
+  unfolding lines-of
+  used-are a b c old =
+      ap₂ (λ (m : ℕ) (ws : List ℕ). filled m (λ i. negℤ (pos (share-of b ws i))) old) (sides-many Used loss) (sides Used loss)
+      ∙ sym (lines-column (charge b (used-weights sharers)) (λ l. l .used) _ (λ i m. refl) sharers old)
+
+  unused-are : (a b c : ℕ) (old : List ℤ) → filled (length (map loss (listed Unused))) (λ i. negℤ (pos (share-of c (map loss (listed Unused)) i))) old ≡ headed (map (λ l. l .unused) (lines a b c)) old
+  unfolding lines-of
+  unused-are a b c old =
+      ap₂ (λ (m : ℕ) (ws : List ℕ). filled m (λ i. negℤ (pos (share-of c ws i))) old) (sides-many Unused loss) (sides Unused loss)
+      ∙ sym (lines-column (charge c (unused-weights sharers)) (λ l. l .unused) _ (λ i m. refl) sharers old)
+
+  many-lines : (a b c : ℕ) → length (listed Payment) ≡ length (lines a b c)
+  unfolding lines-of
+  many-lines a b c = listed-many Payment ∙ sym (numbered-length _ sharers)
+
+  last-is : (a b c : ℕ) → last-standing (lines a b c) ≡ residual-row k q .standing
+  unfolding lines-of kept-members
+  last-is a b c = last-line _ (λ i m. refl) (map (row-member k (q .direction)) (rows k q)) (residual-row k q)
+
+-- equal figures make equal answers
+answer-same : {number : ℕ} {d : Direction} {m m′ : ℕ} {s s′ : Standing} {x x′ y y′ a a′ b b′ c c′ e e′ : ℕ} → m ≡ m′ → s ≡ s′ → x ≡ x′ → y ≡ y′ → a ≡ a′ → b ≡ b′ → c ≡ c′ → e ≡ e′ → _≡_ {A = Answer} (record { number = number; direction = d; members = m; residual = s; rcr = x; pool = y; used = record { pool = a; unplaced = b }; unused = record { pool = c; unplaced = e } }) (record { number = number; direction = d; members = m′; residual = s′; rcr = x′; pool = y′; used = record { pool = a′; unplaced = b′ }; unused = record { pool = c′; unplaced = e′ } })
+answer-same {number} {d} {m} {m′} {s} {s′} {x} {x′} {y} {y′} {a} {a′} {b} {b′} {c} {c′} {e} {e′} hm hs hx hy ha hb hc he =
+    ap₂ (λ (i : ℕ) (j : Standing). record { number = number; direction = d; members = i; residual = j; rcr = x; pool = y; used = record { pool = a; unplaced = b }; unused = record { pool = c; unplaced = e } }) hm hs
+    ∙ ap₂ (λ (i j : ℕ). record { number = number; direction = d; members = m′; residual = s′; rcr = i; pool = j; used = record { pool = a; unplaced = b }; unused = record { pool = c; unplaced = e } }) hx hy
+    ∙ ap₂ (λ (i j : ℕ). record { number = number; direction = d; members = m′; residual = s′; rcr = x′; pool = y′; used = record { pool = i; unplaced = j }; unused = record { pool = c; unplaced = e } }) ha hb
+    ∙ ap₂ (λ (i j : ℕ). record { number = number; direction = d; members = m′; residual = s′; rcr = x′; pool = y′; used = record { pool = a′; unplaced = b′ }; unused = record { pool = i; unplaced = j } }) hc he
+
+-- what the calls answer is the answer of what is kept
+module _ (f : RequirementFields) (n p : ℕ) (ms ps ns fs : List ℤ) (us qs : List ℕ) (xs ys ds : List ℤ) where
+  abbrev k : Kept
+  k = kept-lists n p ms ps ns fs us qs xs ys ds
+
+  abbrev q : Requirement
+  q = required f
+
+  abbrev the-pool : ℕ
+  the-pool = pool-of q (kept-rcr k q) (kept-members k q)
+
+  abbrev the-used : ℕ
+  the-used = used-pool-of q (kept-reliable k q)
+
+  abbrev the-unused : ℕ
+  the-unused = f .cost - the-used
+
+  pool-same : {x y : ℕ} → x ≡ y → pool-over (f .price) x (listed k q Payment) ≡ pool-of q y (kept-members k q)
+  pool-same {x} {y} e =
+      ap (λ (z : ℕ). pool-over (f .price) z (listed k q Payment)) e
+      ∙ ap₂ (λ (a b : List ℕ). pool-cents (f .price) y (any-weight a) (any-weight b)) (sides k q Payment gain) (sides k q Payment loss)
+
+  -- the column ends with the performances of payment
+  settles : (old : List ℤ) {mid₁ mid₂ new : List ℤ} → mid₁ ≡ headed (listed k q Unused) old → mid₂ ≡ headed (listed k q Used) mid₁ → new ≡ headed (listed k q Payment) mid₂ → new ≡ headed (listed k q Payment) old
+  settles old {mid₁} {mid₂} {new} a b c =
+      c
+      ∙ ap (λ (l : List ℤ). headed (listed k q Payment) l) b
+      ∙ headed-again (listed k q Payment) (listed k q Used) mid₁ (listed-many k q Payment ∙ sym (listed-many k q Used))
+      ∙ ap (λ (l : List ℤ). headed (listed k q Payment) l) a
+      ∙ headed-again (listed k q Payment) (listed k q Unused) old (listed-many k q Payment ∙ sym (listed-many k q Unused))
+
+  pub given-is : {x : Found} {u v r₄ r₅ : ℕ} {paid : Paid} {old₁ old₂ old₃ old₄ old₅ mid₁ mid₂ new₁ new₂ new₃ new₄ new₅ : List ℤ} → x ≡ found-is n p (f .direction) (f .set) ms ps ns fs qs → u ≡ used-cents (f .cost) (f .enabled) (f .used) (x .reliable) → v ≡ f .cost - u → MembersCharged Unused v n (f .direction) (f .set) fs qs xs ys ds old₁ old₅ r₅ mid₁ new₅ → MembersCharged Used u n (f .direction) (f .set) fs qs xs ys ds mid₁ old₄ r₄ mid₂ new₄ → MembersPaid (f .price) (x .rcr) n (f .direction) (f .set) fs qs xs ys ds mid₂ old₂ old₃ paid new₁ new₂ new₃ → GivenIs f n p ms ps ns fs us qs xs ys ds old₁ old₂ old₃ old₄ old₅ (record { number = f .number; direction = f .direction; members = paid .members; residual = paid .residual; rcr = x .rcr; pool = paid .pool; used = record { pool = u; unplaced = r₄ }; unused = record { pool = v; unplaced = r₅ } }) new₁ new₂ new₃ new₄ new₅
+  unfolding kept-answer answered kept-rcr
+  given-is {x} {u} {v} {r₄} {r₅} {paid} {old₁} {old₂} {old₃} {old₄} {old₅} ex eu ev a b c =
+      let rcr : x .rcr ≡ kept-rcr k q = ap (λ (y : Found). y .rcr) ex in
+      let used-up : u ≡ the-used = eu ∙ ap (λ (t : Bool). used-cents (f .cost) (f .enabled) (f .used) t) (ap (λ (y : Found). y .reliable) ex) in
+      let rest : v ≡ the-unused = ev ∙ ap (λ (z : ℕ). f .cost - z) used-up in
+      let pooled : pool-over (f .price) (x .rcr) (listed k q Payment) ≡ the-pool = pool-same rcr in
+      record {
+        figures =
+            answer-same
+            (c .many ∙ many-lines k q the-pool the-used the-unused)
+            (c .last ∙ last-of-kept k q ∙ sym (last-is k q the-pool the-used the-unused))
+            rcr
+            (c .pool ∙ pooled)
+            used-up
+            (b .unplaced ∙ ap₂ (λ (z : ℕ) (ws : List ℕ). unplaced-of z ws) used-up (sides k q Used loss))
+            rest
+            (a .unplaced ∙ ap₂ (λ (z : ℕ) (ws : List ℕ). unplaced-of z ws) rest (sides k q Unused loss));
+        performances = settles old₁ (a .column) (b .column) (c .performances) ∙ ap (λ (l : List ℤ). headed l old₁) (performances-are k q the-pool the-used the-unused);
+        factors = c .factors ∙ factors-are k q the-pool the-used the-unused old₂;
+        payments = c .payments ∙ ap (λ (z : ℕ). filled (length (listed k q Payment)) (signs-at z (listed k q Payment)) old₃) pooled ∙ payments-are k q the-pool the-used the-unused old₃;
+        used = b .amounts ∙ ap (λ (z : ℕ). filled (length (map loss (listed k q Used))) (λ i. negℤ (pos (share-of z (map loss (listed k q Used)) i))) old₄) used-up ∙ used-are k q the-pool the-used the-unused old₄;
+        unused = a .amounts ∙ ap (λ (z : ℕ). filled (length (map loss (listed k q Unused))) (λ i. negℤ (pos (share-of z (map loss (listed k q Unused)) i))) old₅) rest ∙ unused-are k q the-pool the-used the-unused old₅;
+      }

@@ -1,0 +1,8 @@
+-- The answer to a requirement
+pub mod Pools
+pub mod Shares
+pub mod Promises
+pub mod Lent
+pub mod Given
+pub mod Call
+pub mod BookAnswered

@@ -1,0 +1,97 @@
+// The call that answers a requirement, by its record in the book.
+ghost use mathlib.Core.Path.{_≡_};
+ghost use Rattle.answer.specs.Promises.{AnswerPromise};
+use super::Answered;
+use super::given::given;
+use super::lent::columns_long;
+use super::lent::lent_in_range;
+use super::lent::lists_long;
+use book::RequirementRead;
+use interval::Tally;
+use interval::turns::answer_turn;
+use rules::Refusal;
+
+// Answers the requirement whose record `part` starts with: its figures, and a row for each member in the five columns, the residual last.
+// Refuses 11 before the last unit or for a tally out of range, then 12, then 11 for lent numbers, then 1 and 10 for the record.
+pub fn answer(
+    tally: Tally,
+    part: &[u8],
+    measures: &[i64],
+    positive: &[i64],
+    negative: &[i64],
+    figures: &[i64],
+    places: &[u8],
+    raise: &[i64],
+    lower: &[i64],
+    defaults: &[i64],
+    performances: &mut [i64],
+    factors: &mut [i64],
+    payments: &mut [i64],
+    used: &mut [i64],
+    unused: &mut [i64],
+) -> Answered
+    ensures { λ r. ⌜ AnswerPromise tally (now (part .entry)) (now (measures .entry)) (now (positive .entry)) (now (negative .entry)) (now (figures .entry)) (now (places .entry)) (now (raise .entry)) (now (lower .entry)) (now (defaults .entry)) (now (performances .entry)) (now (factors .entry)) (now (payments .entry)) (now (used .entry)) (now (unused .entry)) r (now (performances .exit)) (now (factors .exit)) (now (payments .exit)) (now (used .exit)) (now (unused .exit)) ⌝ }
+{
+    if !answer_turn(tally) {
+        return Answered::Refused(Refusal::OutOfTurn);
+    }
+    let units = tally.units;
+    if !lists_long(
+        units,
+        measures.len(),
+        positive.len(),
+        negative.len(),
+        figures.len(),
+        places.len(),
+        raise.len(),
+        lower.len(),
+        defaults.len(),
+    ) {
+        return Answered::Refused(Refusal::TooShort);
+    }
+    if !columns_long(
+        units,
+        performances.len(),
+        factors.len(),
+        payments.len(),
+        used.len(),
+        unused.len(),
+    ) {
+        return Answered::Refused(Refusal::TooShort);
+    }
+    if !lent_in_range(
+        units,
+        measures,
+        positive,
+        negative,
+        figures,
+        places,
+        raise,
+        lower,
+        defaults,
+    ) {
+        return Answered::Refused(Refusal::OutOfTurn);
+    }
+    let read = book::requirement::read_requirement(part, 0, false);
+    match read {
+        RequirementRead::Taken(fields) => Answered::Given(given(
+            fields,
+            units,
+            tally.percent,
+            measures,
+            positive,
+            negative,
+            figures,
+            places,
+            raise,
+            lower,
+            defaults,
+            performances,
+            factors,
+            payments,
+            used,
+            unused,
+        )),
+        RequirementRead::Refused(refusal) => Answered::Refused(refusal),
+    }
+}

@@ -1,0 +1,148 @@
+// A requirement's answer, once every test has been passed.
+ghost use mathlib.Core.Path.{_≡_};
+ghost use lib.ListN.{length};
+ghost use Rattle.answer.specs.Given.{FoundReady, found-is, GivenReady, GivenAll};
+use super::Answer;
+use super::Charge;
+use super::pools::used_pool;
+use super::shares::charge_members;
+use super::shares::pay;
+use book::RequirementFields;
+use members::Field;
+use response::Found;
+use response::Response;
+use rules::Direction;
+
+// RCR, and whether all regions are reliable. It has been tested that nothing is refused.
+fn found_of(
+    units: u16,
+    percent: u8,
+    direction: Direction,
+    set: u8,
+    measures: &[i64],
+    positive: &[i64],
+    negative: &[i64],
+    figures: &[i64],
+    places: &[u8],
+) -> Found
+    requires { ⌜ FoundReady units percent set (now measures) (now positive) (now negative) (now figures) (now places) ⌝ }
+    ensures { λ r. ⌜ r ≡ found-is units percent direction set (now (measures .entry)) (now (positive .entry)) (now (negative .entry)) (now (figures .entry)) (now (places .entry)) ⌝ }
+{
+    let response = response::rcr(
+        units,
+        percent,
+        direction,
+        set,
+        measures,
+        positive,
+        negative,
+        figures,
+        places,
+    );
+    match response {
+        Response::Is(found) => found,
+        Response::Refused(_) => Found {
+            rcr: 0,
+            reliable: false,
+        },
+    }
+}
+
+// Unused and used charges first, so that the column of performances ends with those of payment.
+pub(crate) fn given(
+    fields: RequirementFields,
+    units: u16,
+    percent: u8,
+    measures: &[i64],
+    positive: &[i64],
+    negative: &[i64],
+    figures: &[i64],
+    places: &[u8],
+    raise: &[i64],
+    lower: &[i64],
+    defaults: &[i64],
+    performances: &mut [i64],
+    factors: &mut [i64],
+    payments: &mut [i64],
+    used: &mut [i64],
+    unused: &mut [i64],
+) -> Answer
+    requires { ⌜ GivenReady fields units percent (now measures) (now positive) (now negative) (now figures) (now places) (now raise) (now lower) (now defaults) (length (now performances)) (length (now factors)) (length (now payments)) (length (now used)) (length (now unused)) ⌝ }
+    ensures { λ r. ⌜ GivenAll fields units percent (now (measures .entry)) (now (positive .entry)) (now (negative .entry)) (now (figures .entry)) (now (places .entry)) (now (raise .entry)) (now (lower .entry)) (now (defaults .entry)) (now (performances .entry)) (now (factors .entry)) (now (payments .entry)) (now (used .entry)) (now (unused .entry)) r (now (performances .exit)) (now (factors .exit)) (now (payments .exit)) (now (used .exit)) (now (unused .exit)) ⌝ }
+{
+    let direction = fields.direction;
+    let set = fields.set;
+    let found = found_of(
+        units,
+        percent,
+        direction,
+        set,
+        measures,
+        positive,
+        negative,
+        figures,
+        places,
+    );
+    let used_cents = used_pool(fields.cost, fields.enabled, fields.used, found.reliable);
+    let unused_cents = fields.cost - used_cents;
+    let unused_left = charge_members(
+        Field::Unused,
+        unused_cents,
+        units,
+        direction,
+        set,
+        figures,
+        places,
+        raise,
+        lower,
+        defaults,
+        performances,
+        unused,
+    );
+    let used_left = charge_members(
+        Field::Used,
+        used_cents,
+        units,
+        direction,
+        set,
+        figures,
+        places,
+        raise,
+        lower,
+        defaults,
+        performances,
+        used,
+    );
+    let paid = pay(
+        fields.price,
+        found.rcr,
+        units,
+        direction,
+        set,
+        figures,
+        places,
+        raise,
+        lower,
+        defaults,
+        performances,
+        factors,
+        payments,
+    );
+    let residual = paid.residual;
+    Answer {
+        number: fields.number,
+        direction: direction,
+        members: paid.members,
+        residual: residual,
+        rcr: found.rcr,
+        pool: paid.pool,
+        used: Charge {
+            pool: used_cents,
+            unplaced: used_left,
+        },
+        unused: Charge {
+            pool: unused_cents,
+            unplaced: unused_left,
+        },
+    }
+}

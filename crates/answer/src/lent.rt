@@ -1,0 +1,104 @@
+// Which lent lists an answer is worked out from: long enough, else 12, and of numbers in range, else 11.
+ghost use mathlib.Core.Path.{_≡_};
+ghost use mathlib.Core.List.{[]};
+ghost use Prim.Native.Nat.{_*_, _≤_};
+ghost use lib.ListN.{length};
+ghost use Rattle.kept.specs.Range.{kept-fine};
+ghost use Rattle.answer.specs.Promises.{lists-long, columns-long, kept-lists, LentReady};
+use members::range::rows_in_range;
+use response::range::figures_in_range;
+use response::range::series_in_range;
+
+const SERIES_LENGTH: usize = 375;
+
+const FIGURES_LENGTH: usize = 45;
+
+// The series and figures of five regions, and a row for each unit: by the lengths of the lists.
+pub(crate) fn lists_long(
+    units: u16,
+    measures: usize,
+    positive: usize,
+    negative: usize,
+    figures: usize,
+    places: usize,
+    raise: usize,
+    lower: usize,
+    defaults: usize,
+) -> bool
+    ensures { λ r. ⌜ r ≡ lists-long units measures positive negative figures places raise lower defaults ⌝ }
+{
+    let rows = units as usize;
+    if measures < SERIES_LENGTH {
+        return false;
+    }
+    if positive < SERIES_LENGTH {
+        return false;
+    }
+    if negative < SERIES_LENGTH {
+        return false;
+    }
+    if figures < FIGURES_LENGTH {
+        return false;
+    }
+    if places < rows {
+        return false;
+    }
+    if raise < rows {
+        return false;
+    }
+    if lower < rows {
+        return false;
+    }
+    6 * rows <= defaults
+}
+
+// One number more than units in each of the five columns.
+pub(crate) fn columns_long(
+    units: u16,
+    performances: usize,
+    factors: usize,
+    payments: usize,
+    used: usize,
+    unused: usize,
+) -> bool
+    ensures { λ r. ⌜ r ≡ columns-long units performances factors payments used unused ⌝ }
+{
+    let rows = units as usize;
+    if performances <= rows {
+        return false;
+    }
+    if factors <= rows {
+        return false;
+    }
+    if payments <= rows {
+        return false;
+    }
+    if used <= rows {
+        return false;
+    }
+    rows < unused
+}
+
+// Every number that is read.
+pub(crate) fn lent_in_range(
+    units: u16,
+    measures: &[i64],
+    positive: &[i64],
+    negative: &[i64],
+    figures: &[i64],
+    places: &[u8],
+    raise: &[i64],
+    lower: &[i64],
+    defaults: &[i64],
+) -> bool
+    requires { ⌜ LentReady units (now measures) (now positive) (now negative) (now figures) (now places) (now raise) (now lower) (now defaults) ⌝ }
+    ensures { λ r. ⌜ r ≡ kept-fine (kept-lists units 0 (now (measures .entry)) (now (positive .entry)) (now (negative .entry)) (now (figures .entry)) [] (now (places .entry)) (now (raise .entry)) (now (lower .entry)) (now (defaults .entry))) ⌝ }
+{
+    if !series_in_range(units, measures, positive, negative) {
+        return false;
+    }
+    if !figures_in_range(figures) {
+        return false;
+    }
+    rows_in_range(units, places, raise, lower, defaults)
+}

@@ -1,0 +1,43 @@
+// Parts and sizes of a number, as naturals.
+ghost use mathlib.Core.Path.{_≡_};
+ghost use Prim.Native.Nat.{max};
+ghost use lib.IntN.{natAbs};
+ghost use Rattle.integers.specs.Pairs.{gain, loss};
+
+// What stands above zero.
+pub(crate) fn above(x: i64) -> u64
+    ensures { λ r. ⌜ r ≡ gain x ⌝ }
+{
+    if x < 0 {
+        return 0;
+    }
+    x as u64
+}
+
+// The size of what stands below zero. The least i64 has no negative of its own.
+pub(crate) fn below(x: i64) -> u64
+    ensures { λ r. ⌜ r ≡ loss x ⌝ }
+{
+    if x < 0 {
+        return (-(x + 1)) as u64 + 1;
+    }
+    0
+}
+
+pub(crate) fn size(x: i64) -> u64
+    ensures { λ r. ⌜ r ≡ natAbs x ⌝ }
+{
+    if x < 0 {
+        return below(x);
+    }
+    above(x)
+}
+
+pub(crate) fn larger(a: u64, b: u64) -> u64
+    ensures { λ r. ⌜ r ≡ max a b ⌝ }
+{
+    if a < b {
+        return b;
+    }
+    a
+}
