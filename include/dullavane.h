@@ -6,8 +6,8 @@
    caller lends, and every call ends.
 
    A LIST is a pointer and the number of its elements (not bytes), one argument after the other. A list may be longer than is asked for; what
-   stands past the numbers named here is neither read nor written. Two lists of one call must not overlap. Lists of int64_t are aligned to 8
-   bytes. Lengths are uint64_t on every processor, also on a 32-bit one.
+   stands past the numbers named here is neither read nor written. Two lists of one call must not overlap. A pointer is never null, not
+   even with length 0, and is aligned to its element's size. Lengths are uint64_t on every processor, also on a 32-bit one.
 
    A CALL returns 0, or the number of a refusal (below). After a refusal everything lent is as it was, the tally too: the same call can be made
    again with other bytes, or the book given up.
@@ -144,7 +144,7 @@ uint32_t dullavane_requirement(uint32_t *tally, uint64_t tally_words, const uint
 
 /* Answers a requirement, from its 24 bytes and what the calls have left in the lists; it may be asked again, and changes nothing but the five columns and
    the reply. Each column has one number for every member, in this order: the units of the requirement's regions as they stand in the book, then one
-   residual; numbers past those stay. performances and factors (billionths) are as document 01 has them, payments, used and unused are cents, and charges
+   residual; numbers past those stay. In performances 1 MWHz is 7,500,000,000, factors are billionths, payments, used and unused are cents, and charges
    are negative. Each column has to have room for tally[0] + 1 numbers. Refuses 12, 11 (also before the last unit), 12, 11 (a lent number is out of
    range), 1, 10. */
 uint32_t dullavane_answer(const uint32_t *tally, uint64_t tally_words, const uint8_t *part, uint64_t part_bytes,
