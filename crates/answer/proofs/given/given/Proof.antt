@@ -45,7 +45,7 @@ used-pool-requires : tie.Need-used-pool-requires
 used-pool-requires c κs = search needs
 
 sub-unused-cents : tie.Need-sub-unused-cents
-sub-unused-cents c = within-cost (c .before)
+sub-unused-cents c = omega (arith, within-cost (c .before))
 
 charge-members-requires : tie.Need-charge-members-requires
 charge-members-requires c κs =
