@@ -1,6 +1,6 @@
--- Worked answers, straight from what a book says: one fact for what the paper's own listing never uses, each a theorem by computing. The figures are the
--- second program's (tests/worked/), whose whole listings of these books are theorems of the crate `worked`; the reasons of the defaults, which no listing
--- prints, are worked out by hand.
+-- Worked answers, straight from what a book says: facts that the paper's own listing never uses, each a theorem by computing. The figures are the
+-- second program's (tests/worked/); whole listings of these books, but for `weights-decide`, are theorems of the crate `worked`. The reasons of the defaults,
+-- which no listing prints, are worked out by hand.
 use mathlib.Core.Path.{_≡_, refl}
 use mathlib.Core.Bool.{true, false}
 use mathlib.Core.List.{List, [], _∷_, map}

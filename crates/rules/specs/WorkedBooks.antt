@@ -1,5 +1,5 @@
 -- Further worked books, for what the paper's listing does not use: lower, several regions, each default reason, bad points, a region without units, an
--- unreliable region, generation weights that turn the sign, used over enabled, unplaced amounts, ties. Their figures (WorkedListings) are the second
+-- unreliable region, generation weights that turn the sign, used over enabled, unplaced amounts, ties. Their figures (Listings of the crate `worked`) are the second
 -- program's, which shares nothing with these definitions; tests/worked/ has each book described, as bytes and with its listing.
 use mathlib.Core.Bool.{Bool, true, false, not, cond, _&&_}
 use mathlib.Core.List.{List, [], _∷_}
