@@ -33,7 +33,7 @@ use Rattle.chain.specs.ChainTheorem.{chain}
 use Rattle.chain.specs.ChainValues.{measures-are, positive-are, negative-are, figures-are, numbers-are, places-are, raise-are, lower-are, defaults-are}
 use Rattle.chain.specs.Honest.{Enough}
 use Rattle.chain.specs.BookRecords.{part-of, settings-part, frequency-place, unit-place, Read, book-read, frequencies-each, units-each, requirements-each}
-use Rattle.chain.specs.BookWay.{records-in, Way, way-chain, Walked, arrived, stopped, walk}
+use Rattle.chain.specs.BookWay.{records-in, Hands, hands-whole, Way, way-chain, Walked, arrived, stopped, walk}
 use Rattle.chain.specs.BookRefused.{not-both, refused-book}
 
 -- ---- what the calls leave of a whole book; z stands where a roster has no unit
@@ -85,18 +85,18 @@ module _ (bs : List ℕ) (b : Book) (w : Read bs b) where
 -- ---- the calls take every record
 module _ (bs : List ℕ) (b : Book) (e : book bs ≡ taken b) (l₀ : Lent) (enough : Enough l₀ (counts-in bs .units)) (bytes : (i : ℕ) → getD bs i 0 < 256) where
   -- to the end of the book, and none is refused
-  pub book-way : (t : Tally) × (l : Lent) × Way bs l₀ (records-in bs) t l
-  book-way = go (walk bs l₀ (records-in bs) (omega arith))
+  pub book-way : {head : List ℕ} {part : ℕ → List ℕ} → Hands bs head part → (t : Tally) × (l : Lent) × Way bs head part l₀ (records-in bs) t l
+  book-way {head} {part} hands = go (walk bs head part l₀ (records-in bs) (omega arith))
     where
       long : (c : Counts) → contents bs ≡ taken c → Enough l₀ (c .units)
       long c h = subst (λ (c : Counts). Enough l₀ (c .units)) (contents-is bs c h .0) enough
 
-      go : Walked bs l₀ (records-in bs) → (t : Tally) × (l : Lent) × Way bs l₀ (records-in bs) t l
+      go : Walked bs head part l₀ (records-in bs) → (t : Tally) × (l : Lent) × Way bs head part l₀ (records-in bs) t l
       go (arrived {t} {l} w) = (t, l, w)
-      go (stopped {why} m) = not-both e (refused-book bs l₀ long bytes m)
+      go (stopped m) = not-both e (refused-book bs head part l₀ hands long bytes m)
 
   pub book-chain : (t : Tally) × (l : Lent) × Chain bs (part-of bs) l₀ (before-units + counts-in bs .units + counts-in bs .requirements) t l
-  book-chain = let way = book-way in (way .0, way .1, way-chain (way .2))
+  book-chain = let way = book-way (hands-whole bs) in (way .0, way .1, way-chain (hands-whole bs) (way .2))
 
 -- ---- and there they have left what the rules say of the book
 all-regions : (u q r : ℕ) → r < regions → r < regions-among (before-units + u + q)

@@ -26,7 +26,8 @@ use Rattle.chain.specs.Chain.{Lent, Chain, Means, least-at}
 use Rattle.chain.specs.ChainTheorem.{chain}
 use Rattle.chain.specs.Honest.{Enough, honest-settings, honest-frequency, honest-unit, honest-requirement}
 use Rattle.chain.specs.BookRecords.{part-of, settings-part, part-bytes, body-all, body-stops, frequency-body-is, unit-body-is, requirement-body-is, least-from, frequency-place, frequency-at, unit-place, unit-at, requirement-place, requirement-at}
-use Rattle.chain.specs.BookWay.{records-in, Call, for-settings, for-frequency, for-unit, for-requirement, Way, Meets, at-contents, at-record, way-chain, Walked, arrived, stopped, walk}
+use Rattle.chain.specs.CutPart.{contents-uncut}
+use Rattle.chain.specs.BookWay.{records-in, Hands, Call, for-settings, for-frequency, for-unit, for-requirement, Meets, at-contents, at-record, uncut, way-chain, Walked, arrived, stopped, walk}
 
 -- ---- a book by its bodies
 abbrev assembled : Reply Settings → Reply (List Region) → Reply (List Unit) → Reply (List Requirement) → Reply Book
@@ -102,7 +103,7 @@ module _ (bs : List ℕ) (l₀ : Lent) {n : ℕ} {t : Tally} {l : Lent} (d : Cha
       book-is bs (w .table) ∙ rw (settings-there (omega arith), frequencies-there (omega arith), units-there (omega arith), requirements-there)
 
   -- where the next call refuses, the format has refused the book with the same number
-  record-refused : {why : Refusal} → Enough l₀ (counts-in bs .units) → ((i : ℕ) → getD bs i 0 < 256) → Call bs n t l (refused-step t why) l → book bs ≡ refused why
+  record-refused : {why : Refusal} → Enough l₀ (counts-in bs .units) → ((i : ℕ) → getD bs i 0 < 256) → Call bs (part-of bs) n t l (refused-step t why) l → book bs ≡ refused why
   record-refused {why} enough bytes (for-settings z p _) =
       let answer = step-refused (settled t) t (settings-reply t (part-of bs n)) (p .reply) refl .0 in
       let judged = honest-settings bs (part-of bs) l₀ d (λ m i _. part-bytes bs bytes m i) z (part-of bs n) in
@@ -139,22 +140,22 @@ opened-refused (refused x) e = cc
 pub not-both : {A B : Type 0} {x : Reply A} {a : A} {why : Refusal} → x ≡ taken a → x ≡ refused why → B
 not-both e f = let z : _≡_ {A = ℕ} 0 1 = cc in absurd (omega arith)
 
--- ---- of a caller who hands on bytes, and lends lists that are long enough for the units of a table of contents that is taken
-module _ (bs : List ℕ) (l₀ : Lent) (enough : (c : Counts) → contents bs ≡ taken c → Enough l₀ (c .units)) (bytes : (i : ℕ) → getD bs i 0 < 256) where
+-- ---- of a caller who hands on the bytes of a book, and lends lists that are long enough for the units of a table of contents that is taken
+module _ (bs head : List ℕ) (part : ℕ → List ℕ) (l₀ : Lent) (hands : Hands bs head part) (enough : (c : Counts) → contents bs ≡ taken c → Enough l₀ (c .units)) (bytes : (i : ℕ) → getD bs i 0 < 256) where
   -- the refusal that the calls meet is the format's
-  pub refused-book : {why : Refusal} → Meets bs l₀ why → book bs ≡ refused why
-  refused-book {why} (at-contents p) = contents-refused bs why (opened-refused (contents bs) (p .reply))
+  pub refused-book : {why : Refusal} → Meets bs head part l₀ why → book bs ≡ refused why
+  refused-book {why} (at-contents p) = contents-refused bs why (opened-refused (contents bs) (contents-uncut (hands .contents) p .reply))
   refused-book (at-record way call) =
-      let d = way-chain way in
-      record-refused bs l₀ d (enough (counts-in bs) (chain bs (part-of bs) l₀ d .table)) bytes call
+      let d = way-chain hands way in
+      record-refused bs l₀ d (enough (counts-in bs) (chain bs (part-of bs) l₀ d .table)) bytes (uncut hands d call)
 
   -- and the calls meet the format's refusal
-  pub book-refused : {why : Refusal} → book bs ≡ refused why → Meets bs l₀ why
-  book-refused {why} e = go (walk bs l₀ (records-in bs) (omega arith))
+  pub book-refused : {why : Refusal} → book bs ≡ refused why → Meets bs head part l₀ why
+  book-refused {why} e = go (walk bs head part l₀ (records-in bs) (omega arith))
     where
       same : {x : Refusal} → book bs ≡ refused x → x ≡ why
       same f = cc
 
-      go : Walked bs l₀ (records-in bs) → Meets bs l₀ why
-      go (arrived way) = not-both (book-ended bs l₀ (way-chain way) refl) e
-      go (stopped m) = subst (Meets bs l₀) (same (refused-book m)) m
+      go : Walked bs head part l₀ (records-in bs) → Meets bs head part l₀ why
+      go (arrived way) = not-both (book-ended bs l₀ (way-chain hands way) refl) e
+      go (stopped m) = subst (Meets bs head part l₀) (same (refused-book m)) m
