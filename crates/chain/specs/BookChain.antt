@@ -14,7 +14,7 @@ use Rattle.rules.specs.Bytes.{listed}
 use Rattle.rules.specs.BytesLaws.{listed-from-zero}
 use Rattle.rules.specs.Refusals.{taken}
 use Rattle.rules.specs.Book.{Settings, Region, Unit, Book, regionOf, no-region}
-use Rattle.rules.specs.Contents.{Counts, contents, unit-size, unit-start, frequency-size, frequency-start, requirement-size, requirement-start}
+use Rattle.rules.specs.Contents.{Counts, contents, unit-start, frequency-size, frequency-start, requirement-size, requirement-start}
 use Rattle.rules.specs.UnitRecord.{unit-in}
 use Rattle.rules.specs.FrequencyRecord.{region-in}
 use Rattle.rules.specs.RequirementRecord.{requirement-in}

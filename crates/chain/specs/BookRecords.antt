@@ -4,7 +4,7 @@ use mathlib.Core.Bool.{Bool, true, false, cond}
 use mathlib.Core.List.{List, [], _∷_}
 use Prim.Native.Nat.{ℕ, zero, suc, _+_, _*_, _-_, _≤_, _<_}
 use native.Mathlib.Numerals.{add-one}
-use native.Mathlib.Nat.{zero-add, add-zero}
+use native.Mathlib.Nat.{add-zero}
 use native.Mathlib.Omega.{arith}
 use lib.Dec.{eqb, ltb}
 use lib.ListN.{getD, drop}
@@ -24,7 +24,7 @@ use Rattle.rules.specs.RequirementRecord.{requirement-in, requirement-record}
 use Rattle.rules.specs.WholeBook.{frequency-body, unit-body, requirement-body, book}
 use Rattle.rules.specs.LimitsLaws.{took, went-on}
 use Rattle.interval.specs.Tally.{before-units}
-use Rattle.chain.specs.ChainLaws.{or-true, listed-shift, listed-ext}
+use Rattle.chain.specs.ChainLaws.{or-true, listed-shift}
 use Rattle.chain.specs.Taken.{counts-in, contents-is, region-is, unit-is, requirement-is}
 use Rattle.chain.specs.Chain.{least-at}
 use Rattle.chain.specs.ChainTheorem.{unit-number, requirement-number}

@@ -22,7 +22,7 @@ use Rattle.interval.specs.declared.Opened as o
 use Rattle.interval.specs.Tally.{before-units}
 use Rattle.interval.specs.Calls.{opened, refused-step, settled, counted, unit-counted, settings-reply, frequency-reply, unit-reply, requirement-reply}
 use Rattle.chain.specs.Taken.{counts-in, step-refused}
-use Rattle.chain.specs.Chain.{Lent, Chain, Means, least-at}
+use Rattle.chain.specs.Chain.{Lent, Chain, Means}
 use Rattle.chain.specs.ChainTheorem.{chain}
 use Rattle.chain.specs.Honest.{Enough, honest-settings, honest-frequency, honest-unit, honest-requirement}
 use Rattle.chain.specs.BookRecords.{part-of, settings-part, part-bytes, body-all, body-stops, frequency-body-is, unit-body-is, requirement-body-is, least-from, frequency-place, frequency-at, unit-place, unit-at, requirement-place, requirement-at}

@@ -45,6 +45,7 @@ pub record Hands (bs head : List ℕ) (part : ℕ → List ℕ) : Type 0 where
   pub unit : (n : ℕ) → before-units ≤ n → n < before-units + counts-in bs .units → Cut unit-size (part-of bs n) (part n)
   pub requirement : (n : ℕ) → before-units + counts-in bs .units ≤ n → n < records-in bs → Cut (requirement-size + cond (eqb (n + 1) (records-in bs)) 1 0) (part-of bs n) (part n)
 
+-- a caller who cuts nothing off
 pub hands-whole : (bs : List ℕ) → Hands bs bs (part-of bs)
 hands-whole bs =
     record {
@@ -55,20 +56,21 @@ hands-whole bs =
       requirement = λ n _ _. not-cut _ _;
     }
 
--- ---- the call for record n: its answer, and the lent lists as it leaves them
+-- ---- the call for record n, by its promise, which allows one answer: r, and the lent lists as it leaves them
 pub data Call (bs : List ℕ) (part : ℕ → List ℕ) (n : ℕ) (t : Tally) (l : Lent) (r : Step) (l′ : Lent) : Type 0 where
   for-settings : n ≡ 0 → SettingsPromise t (part n) r → l′ ≡ l → Call bs part n t l r l′
   for-frequency : 1 ≤ n → n < before-units → FrequencyCall t (part n) l r l′ → Call bs part n t l r l′
   for-unit : before-units ≤ n → n < before-units + counts-in bs .units → UnitCall t (part n) l r l′ → Call bs part n t l r l′
   for-requirement : before-units + counts-in bs .units ≤ n → n < records-in bs → RequirementPromise t (part n) r → l′ ≡ l → Call bs part n t l r l′
 
+-- ---- THE WAY
 module _ (bs head : List ℕ) (part : ℕ → List ℕ) (l₀ : Lent) where
-  -- ---- the way: the calls have taken the first n records, and refused none
+  -- the calls have taken the first n records, and refused none
   pub data Way : ℕ → Tally → Lent → Type 0 where
     opens : {t : Tally} → ContentsPromise head (o.the-variants.Taken t) → Way 0 t l₀
     takes : {n : ℕ} {t : Tally} {l l′ : Lent} {r : Step} → Way n t l → Call bs part n t l r l′ → Taken r → Way (suc n) (r .tally) l′
 
-  -- ---- the first refusal on it: of the table of contents, or of the next record, by a call that leaves the tally and the lent lists as they came
+  -- the first refusal on it: of the table of contents, or of the next record, by a call that leaves the tally and the lent lists as they came
   pub data Meets (why : Refusal) : Type 0 where
     at-contents : ContentsPromise head (o.the-variants.Refused why) → Meets why
     at-record : {n : ℕ} {t : Tally} {l : Lent} → Way n t l → Call bs part n t l (refused-step t why) l → Meets why

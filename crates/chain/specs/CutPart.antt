@@ -3,21 +3,20 @@
 use mathlib.Core.Path.{_≡_, refl, sym, _∙_, ap, ap₂}
 use mathlib.Core.Bool.{Bool, true, false, cond}
 use mathlib.Core.List.{List}
-use Prim.Native.Nat.{ℕ, zero, suc, _+_, _*_, _/_, _≤_, _<_, min}
+use Prim.Native.Nat.{ℕ, zero, suc, _+_, _*_, _/_, _≤_, min}
 use native.Mathlib.Omega.{arith}
 use lib.Dec.{eqb, leb}
-use lib.ListN.{length, getD, take, length-take}
+use lib.ListN.{length, take, length-take}
 use lib.Seq.{getD-take, take-all}
 use borrow.Author.Tests.{le-leb, lt-leb, leb-true, leb-false, eq-eqb, ne-eqb, eqb-true, eqb-false}
 use Rattle.rules.specs.declared.Refusal.{Refusal}
 use Rattle.rules.specs.declared.Refusal.the-variants.{EndsEarly, WrongMark, WrongTable}
 use Rattle.rules.specs.Quantities.{points}
-use Rattle.rules.specs.Bytes.{number-at, signed, integer-at, listed}
+use Rattle.rules.specs.Bytes.{number-at, signed, integer-at}
 use Rattle.rules.specs.BytesLaws.{number-step, number-none}
 use Rattle.rules.specs.Refusals.{Reply, taken, unless}
-use Rattle.rules.specs.Book.{Settings, Region, Unit, Requirement}
-use Rattle.rules.specs.Contents.{Counts, contents, contents-size, mark, entry, items, settings-size, frequency-size, unit-size, requirement-size}
-use Rattle.rules.specs.SettingsRecord.{settings, settings-in, settings-fine}
+use Rattle.rules.specs.Contents.{contents, contents-size, mark, entry, items, settings-size, frequency-size, unit-size, requirement-size}
+use Rattle.rules.specs.SettingsRecord.{settings}
 use Rattle.rules.specs.Fields.{quality-in, three-in, defaults-in}
 use Rattle.rules.specs.FrequencyRecord.{region-in, frequency-record}
 use Rattle.rules.specs.UnitRecord.{unit-in, unit-record}
@@ -31,7 +30,7 @@ use Rattle.interval.specs.Promises.{ContentsPromise, SettingsPromise, Requireme
 use Rattle.chain.specs.ChainLaws.{listed-ext}
 use Rattle.chain.specs.Chain.{Lent, FrequencyCall, UnitCall}
 
--- p is what starts at `rest`, cut somewhere behind its first bytes, or not cut at all
+-- p is `rest`, cut anywhere behind its first `size` bytes, or not cut at all
 pub record Cut (size : ℕ) (rest p : List ℕ) : Type 0 where
   pub bytes : ℕ
   pub behind : size ≤ bytes
@@ -41,6 +40,9 @@ pub not-cut : (size : ℕ) (rest : List ℕ) → Cut size rest rest
 not-cut size rest = record { bytes = size + length rest; behind = omega arith; is = sym (take-all (size + length rest) rest (omega arith)) }
 
 -- ---- the format reads the same
+unless-same : {A : Type 0} (why : Refusal) {test test′ : Bool} {rest rest′ : Reply A} → test ≡ test′ → rest ≡ rest′ → unless test why rest ≡ unless test′ why rest′
+unless-same {A} why e f = ap₂ (λ (t : Bool) (r : Reply A). unless t why r) e f
+
 module _ (k : ℕ) (xs : List ℕ) where
   -- numbers and lengths
   number-cut : (n place : ℕ) → place + n ≤ k → number-at n place (take k xs) ≡ number-at n place xs
@@ -73,9 +75,6 @@ module _ (k : ℕ) (xs : List ℕ) where
   defaults-cut place h = rw (three-cut place (omega arith), three-cut (place + 24) (omega arith))
 
   -- the table of contents
-  unless-same : {A : Type 0} (why : Refusal) {test test′ : Bool} {rest rest′ : Reply A} → test ≡ test′ → rest ≡ rest′ → unless test why rest ≡ unless test′ why rest′
-  unless-same {A} why e f = ap₂ (λ (t : Bool) (r : Reply A). unless t why r) e f
-
   entry-cut : {A : Type 0} (place kind least most : ℕ) {start start′ : ℕ} (size : ℕ) {rest rest′ : Reply A} → place + 12 ≤ k → start ≡ start′ → rest ≡ rest′ → entry place kind least most start size (take k xs) rest ≡ entry place kind least most start′ size xs rest′
   entry-cut place kind least most size h e f =
       rw (number-cut 2 place (omega arith), number-cut 2 (place + 2) (omega arith), number-cut 4 (place + 4) (omega arith), number-cut 4 (place + 8) (omega arith), e, f)
@@ -144,7 +143,7 @@ module _ (k : ℕ) (xs : List ℕ) where
   requirement-cut least true h = rw (whole-cut requirement-size (omega arith), number-cut 1 3 (omega arith), requirement-in-cut (omega arith), ends-cut requirement-size h)
   requirement-cut least false h = rw (whole-cut requirement-size (omega arith), number-cut 1 3 (omega arith), requirement-in-cut (omega arith))
 
--- ---- and so the calls
+-- ---- and so do the calls
 pub contents-uncut : {bs p : List ℕ} {r : Opened} → Cut contents-size bs p → ContentsPromise p r → ContentsPromise bs r
 contents-uncut {bs} c w = record { reply = rw (c .is, contents-cut (c .bytes) bs (c .behind)) at (w .reply) }
 
