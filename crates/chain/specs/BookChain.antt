@@ -1,15 +1,12 @@
 -- THE BOOK: a book that the format takes is taken by the calls, record by record to its end, and what they leave is what the rules say of the book.
-use mathlib.Core.Path.{_≡_, refl, sym, _∙_, ap, ap₂}
+use mathlib.Core.Path.{_≡_, refl, sym, _∙_, ap, ap₂, subst}
 use mathlib.Core.List.{List}
-use Prim.Native.Nat.{ℕ, zero, suc, _+_, _*_, _-_, _≤_, _<_}
-use native.Mathlib.Decide.{decLt}
+use Prim.Native.Nat.{ℕ, suc, _+_, _*_, _<_}
 use native.Mathlib.Omega.{arith}
 use lib.Dec.{eqb}
 use lib.IntN.{pos}
-use lib.ListN.{length, getD, set, drop}
-use lib.Seq.{getD-drop}
+use lib.ListN.{length, getD, drop}
 use Rattle.integers.specs.Totals.{total}
-use Rattle.integers.specs.Fills.{filled}
 use Rattle.rules.specs.declared.Direction.{Direction}
 use Rattle.rules.specs.declared.Direction.the-variants.{Raise, Lower}
 use Rattle.rules.specs.Quantities.{points, regions}
@@ -17,7 +14,7 @@ use Rattle.rules.specs.Bytes.{listed}
 use Rattle.rules.specs.BytesLaws.{listed-from-zero}
 use Rattle.rules.specs.Refusals.{taken}
 use Rattle.rules.specs.Book.{Settings, Region, Unit, Book, regionOf, no-region}
-use Rattle.rules.specs.Contents.{unit-size, unit-start, frequency-size, frequency-start, requirement-size, requirement-start}
+use Rattle.rules.specs.Contents.{Counts, contents, unit-start, frequency-size, frequency-start, requirement-size, requirement-start}
 use Rattle.rules.specs.UnitRecord.{unit-in}
 use Rattle.rules.specs.FrequencyRecord.{region-in}
 use Rattle.rules.specs.RequirementRecord.{requirement-in}
@@ -27,78 +24,17 @@ use Rattle.rules.specs.Measure.{measure, measure-in}
 use Rattle.rules.specs.Deviation.{deviation, good-units, units-in}
 use Rattle.rules.specs.Performance.{wanted, performance, units-of, unit-performance}
 use Rattle.interval.specs.declared.Tally.{Tally}
-use Rattle.interval.specs.Tally.{settings-of, before-units, book-end, next-region, units-taken}
-use Rattle.interval.specs.Lent.{placed, series-start, figures-each, figures-of, place-of, six, summed}
-use Rattle.interval.specs.Calls.{fresh, opened, stepped, left, settled, counted, unit-counted, settings-reply, frequency-reply, unit-reply, requirement-reply}
-use Rattle.interval.specs.Promises.{SettingsPromise, RequirementPromise}
+use Rattle.interval.specs.Tally.{settings-of, before-units, book-end}
+use Rattle.interval.specs.Lent.{series-start, figures-each, figures-of, place-of, six}
 use Rattle.chain.specs.ChainLaws.{listed-ext, listed-length}
-use Rattle.chain.specs.Taken.{counts-in, settings-is}
-use Rattle.chain.specs.Chain.{Lent, FrequencyCall, UnitCall, Chain, begun, took-settings, took-frequency, took-unit, took-requirement, RecordTaken, Means, regions-among, units-among, the-settings, region, unit}
+use Rattle.chain.specs.Taken.{counts-in, contents-is, settings-is}
+use Rattle.chain.specs.Chain.{Lent, Chain, Means, regions-among, units-among, the-settings, region, unit}
 use Rattle.chain.specs.ChainTheorem.{chain}
 use Rattle.chain.specs.ChainValues.{measures-are, positive-are, negative-are, figures-are, numbers-are, places-are, raise-are, lower-are, defaults-are}
-use Rattle.chain.specs.Honest.{Enough, honest-settings, honest-frequency, honest-unit, honest-requirement}
-use Rattle.chain.specs.BookRecords.{part-of, record-start, settings-part, frequency-part, unit-part, Read, book-read, book-records, frequencies-each, units-each, requirements-each}
-
--- ---- what a call leaves of the lent lists, said as one value
-frequency-lent : Tally → List ℕ → Lent → Lent
-frequency-lent t p l =
-    let x = frequency-reply t p (l .frequencies) (l .measures) (l .positive) (l .negative) (l .figures) in
-    record {
-      frequencies = left (λ x. filled points (λ i. getD (x .frequency) i 0)) x (l .frequencies);
-      measures = left (λ x. placed (series-start (next-region t)) points (measure (settings-of t) x)) x (l .measures);
-      positive = left (λ x. placed (series-start (next-region t)) points (λ i. pos 0)) x (l .positive);
-      negative = left (λ x. placed (series-start (next-region t)) points (λ i. pos 0)) x (l .negative);
-      figures = left (λ x. placed (figures-each * next-region t) figures-each (figures-of (settings-of t) x)) x (l .figures);
-      readings = l .readings;
-      deviations = l .deviations;
-      numbers = l .numbers;
-      places = l .places;
-      raise = l .raise;
-      lower = l .lower;
-      defaults = l .defaults;
-    }
-
-frequency-call : (t : Tally) (p : List ℕ) (l : Lent) → FrequencyCall t p l (stepped (λ _. counted 0 t) (frequency-reply t p (l .frequencies) (l .measures) (l .positive) (l .negative) (l .figures)) t) (frequency-lent t p l)
-unfolding frequency-lent
-frequency-call t p l =
-    record {
-      promise = record { reply = refl; frequencies = refl; measures = refl; positive = refl; negative = refl; figures = refl };
-      readings = refl;
-      deviations = refl;
-      numbers = refl;
-      places = refl;
-      raise = refl;
-      lower = refl;
-      defaults = refl;
-    }
-
-unit-lent : Tally → List ℕ → Lent → Lent
-unit-lent t p l =
-    let x = unit-reply t p (l .readings) (l .deviations) (l .measures) (l .positive) (l .negative) (l .numbers) (l .places) (l .raise) (l .lower) (l .defaults) in
-    record {
-      frequencies = l .frequencies;
-      measures = l .measures;
-      positive = left (summed Raise) x (l .positive);
-      negative = left (summed Lower) x (l .negative);
-      figures = l .figures;
-      readings = left (λ u. filled points (λ i. getD (u .reading) i (pos 0))) x (l .readings);
-      deviations = left (λ u. filled points (deviation u)) x (l .deviations);
-      numbers = left (λ u old. set old (units-taken t) (u .number)) x (l .numbers);
-      places = left (λ u old. set old (units-taken t) (place-of u)) x (l .places);
-      raise = left (λ u old. set old (units-taken t) (performance Raise (λ i. getD (l .measures) (series-start (u .region) + i) (pos 0)) (deviation u))) x (l .raise);
-      lower = left (λ u old. set old (units-taken t) (performance Lower (λ i. getD (l .measures) (series-start (u .region) + i) (pos 0)) (deviation u))) x (l .lower);
-      defaults = left (λ u. placed (6 * units-taken t) 6 (six (u .defaults))) x (l .defaults);
-    }
-
-unit-call : (t : Tally) (p : List ℕ) (l : Lent) → UnitCall t p l (stepped (unit-counted t) (unit-reply t p (l .readings) (l .deviations) (l .measures) (l .positive) (l .negative) (l .numbers) (l .places) (l .raise) (l .lower) (l .defaults)) t) (unit-lent t p l)
-unfolding unit-lent
-unit-call t p l =
-    record {
-      promise = record { reply = refl; readings = refl; deviations = refl; positive = refl; negative = refl; numbers = refl; places = refl; raise = refl; lower = refl; defaults = refl };
-      frequencies = refl;
-      measures = refl;
-      figures = refl;
-    }
+use Rattle.chain.specs.Honest.{Enough}
+use Rattle.chain.specs.BookRecords.{part-of, settings-part, frequency-place, unit-place, Read, book-read, frequencies-each, units-each, requirements-each}
+use Rattle.chain.specs.BookWay.{records-in, Hands, hands-whole, Way, way-chain, Walked, arrived, stopped, walk}
+use Rattle.chain.specs.BookRefused.{not-both, refused-book}
 
 -- ---- what the calls leave of a whole book; z stands where a roster has no unit
 pub record BookMeans (b : Book) (t : Tally) (l : Lent) : Type 0 where
@@ -123,19 +59,13 @@ module _ (bs : List ℕ) (b : Book) (w : Read bs b) where
 
   region-same : (r : ℕ) → r < regions → region (part-of bs) r ≡ regionOf b r
   region-same r h =
-      let less : suc r - 1 ≡ r = omega arith in
       let each = frequencies-each regions 0 (drop frequency-start bs) (b .regions) (w .regions) .0 in
-      ap region-in (frequency-part bs (suc r) (omega arith) (omega arith) ∙ ap (λ (k : ℕ). drop (frequency-size * k) (drop frequency-start bs)) less)
+      ap region-in (frequency-place bs (suc r) r refl h)
       ∙ sym (ap (λ (rs : List Region). getD rs r no-region) each ∙ listed-from-zero regions (λ i. region-in (drop (frequency-size * i) (drop frequency-start bs))) r no-region h)
 
   roster-same : listed 0 (counts-in bs .units) (unit (part-of bs)) ≡ b .roster
   roster-same =
-      listed-ext 0 (counts-in bs .units) _ _ (λ j h. ap unit-in (at j h)) ∙ sym (units-each (counts-in bs .units) 0 (drop unit-start bs) (b .roster) (w .roster) .0)
-    where
-      at : (j : ℕ) → j < 0 + counts-in bs .units → part-of bs (before-units + j) ≡ drop (unit-size * j) (drop unit-start bs)
-      at j h =
-          let less : before-units + j - before-units ≡ j = omega arith in
-          unit-part bs (before-units + j) (omega arith) (omega arith) ∙ ap (λ (k : ℕ). drop (unit-size * k) (drop unit-start bs)) less
+      listed-ext 0 (counts-in bs .units) _ _ (λ j h. ap unit-in (unit-place bs (before-units + j) j refl (omega arith))) ∙ sym (units-each (counts-in bs .units) 0 (drop unit-start bs) (b .roster) (w .roster) .0)
 
   roster-length : length (b .roster) ≡ counts-in bs .units
   roster-length = ap length (sym roster-same) ∙ listed-length 0 (counts-in bs .units) (unit (part-of bs))
@@ -154,47 +84,19 @@ module _ (bs : List ℕ) (b : Book) (w : Read bs b) where
 
 -- ---- the calls take every record
 module _ (bs : List ℕ) (b : Book) (e : book bs ≡ taken b) (l₀ : Lent) (enough : Enough l₀ (counts-in bs .units)) (bytes : (i : ℕ) → getD bs i 0 < 256) where
-  w : Read bs b
-  w = book-read bs b e
-
-  part-bytes : (m i : ℕ) → getD (part-of bs m) i 0 < 256
-  unfolding part-of
-  part-bytes m i = rw (getD-drop (record-start (counts-in bs .units) m) bs i 0) (bytes _)
-
-  -- from wherever a chain over the book's parts stands, the next call takes the next record
-  pub book-goes-on : {n : ℕ} {t : Tally} {l : Lent} → Chain bs (part-of bs) l₀ n t l → n < before-units + counts-in bs .units + counts-in bs .requirements → (t′ : Tally) × (l′ : Lent) × Chain bs (part-of bs) l₀ (suc n) t′ l′
-  book-goes-on {n} {t} {l} d h = go (decLt n 1) (decLt n before-units) (decLt n (before-units + counts-in bs .units))
+  -- to the end of the book, and none is refused
+  pub book-way : {head : List ℕ} {part : ℕ → List ℕ} → Hands bs head part → (t : Tally) × (l : Lent) × Way bs head part l₀ (records-in bs) t l
+  book-way {head} {part} hands = go (walk bs head part l₀ (records-in bs) (omega arith))
     where
-      here : RecordTaken (part-of bs) (counts-in bs) n
-      here = book-records bs b w n h
+      long : (c : Counts) → contents bs ≡ taken c → Enough l₀ (c .units)
+      long c h = subst (λ (c : Counts). Enough l₀ (c .units)) (contents-is bs c h .0) enough
 
-      go : Dec (n < 1) → Dec (n < before-units) → Dec (n < before-units + counts-in bs .units) → (t′ : Tally) × (l′ : Lent) × Chain bs (part-of bs) l₀ (suc n) t′ l′
-      go (yes a) _ _ =
-          let z : n ≡ 0 = omega arith in
-          let answer = honest-settings bs (part-of bs) l₀ d (λ m i _. part-bytes m i) z (part-of bs n) ∙ here .as-settings z in
-          let promise : SettingsPromise t (part-of bs n) (stepped (settled t) (settings-reply t (part-of bs n)) t) = record { reply = refl } in
-          (_, _, took-settings d promise (rw answer))
-      go (no a) (yes c) _ =
-          let f : 1 ≤ n = omega arith in
-          let answer = honest-frequency bs (part-of bs) l₀ d (λ m i _. part-bytes m i) f c enough (part-of bs n) ∙ here .as-frequency f c in
-          (_, _, took-frequency d (frequency-call t (part-of bs n) l) (rw answer))
-      go (no a) (no c) (yes u) =
-          let f : before-units ≤ n = omega arith in
-          let answer = honest-unit bs (part-of bs) l₀ d (λ m i _. part-bytes m i) f u enough (part-of bs n) ∙ here .as-unit f u in
-          (_, _, took-unit d (unit-call t (part-of bs n) l) (rw answer))
-      go (no a) (no c) (no u) =
-          let f : before-units + counts-in bs .units ≤ n = omega arith in
-          let answer = honest-requirement bs (part-of bs) l₀ d (λ m i _. part-bytes m i) f h (part-of bs n) ∙ here .as-requirement f in
-          let promise : RequirementPromise t (part-of bs n) (stepped (λ q. counted (q .number + 1) t) (requirement-reply t (part-of bs n)) t) = record { reply = refl } in
-          (_, _, took-requirement d promise (rw answer))
+      go : Walked bs head part l₀ (records-in bs) → (t : Tally) × (l : Lent) × Way bs head part l₀ (records-in bs) t l
+      go (arrived {t} {l} w) = (t, l, w)
+      go (stopped m) = not-both e (refused-book bs head part l₀ hands long bytes m)
 
-  reach : (n : ℕ) → n ≤ before-units + counts-in bs .units + counts-in bs .requirements → (t : Tally) × (l : Lent) × Chain bs (part-of bs) l₀ n t l
-  reach zero h = (fresh (counts-in bs), l₀, begun (record { reply = sym (ap opened (w .table)) }))
-  reach (suc n) h = let d = reach n (omega arith) in book-goes-on (d .2) h
-
-  -- to the end of the book
   pub book-chain : (t : Tally) × (l : Lent) × Chain bs (part-of bs) l₀ (before-units + counts-in bs .units + counts-in bs .requirements) t l
-  book-chain = reach (before-units + counts-in bs .units + counts-in bs .requirements) (omega arith)
+  book-chain = let way = book-way (hands-whole bs) in (way .0, way .1, way-chain (hands-whole bs) (way .2))
 
 -- ---- and there they have left what the rules say of the book
 all-regions : (u q r : ℕ) → r < regions → r < regions-among (before-units + u + q)
@@ -245,7 +147,7 @@ module _ (bs : List ℕ) (b : Book) (e : book bs ≡ taken b) (l₀ : Lent) {t :
 
       performed : (e : Direction) (j : ℕ) (z : Unit) → j < length (b .roster) → performance e (measure (the-settings (part-of bs)) (region (part-of bs) (unit (part-of bs) j .region))) (deviation (unit (part-of bs) j)) ≡ unit-performance b e (getD (b .roster) j z)
       performed e j z h =
-          let r = book-records bs b taken-whole (before-units + j) (inside j (counts-in bs .units) (counts-in bs .requirements) (here j h)) in
+          let r = m .taken-each (before-units + j) (inside j (counts-in bs .units) (counts-in bs .requirements) (here j h)) in
           let f = unit-fits _ _ _ (r .as-unit (omega arith) (within j (counts-in bs .units) (here j h))) in
           performance-agrees bs b taken-whole e (unit (part-of bs) j) (f .region) ∙ ap (unit-performance b e) (unit-same bs b taken-whole j z (here j h))
         where

@@ -43,7 +43,7 @@ same-lent l l′ fs ms ps ns gs rs ds us qs xs ys zs =
     let e : lent-of (l .frequencies) (l .measures) (l .positive) (l .negative) (l .figures) (l .readings) (l .deviations) (l .numbers) (l .places) (l .raise) (l .lower) (l .defaults) ≡ lent-of (l′ .frequencies) (l′ .measures) (l′ .positive) (l′ .negative) (l′ .figures) (l′ .readings) (l′ .deviations) (l′ .numbers) (l′ .places) (l′ .raise) (l′ .lower) (l′ .defaults) = cc in
     e
 
-frequency-kept : {t : Tally} {p : List ℕ} {l l′ : Lent} {r : Step} {why : Refusal} → FrequencyCall t p l r l′ → Refused r why → (r .tally ≡ t) × (l′ ≡ l)
+pub frequency-kept : {t : Tally} {p : List ℕ} {l l′ : Lent} {r : Step} {why : Refusal} → FrequencyCall t p l r l′ → Refused r why → (r .tally ≡ t) × (l′ ≡ l)
 frequency-kept {t} {p} {l} {l′} c h =
     let w = step-refused _ t (frequency-reply t p (l .frequencies) (l .measures) (l .positive) (l .negative) (l .figures)) (c .promise .reply) h in
     let e = w .0 in (
@@ -51,7 +51,7 @@ frequency-kept {t} {p} {l} {l′} c h =
       same-lent l′ l (c .promise .frequencies ∙ rw e) (c .promise .measures ∙ rw e) (c .promise .positive ∙ rw e) (c .promise .negative ∙ rw e) (c .promise .figures ∙ rw e) (c .readings) (c .deviations) (c .numbers) (c .places) (c .raise) (c .lower) (c .defaults),
     )
 
-unit-kept : {t : Tally} {p : List ℕ} {l l′ : Lent} {r : Step} {why : Refusal} → UnitCall t p l r l′ → Refused r why → (r .tally ≡ t) × (l′ ≡ l)
+pub unit-kept : {t : Tally} {p : List ℕ} {l l′ : Lent} {r : Step} {why : Refusal} → UnitCall t p l r l′ → Refused r why → (r .tally ≡ t) × (l′ ≡ l)
 unit-kept {t} {p} {l} {l′} c h =
     let w = step-refused _ t (unit-reply t p (l .readings) (l .deviations) (l .measures) (l .positive) (l .negative) (l .numbers) (l .places) (l .raise) (l .lower) (l .defaults)) (c .promise .reply) h in
     let e = w .0 in (

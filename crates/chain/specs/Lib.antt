@@ -7,5 +7,8 @@ pub mod ChainTheorem
 pub mod ChainValues
 pub mod Honest
 pub mod BookRecords
+pub mod CutPart
+pub mod BookWay
+pub mod BookRefused
 pub mod BookChain
 pub mod BookEnd
