@@ -7,7 +7,6 @@ use Prim.Native.Nat.{ℕ, _+_, _*_, _-_, _≤_, _<_}
 use native.Mathlib.Omega.{arith}
 use lib.Dec.{eqb, leb}
 use lib.ListN.{length, getD, drop}
-use lib.Seq.{getD-drop}
 use borrow.Author.Tests.{le-leb}
 use Rattle.integers.specs.Sums.{both}
 use Rattle.integers.specs.Fills.{filled-length}
@@ -30,7 +29,7 @@ use Rattle.chain.specs.Taken.{counts-in}
 use Rattle.chain.specs.Chain.{Lent, Chain, Leaves, Means, regions-among, units-among}
 use Rattle.chain.specs.ChainTheorem.{chain}
 use Rattle.chain.specs.Honest.{Enough, chain-in-range}
-use Rattle.chain.specs.BookRecords.{record-start, part-of, requirement-part, requirements-each, book-read}
+use Rattle.chain.specs.BookRecords.{part-of, part-bytes, requirement-part, requirements-each, book-read}
 use Rattle.chain.specs.BookChain.{book-chain, book-means}
 use Rattle.kept.specs.Kept.{Kept, kept-answer}
 use Rattle.kept.specs.Range.{kept-fine}
@@ -127,10 +126,6 @@ module _ {head : List ℕ} (part : ℕ → List ℕ) (l₀ : Lent) {n n′ : ℕ
       all-left n h x = rw (all-regions (counts-in head .units) n h, all-units (counts-in head .units) n h) at x
 
 module _ (bs : List ℕ) (b : Book) (e : book bs ≡ taken b) (l₀ : Lent) (bytes : (i : ℕ) → getD bs i 0 < 256) where
-  part-bytes : (m i : ℕ) → getD (part-of bs m) i 0 < 256
-  unfolding part-of
-  part-bytes m i = rw (getD-drop (record-start (counts-in bs .units) m) bs i 0) (bytes _)
-
   module _ {t : Tally} {l : Lent} (d : Chain bs (part-of bs) l₀ (before-units + counts-in bs .units + counts-in bs .requirements) t l) where
     w : Means bs (part-of bs) l₀ (before-units + counts-in bs .units + counts-in bs .requirements) t l
     w = chain bs (part-of bs) l₀ d
@@ -166,7 +161,7 @@ module _ (bs : List ℕ) (b : Book) (e : book bs ≡ taken b) (l₀ : Lent) (byt
     chain-ready =
         let m = book-means bs b e l₀ d in
         record {
-          tally = chain-in-range bs (part-of bs) l₀ d (λ m i _. part-bytes m i);
+          tally = chain-in-range bs (part-of bs) l₀ d (λ m i _. part-bytes bs bytes m i);
           turn = omega (arith, w .records, w .units);
           units = m .units;
           requirements = m .requirements;
@@ -191,7 +186,7 @@ module _ (bs : List ℕ) (b : Book) (e : book bs ≡ taken b) (l₀ : Lent) (byt
         let w′ = chain bs (part-of bs) l₀ (r .2) in
         let same = kept-same (part-of bs) l₀ h (omega arith) w w′ in
         record {
-          tally = chain-in-range bs (part-of bs) l₀ d (λ m i _. part-bytes m i);
+          tally = chain-in-range bs (part-of bs) l₀ d (λ m i _. part-bytes bs bytes m i);
           turn = omega (arith, w .records, w .units);
           units = ap (λ (k : Kept). k .units) same ∙ r .3 .units;
           requirements = w .requirements ∙ sym (w′ .requirements) ∙ r .3 .requirements;
