@@ -1,4 +1,4 @@
--- What is tested before an answer is worked out, and the requirement past the tests: the answer is what is kept gives it.
+-- What is tested before an answer is worked out; and the requirement past the tests, which is answered from what is kept.
 use mathlib.Core.Path.{_≡_, refl, _∙_, ap}
 use mathlib.Core.Bool.{Bool, true, false, _&&_}
 use mathlib.Core.List.{List, []}
