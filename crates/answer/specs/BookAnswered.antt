@@ -12,7 +12,7 @@ use borrow.Author.Tests.{le-leb, lt-ltb}
 use Rattle.integers.specs.Sums.{both}
 use Rattle.integers.specs.Totals.{numbered}
 use Rattle.rules.specs.Quantities.{most-units}
-use Rattle.rules.specs.Refusals.{Reply, taken, _>>=_}
+use Rattle.rules.specs.Refusals.{Reply, taken}
 use Rattle.rules.specs.Book.{Requirement, covers, Book}
 use Rattle.rules.specs.RequirementRecord.{set-fine, requirement-record}
 use Rattle.rules.specs.WholeBook.{book}
@@ -35,7 +35,8 @@ use Rattle.members.specs.Roster.{Named, named, walk, row-of, member-reply, memb
 use Rattle.answer.specs.declared.Answered.{Answered}
 use Rattle.answer.specs.declared.Answered.the-variants.{Given}
 use Rattle.answer.specs.Promises.{kept-lists, lists-long, columns-long, answer-reply, replied, lined, shown, AnswerPromise}
-use Rattle.answer.specs.Call.{Tested, fine-any, tested-reply, record-fine}
+use Rattle.answer.specs.Tested.{Tested, fine-any, past-all, tested-answer}
+use Rattle.answer.specs.Call.{record-fine}
 
 -- an answer's figures, and a row of numbers for each of its lines
 pub record Answers (a : Full) (old₁ old₂ old₃ old₄ old₅ : List ℤ) (r : Answered) (new₁ new₂ new₃ new₄ new₅ : List ℤ) : Type 0 where
@@ -93,8 +94,8 @@ module _ {bs : List ℕ} {b : Book} {t : Tally} {l : Lent} (h : Ready bs b t l) 
         fine = sym (fine-any (t .units) (t .percent) (l .measures) (l .positive) (l .negative) (l .figures) (l .numbers) (l .places) (l .raise) (l .lower) (l .defaults)) ∙ h .fine;
       } in
       let e : answer-reply t (requirement-at bs i) k (length old₁) (length old₂) (length old₃) (length old₄) (length old₅) ≡ taken (answer b asked-for) =
-      tested-reply t (requirement-at bs i) (l .measures) (l .positive) (l .negative) (l .figures) (l .numbers) (l .places) (l .raise) (l .lower) (l .defaults) (length old₁) (length old₂) (length old₃) (length old₄) (length old₅) tests
-      ∙ ap (λ (y : Reply Requirement). y >>= λ q. taken (kept-answer k q)) (h .records i z below)
+      tested-answer t (requirement-at bs i) (l .measures) (l .positive) (l .negative) (l .figures) (l .numbers) (l .places) (l .raise) (l .lower) (l .defaults) (length old₁) (length old₂) (length old₃) (length old₄) (length old₅)
+      (past-all t (requirement-at bs i) (l .measures) (l .positive) (l .negative) (l .figures) (l .places) (l .raise) (l .lower) (l .defaults) (length old₁) (length old₂) (length old₃) (length old₄) (length old₅) tests ∙ h .records i z below)
       ∙ ap taken (h .answers asked-for) in
       record {
         reply = w .reply ∙ ap replied e;

@@ -3,6 +3,7 @@ pub mod Pools
 pub mod Shares
 pub mod Promises
 pub mod Lent
+pub mod Tested
 pub mod Given
 pub mod Call
 pub mod BookAnswered

@@ -56,12 +56,17 @@ pub record LentReady (n : ℕ) (ms ps ns fs : List ℤ) (qs : List ℕ) (xs ys d
   pub few : n ≤ most-units
   pub long : lists-long n (length ms) (length ps) (length ns) (length fs) (length qs) (length xs) (length ys) (length ds) ≡ true
 
--- ---- the reply: 11 out of turn, 12 for a short list, 11 for a lent number out of range, then what the requirement's record says, wherever it stands
-unfoldable pub answer-reply : Tally → List ℕ → Kept → ℕ → ℕ → ℕ → ℕ → ℕ → Reply Full
-answer-reply t part k performances factors payments used unused =
+-- ---- the reply: 11 out of turn, 12 for a short list, 11 for a lent number out of range, then what comes past these tests
+abbrev pub past-tests : {A : Type 0} → Tally → Kept → ℕ → ℕ → ℕ → ℕ → ℕ → Reply A → Reply A
+past-tests t k performances factors payments used unused rest =
     unless (in-range t && answer-turn t) OutOfTurn
     (unless (lists-long (k .units) (length (k .measures)) (length (k .positive)) (length (k .negative)) (length (k .figures)) (length (k .places)) (length (k .raise)) (length (k .lower)) (length (k .defaults)) && columns-long (k .units) performances factors payments used unused) TooShort
-    (unless (kept-fine k) OutOfTurn (requirement-record 0 false part >>= λ q. taken (kept-answer k q))))
+    (unless (kept-fine k) OutOfTurn rest))
+
+-- and that is what the requirement's record says, wherever it stands
+unfoldable pub answer-reply : Tally → List ℕ → Kept → ℕ → ℕ → ℕ → ℕ → ℕ → Reply Full
+answer-reply t part k performances factors payments used unused =
+    past-tests t k performances factors payments used unused (requirement-record 0 false part >>= λ q. taken (kept-answer k q))
 
 -- the standing of the last line, the residual's
 abbrev pub last-standing : List Line → Standing

@@ -3,13 +3,9 @@ ghost use mathlib.Core.Path.{_≡_};
 ghost use Rattle.answer.specs.Promises.{AnswerPromise};
 use super::Answered;
 use super::given::given;
-use super::lent::columns_long;
-use super::lent::lent_in_range;
-use super::lent::lists_long;
+use super::tested::tested_requirement;
 use book::RequirementRead;
 use interval::Tally;
-use interval::turns::answer_turn;
-use rules::Refusal;
 
 // Answers the requirement whose record `part` starts with: its figures, and a row for each member in the five columns, the residual last.
 // Refuses 11 before the last unit or for a tally out of range, then 12, then 11 for lent numbers, then 1 and 10 for the record.
@@ -32,35 +28,9 @@ pub fn answer(
 ) -> Answered
     ensures { λ r. ⌜ AnswerPromise tally (now (part .entry)) (now (measures .entry)) (now (positive .entry)) (now (negative .entry)) (now (figures .entry)) (now (places .entry)) (now (raise .entry)) (now (lower .entry)) (now (defaults .entry)) (now (performances .entry)) (now (factors .entry)) (now (payments .entry)) (now (used .entry)) (now (unused .entry)) r (now (performances .exit)) (now (factors .exit)) (now (payments .exit)) (now (used .exit)) (now (unused .exit)) ⌝ }
 {
-    if !answer_turn(tally) {
-        return Answered::Refused(Refusal::OutOfTurn);
-    }
-    let units = tally.units;
-    if !lists_long(
-        units,
-        measures.len(),
-        positive.len(),
-        negative.len(),
-        figures.len(),
-        places.len(),
-        raise.len(),
-        lower.len(),
-        defaults.len(),
-    ) {
-        return Answered::Refused(Refusal::TooShort);
-    }
-    if !columns_long(
-        units,
-        performances.len(),
-        factors.len(),
-        payments.len(),
-        used.len(),
-        unused.len(),
-    ) {
-        return Answered::Refused(Refusal::TooShort);
-    }
-    if !lent_in_range(
-        units,
+    let read = tested_requirement(
+        tally,
+        part,
         measures,
         positive,
         negative,
@@ -69,14 +39,16 @@ pub fn answer(
         raise,
         lower,
         defaults,
-    ) {
-        return Answered::Refused(Refusal::OutOfTurn);
-    }
-    let read = book::requirement::read_requirement(part, 0, false);
+        performances.len(),
+        factors.len(),
+        payments.len(),
+        used.len(),
+        unused.len(),
+    );
     match read {
         RequirementRead::Taken(fields) => Answered::Given(given(
             fields,
-            units,
+            tally.units,
             tally.percent,
             measures,
             positive,

@@ -9,6 +9,7 @@ mod given;
 mod lent;
 mod pools;
 mod shares;
+mod tested;
 
 // A pool that is charged, and how much of it is unplaced.
 pub struct Charge {

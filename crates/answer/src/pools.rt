@@ -13,7 +13,11 @@ fn nearest_cent(a: u64, d: u64) -> u64
     requires { ⌜ (a ≤ 2_000_000_000_000_000_000) × (0 < d) × (d ≤ 2_000_000) ⌝ }
     ensures { λ r. ⌜ r ≡ nearestℕ a d ⌝ }
 {
-    (2 * a + d) / (2 * d)
+    let whole = a / d;
+    if 2 * (a % d) < d {
+        return whole;
+    }
+    whole + 1
 }
 
 fn lesser(a: u32, b: u32) -> u32

@@ -3,7 +3,6 @@ use mathlib.Core.Path.{_≡_, refl, _∙_, ap}
 use Prim.Native.Nat.{_≤_, _<_}
 use lib.ListN.{length}
 use native.Mathlib.Omega.{arith}
-use Rattle.response.specs.declared.Found.{Found}
 use Rattle.members.specs.Lists.{headed-length}
 use Rattle.answer.specs.Pools.{used-cents-≤}
 use Rattle.answer.specs.Given.{rcr-ready, rcr-small, Rooms, rooms, members-ready, given-is}
@@ -29,7 +28,7 @@ earlier c = c .before .before .before .before .before
 found-small : (c : tie.After-found-of) → c .found-of .result .rcr ≤ 7_680_000_000
 found-small c =
     let s = c .before .before in
-    omega (arith, ap (λ (x : Found). x .rcr) (c .found-of .ensures), rcr-small (s .pre) (s .args .fields .direction))
+    rw (c .found-of .ensures) (rcr-small (s .pre) (s .args .fields .direction))
 
 -- the column that holds the members' numbers keeps its length
 first-room : (c : tie.After-charge-members) → length (c .charge-members .last .1 .1 .1 .1 .1 .1 .1 .1 .1 .1 .0) ≡ length (start (pooled c) .args .performances .now)

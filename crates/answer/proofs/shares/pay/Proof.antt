@@ -5,7 +5,7 @@ use lib.Dec.{eqb}
 use native.Mathlib.Omega.{arith}
 use Rattle.integers.specs.Pairs.{gain, loss}
 use Rattle.integers.specs.Bounds.{gain-≤, loss-≤}
-use Rattle.rules.specs.Quantities.{billion, total-limit}
+use Rattle.rules.specs.Quantities.{total-limit}
 use Rattle.answer.specs.Pools.{pool-cents-within}
 use Rattle.answer.specs.Shares.{front, front-fits, payees-few, members-paid}
 use borrow.Author.Needs.{needs}
@@ -28,7 +28,7 @@ share-both-requires : tie.Need-share-both-requires
 share-both-requires c κs =
     let g = c .before .before .before in
     let s = start g in
-    (front (s .pre .4) (g .gather .ensures) .0, front-fits (s .pre .4) (g .gather .ensures) billion gain gain-≤ (omega arith) _ (s .pre .2), front-fits (s .pre .4) (g .gather .ensures) billion loss loss-≤ (omega arith) _ (s .pre .2))
+    (front (s .pre .4) (g .gather .ensures) .0, front-fits (s .pre .4) (g .gather .ensures) _ gain gain-≤ (omega arith) _ (s .pre .2), front-fits (s .pre .4) (g .gather .ensures) _ loss loss-≤ (omega arith) _ (s .pre .2))
 
 pool-requires : tie.Need-pool-requires
 pool-requires c κs = search needs
