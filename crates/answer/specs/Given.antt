@@ -43,9 +43,11 @@ use Rattle.members.specs.Range.{kept-rows, rows-room, row-fine, rows-all-fine, 
 use Rattle.members.specs.Lists.{headed}
 use Rattle.members.specs.Values.{values-room, values-of-kept, many-of-kept, last-of-kept}
 use Rattle.answer.specs.declared.Answer.{Answer}
+use Rattle.answer.specs.declared.charges.Charges.{Charges}
 use Rattle.answer.specs.declared.shares.Paid.{Paid}
 use Rattle.answer.specs.Pools.{pool-cents, used-cents}
-use Rattle.answer.specs.Shares.{numbers, MembersReady, MembersCharged, MembersPaid, pool-over}
+use Rattle.answer.specs.Shares.{numbers, MembersReady, MembersPaid, pool-over}
+use Rattle.answer.specs.Charges.{CostReady, CostCharged}
 use Rattle.answer.specs.Promises.{kept-lists, lists-long, columns-long, last-standing, shown}
 
 -- ---- RCR: no test that has been passed is refused, and it is at most 7,680,000,000
@@ -125,6 +127,9 @@ headed-again (x ∷ xs) (y ∷ ys) [] e = refl
 headed-again (x ∷ xs) (y ∷ ys) (z ∷ zs) e = ap (λ (l : List ℤ). x ∷ l) (headed-again xs ys zs (omega arith))
 
 -- ---- the whole answer
+abbrev pub gathered-answer : RequirementFields → Found → Charges → Paid → Answer
+gathered-answer f x c paid = record { number = f .number; direction = f .direction; members = paid .members; residual = paid .residual; rcr = x .rcr; pool = paid .pool; used = c .used; unused = c .unused }
+
 abbrev pub required : RequirementFields → Requirement
 required f = record { number = f .number; set = f .set; direction = f .direction; price = f .price; cost = f .cost; enabled = f .enabled; used = f .used }
 
@@ -225,6 +230,9 @@ module _ {f : RequirementFields} {n p : ℕ} {ms ps ns fs : List ℤ} {qs : List
         long = rw (w .0, lt-ltb n room l) (w .1);
         fine = rest-is;
       }
+
+  pub cost-ready : CostReady f n fs qs xs ys ds a d e
+  cost-ready = record { cost = h .cost; enabled = h .enabled; used = rooms .used; unused = rooms .unused; members = members-ready (f .direction) a (rooms .performances) }
 
 -- ---- the parts together
 -- the sides and the weights of a requirement's members, by their numbers
@@ -331,12 +339,16 @@ module _ (f : RequirementFields) (n p : ℕ) (ms ps ns fs : List ℤ) (us qs : L
       ∙ ap (λ (l : List ℤ). headed (listed k q Payment) l) a
       ∙ headed-again (listed k q Payment) (listed k q Unused) old (listed-many k q Payment ∙ sym (listed-many k q Unused))
 
-  pub given-is : {x : Found} {u v r₄ r₅ : ℕ} {paid : Paid} {old₁ old₂ old₃ old₄ old₅ mid₁ mid₂ new₁ new₂ new₃ new₄ new₅ : List ℤ} → x ≡ found-is n p (f .direction) (f .set) ms ps ns fs qs → u ≡ used-cents (f .cost) (f .enabled) (f .used) (x .reliable) → v ≡ f .cost - u → MembersCharged Unused v n (f .direction) (f .set) fs qs xs ys ds old₁ old₅ r₅ mid₁ new₅ → MembersCharged Used u n (f .direction) (f .set) fs qs xs ys ds mid₁ old₄ r₄ mid₂ new₄ → MembersPaid (f .price) (x .rcr) n (f .direction) (f .set) fs qs xs ys ds mid₂ old₂ old₃ paid new₁ new₂ new₃ → GivenIs f n p ms ps ns fs us qs xs ys ds old₁ old₂ old₃ old₄ old₅ (record { number = f .number; direction = f .direction; members = paid .members; residual = paid .residual; rcr = x .rcr; pool = paid .pool; used = record { pool = u; unplaced = r₄ }; unused = record { pool = v; unplaced = r₅ } }) new₁ new₂ new₃ new₄ new₅
+  pub given-is : {x : Found} {charges : Charges} {paid : Paid} {old₁ old₂ old₃ old₄ old₅ middle new₁ new₂ new₃ new₄ new₅ : List ℤ} → x ≡ found-is n p (f .direction) (f .set) ms ps ns fs qs → CostCharged f (x .reliable) n fs qs xs ys ds old₁ old₄ old₅ charges middle new₄ new₅ → MembersPaid (f .price) (x .rcr) n (f .direction) (f .set) fs qs xs ys ds middle old₂ old₃ paid new₁ new₂ new₃ → GivenIs f n p ms ps ns fs us qs xs ys ds old₁ old₂ old₃ old₄ old₅ (gathered-answer f x charges paid) new₁ new₂ new₃ new₄ new₅
   unfolding kept-answer answered kept-rcr
-  given-is {x} {u} {v} {r₄} {r₅} {paid} {old₁} {old₂} {old₃} {old₄} {old₅} ex eu ev a b c =
+  given-is {x} {charges} {paid} {old₁} {old₂} {old₃} {old₄} {old₅} ex costs c =
+      let u = charges .used .pool in
+      let v = charges .unused .pool in
+      let a = costs .over-unused in
+      let b = costs .over-used in
       let rcr : x .rcr ≡ kept-rcr k q = ap (λ (y : Found). y .rcr) ex in
-      let used-up : u ≡ the-used = eu ∙ ap (λ (t : Bool). used-cents (f .cost) (f .enabled) (f .used) t) (ap (λ (y : Found). y .reliable) ex) in
-      let rest : v ≡ the-unused = ev ∙ ap (λ (z : ℕ). f .cost - z) used-up in
+      let used-up : u ≡ the-used = costs .used ∙ ap (λ (t : Bool). used-cents (f .cost) (f .enabled) (f .used) t) (ap (λ (y : Found). y .reliable) ex) in
+      let rest : v ≡ the-unused = costs .unused ∙ ap (λ (z : ℕ). f .cost - z) used-up in
       let pooled : pool-over (f .price) (x .rcr) (listed k q Payment) ≡ the-pool = pool-same rcr in
       record {
         figures =

@@ -4,6 +4,7 @@ pub mod Shares
 pub mod Promises
 pub mod Lent
 pub mod Tested
+pub mod Charges
 pub mod Given
 pub mod Call
 pub mod BookAnswered

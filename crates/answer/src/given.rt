@@ -1,14 +1,13 @@
 // A requirement's answer, once every test has been passed.
 ghost use mathlib.Core.Path.{_≡_};
 ghost use lib.ListN.{length};
-ghost use Rattle.answer.specs.Given.{FoundReady, found-is, GivenReady, GivenAll};
+ghost use Rattle.answer.specs.Given.{FoundReady, found-is, gathered-answer, GivenReady, GivenAll};
 use super::Answer;
-use super::Charge;
-use super::pools::used_pool;
-use super::shares::charge_members;
+use super::charges::Charges;
+use super::charges::charge_cost;
+use super::shares::Paid;
 use super::shares::pay;
 use book::RequirementFields;
-use members::Field;
 use response::Found;
 use response::Response;
 use rules::Direction;
@@ -48,7 +47,27 @@ fn found_of(
     }
 }
 
-// Unused and used charges first, so that the column of performances ends with those of payment.
+// The figures, from what the parts have found.
+fn gathered(fields: RequirementFields, found: Found, charges: Charges, paid: Paid) -> Answer
+    ensures { λ r. ⌜ r ≡ gathered-answer fields found charges paid ⌝ }
+{
+    let direction = fields.direction;
+    let residual = paid.residual;
+    let used = charges.used;
+    let unused = charges.unused;
+    Answer {
+        number: fields.number,
+        direction: direction,
+        members: paid.members,
+        residual: residual,
+        rcr: found.rcr,
+        pool: paid.pool,
+        used: used,
+        unused: unused,
+    }
+}
+
+// The cost is charged first, so that the column of performances ends with those of payment.
 pub(crate) fn given(
     fields: RequirementFields,
     units: u16,
@@ -83,28 +102,10 @@ pub(crate) fn given(
         figures,
         places,
     );
-    let used_cents = used_pool(fields.cost, fields.enabled, fields.used, found.reliable);
-    let unused_cents = fields.cost - used_cents;
-    let unused_left = charge_members(
-        Field::Unused,
-        unused_cents,
+    let charges = charge_cost(
+        fields,
+        found.reliable,
         units,
-        direction,
-        set,
-        figures,
-        places,
-        raise,
-        lower,
-        defaults,
-        performances,
-        unused,
-    );
-    let used_left = charge_members(
-        Field::Used,
-        used_cents,
-        units,
-        direction,
-        set,
         figures,
         places,
         raise,
@@ -112,6 +113,7 @@ pub(crate) fn given(
         defaults,
         performances,
         used,
+        unused,
     );
     let paid = pay(
         fields.price,
@@ -128,21 +130,5 @@ pub(crate) fn given(
         factors,
         payments,
     );
-    let residual = paid.residual;
-    Answer {
-        number: fields.number,
-        direction: direction,
-        members: paid.members,
-        residual: residual,
-        rcr: found.rcr,
-        pool: paid.pool,
-        used: Charge {
-            pool: used_cents,
-            unplaced: used_left,
-        },
-        unused: Charge {
-            pool: unused_cents,
-            unplaced: unused_left,
-        },
-    }
+    gathered(fields, found, charges, paid)
 }

@@ -5,6 +5,7 @@ use rules::Refusal;
 use rules::Standing;
 
 pub mod call;
+mod charges;
 mod given;
 mod lent;
 mod pools;
