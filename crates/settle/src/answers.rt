@@ -5,6 +5,8 @@ ghost use Prim.Native.Nat.{_<_, _≤_};
 ghost use lib.ListN.{length};
 ghost use Rattle.settle.specs.Columns.{Columns};
 use super::output;
+use super::records::Course;
+use super::records::Next;
 use answer::Answer;
 use answer::Answered;
 use interval::Tally;
@@ -145,9 +147,9 @@ fn figures_of(given: Answer) -> Figures {
 
 // A requirement's line, its units' lines and its residual's.
 fn print_members(
-    given: Answer,
+    answered: Answered,
     units: u16,
-    set: u8,
+    part: &[u8],
     figures: &[i64],
     numbers: &[u16],
     places: &[u8],
@@ -159,6 +161,9 @@ fn print_members(
 ) -> bool
     requires { ⌜ Columns (now performances) (now factors) (now payments) (now used) (now unused) ⌝ }
 {
+    let Answered::Given(given) = answered else {
+        return false;
+    };
     if !output::requirement(figures_of(given)) {
         return false;
     }
@@ -166,7 +171,7 @@ fn print_members(
     let rows = print_rows(
         units,
         direction,
-        set,
+        little::u8_at(part, SET),
         figures,
         numbers,
         places,
@@ -187,64 +192,45 @@ fn print_members(
     output::residual(standing, shares)
 }
 
-fn print_answer(
-    tally: Tally,
-    part: &[u8],
-    measures: &[i64],
-    positive: &[i64],
-    negative: &[i64],
-    figures: &[i64],
-    numbers: &[u16],
-    places: &[u8],
-    raise: &[i64],
-    lower: &[i64],
-    defaults: &[i64],
-    performances: &mut [i64],
-    factors: &mut [i64],
-    payments: &mut [i64],
-    used: &mut [i64],
-    unused: &mut [i64],
-) -> bool
-    requires { ⌜ Columns (now performances) (now factors) (now payments) (now used) (now unused) ⌝ }
+// How many of the requirements to come are to be printed: none where a line was not written, which is told.
+fn to_print(written: bool, requirements: u16) -> u16
+    ensures { λ r. ⌜ r ≤ requirements ⌝ }
 {
-    let answered = answer::call::answer(
-        tally,
-        part,
-        measures,
-        positive,
-        negative,
-        figures,
-        places,
-        raise,
-        lower,
-        defaults,
-        performances,
-        factors,
-        payments,
-        used,
-        unused,
-    );
-    let Answered::Given(given) = answered else {
-        return false;
-    };
-    let set = little::u8_at(part, SET);
-    print_members(
-        given,
-        tally.units,
-        set,
-        figures,
-        numbers,
-        places,
-        performances,
-        factors,
-        payments,
-        used,
-        unused,
-    )
+    if written {
+        return requirements;
+    }
+    output::writing_failed();
+    0
+}
+
+// The first line, or what is told in its place; and how many requirements are to be printed after it.
+fn print_first(end: Next) -> u16 {
+    let tally = end.tally;
+    let course = end.course;
+    match course {
+        Course::On => to_print(output::interval(tally.interval), tally.requirements),
+        Course::Refused(refusal) => to_print(output::refused(refusal), 0),
+        Course::Failed => {
+            output::reading_failed();
+            0
+        }
+    }
+}
+
+// The requirement's record that starts here, or nothing where there is none.
+fn record_at(bytes: &[u8], start: usize) -> &[u8] {
+    if bytes.len() < REQUIREMENT {
+        return &bytes[0..0];
+    }
+    if bytes.len() - REQUIREMENT < start {
+        return &bytes[0..0];
+    }
+    let end = start + REQUIREMENT;
+    &bytes[start..end]
 }
 
 pub(crate) fn print_book(
-    tally: Tally,
+    end: Next,
     bytes: &[u8],
     measures: &[i64],
     positive: &[i64],
@@ -260,27 +246,21 @@ pub(crate) fn print_book(
     payments: &mut [i64],
     used: &mut [i64],
     unused: &mut [i64],
-) -> bool
+)
     requires { ⌜ Columns (now performances) (now factors) (now payments) (now used) (now unused) ⌝ }
 {
-    if !output::interval(tally.interval) {
-        return false;
-    }
-    let mut left = tally.requirements;
+    let tally = end.tally;
+    let mut left = print_first(end);
     let mut start: usize = 0;
     while left > 0 {
-        if bytes.len() - start < REQUIREMENT {
-            return false;
-        }
-        let end = start + REQUIREMENT;
-        if !print_answer(
+        let part = record_at(bytes, start);
+        let answered = answer::call::answer(
             tally,
-            &bytes[start..end],
+            part,
             measures,
             positive,
             negative,
             figures,
-            numbers,
             places,
             raise,
             lower,
@@ -290,11 +270,21 @@ pub(crate) fn print_book(
             payments,
             used,
             unused,
-        ) {
-            return false;
-        }
-        start = end;
-        left -= 1;
+        );
+        let written = print_members(
+            answered,
+            tally.units,
+            part,
+            figures,
+            numbers,
+            places,
+            performances,
+            factors,
+            payments,
+            used,
+            unused,
+        );
+        left = to_print(written, left - 1);
+        start += REQUIREMENT;
     }
-    true
 }

@@ -5,8 +5,6 @@ mod input;
 mod output;
 mod records;
 
-use records::Next;
-
 // The buffers, in bytes: the series 3 * 3,000, the units 512 * 67, five columns of 4,104, the figures 360, the records 769. While the
 // book is read there are 300 more for the frequencies of a region or the readings of a unit; while it is printed a line of 165 twice. So
 // there are never more than 65,283, within 65,536.
@@ -40,12 +38,19 @@ fn main() {
     let mut used = [0i64; MEMBERS];
     let mut unused = [0i64; MEMBERS];
     let mut bytes = [0u8; RECORDS];
-    let end = records::take_book(
+    let head = records::take_head(
         &mut bytes,
         &mut measures,
         &mut positive,
         &mut negative,
         &mut figures,
+    );
+    let roster = records::take_units(
+        head,
+        &mut bytes,
+        &measures,
+        &mut positive,
+        &mut negative,
         &mut numbers,
         &mut places,
         &mut raise,
@@ -53,34 +58,23 @@ fn main() {
         &mut defaults,
         &mut performances,
     );
-    match end {
-        Next::Taken(tally) => {
-            if !answers::print_book(
-                tally,
-                &bytes,
-                &measures,
-                &positive,
-                &negative,
-                &figures,
-                &numbers,
-                &places,
-                &raise,
-                &lower,
-                &defaults,
-                &mut performances,
-                &mut factors,
-                &mut payments,
-                &mut used,
-                &mut unused,
-            ) {
-                output::writing_failed();
-            }
-        }
-        Next::Refused(refusal) => {
-            if !output::refused(refusal) {
-                output::writing_failed();
-            }
-        }
-        Next::Failed => output::reading_failed(),
-    }
+    let end = records::take_requirements(roster, &mut bytes);
+    answers::print_book(
+        end,
+        &bytes,
+        &measures,
+        &positive,
+        &negative,
+        &figures,
+        &numbers,
+        &places,
+        &raise,
+        &lower,
+        &defaults,
+        &mut performances,
+        &mut factors,
+        &mut payments,
+        &mut used,
+        &mut unused,
+    );
 }

@@ -8,10 +8,15 @@ use Rattle.settle.proofs.records.take_requirements.Statement.{statement
 use Rattle.settle.proofs.records.take_requirements.Tie as tie
 
 abbrev Inv-loop : tie.InvT-loop
-Inv-loop bytes₀ tally₀ left₀ start₀ bytes tally left start = (start ≤ length bytes) × (length bytes ≡ length bytes₀)
+Inv-loop bytes₀ next₀ tally₀ left₀ start₀ bytes next tally left start =
+    (start ≤ length bytes) × (length bytes ≡ length bytes₀)
 
 abbrev μ-loop : tie.MeasureT-loop
-μ-loop bytes₀ tally₀ left₀ start₀ bytes tally left start = left
+μ-loop bytes₀ next₀ tally₀ left₀ start₀ bytes next tally left start =
+    left
+
+to-read-requires : tie.Need-to-read-requires Inv-loop μ-loop
+to-read-requires c κs = search needs
 
 loop-holds : tie.Need-loop-holds Inv-loop μ-loop
 loop-holds c = (omega arith, refl)
@@ -34,20 +39,14 @@ add-take-requirement c = omega arith
 take-requirement-requires : tie.Need-take-requirement-requires Inv-loop μ-loop
 take-requirement-requires c κs = omega arith
 
-enum-known-next : tie.Need-enum-known-next Inv-loop μ-loop
-enum-known-next c = search needs
-
-same-length-2 : tie.Need-same-length-2 Inv-loop μ-loop
-same-length-2 c = omega arith
-
-returns-2 : tie.Need-returns-2 Inv-loop μ-loop
-returns-2 c = search needs
-
 add-start : tie.Need-add-start Inv-loop μ-loop
 add-start c = omega arith
 
-sub-left : tie.Need-sub-left Inv-loop μ-loop
-sub-left c = omega arith
+sub-to-read : tie.Need-sub-to-read Inv-loop μ-loop
+sub-to-read c = omega arith
+
+to-read-requires-2 : tie.Need-to-read-requires-2 Inv-loop μ-loop
+to-read-requires-2 c κs = search needs
 
 loop-less : tie.Need-loop-less Inv-loop μ-loop
 loop-less c = omega arith
@@ -55,11 +54,11 @@ loop-less c = omega arith
 loop-again : tie.Need-loop-again Inv-loop μ-loop
 loop-again c = omega arith
 
-same-length-3 : tie.Need-same-length-3 Inv-loop μ-loop
-same-length-3 c = c .before .loop .inv .1
+same-length-2 : tie.Need-same-length-2 Inv-loop μ-loop
+same-length-2 c = c .before .loop .inv .1
 
-returns-3 : tie.Need-returns-3 Inv-loop μ-loop
-returns-3 c = search needs
+returns-2 : tie.Need-returns-2 Inv-loop μ-loop
+returns-2 c = search needs
 
 pub take-requirements-spec : {M : Type 1} → statement M
 take-requirements-spec =
@@ -67,6 +66,7 @@ take-requirements-spec =
     (tie.spec
     Inv-loop
     μ-loop
+    to-read-requires
     loop-holds
     asked-requires
     sub-if1
@@ -74,12 +74,10 @@ take-requirements-spec =
     returns
     add-take-requirement
     take-requirement-requires
-    enum-known-next
-    same-length-2
-    returns-2
     add-start
-    sub-left
+    sub-to-read
+    to-read-requires-2
     loop-less
     loop-again
-    same-length-3
-    returns-3)
+    same-length-2
+    returns-2)
