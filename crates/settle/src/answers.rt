@@ -2,11 +2,9 @@
 // answers whether the listing goes on. It stops where a line cannot be written; a refusal would stop it too, but what the calls leave of a
 // book is never refused.
 ghost use Prim.Native.Nat.{_<_, _≤_};
-ghost use lib.ListN.{length};
-ghost use Rattle.settle.specs.Columns.{Columns};
 use super::output;
-use super::records::Course;
 use super::records::Next;
+use super::records::tally_of;
 use answer::Answer;
 use answer::Answered;
 use interval::Tally;
@@ -21,6 +19,7 @@ const REQUIREMENT: usize = 24;
 // Where a requirement's record holds its region set.
 const SET: usize = 2;
 
+// One more than the units, for the residual.
 const MEMBERS: usize = 513;
 
 // Where the next member's amounts stand in the columns.
@@ -31,13 +30,13 @@ enum Printed {
 
 fn amounts(
     place: usize,
-    performances: &[i64],
-    factors: &[i64],
-    payments: &[i64],
-    used: &[i64],
-    unused: &[i64],
+    performances: &[i64; MEMBERS],
+    factors: &[i64; MEMBERS],
+    payments: &[i64; MEMBERS],
+    used: &[i64; MEMBERS],
+    unused: &[i64; MEMBERS],
 ) -> Amounts
-    requires { ⌜ (place < 513) × Columns (now performances) (now factors) (now payments) (now used) (now unused) ⌝ }
+    requires { ⌜ place < 513 ⌝ }
 {
     Amounts {
         performance: performances[place],
@@ -58,14 +57,12 @@ fn print_row(
     figures: &[i64],
     numbers: &[u16],
     places: &[u8],
-    performances: &[i64],
-    factors: &[i64],
-    payments: &[i64],
-    used: &[i64],
-    unused: &[i64],
-) -> Printed
-    requires { ⌜ Columns (now performances) (now factors) (now payments) (now used) (now unused) ⌝ }
-{
+    performances: &[i64; MEMBERS],
+    factors: &[i64; MEMBERS],
+    payments: &[i64; MEMBERS],
+    used: &[i64; MEMBERS],
+    unused: &[i64; MEMBERS],
+) -> Printed {
     if MEMBERS <= place {
         return Printed::Stopped;
     }
@@ -90,14 +87,12 @@ fn print_rows(
     figures: &[i64],
     numbers: &[u16],
     places: &[u8],
-    performances: &[i64],
-    factors: &[i64],
-    payments: &[i64],
-    used: &[i64],
-    unused: &[i64],
-) -> Printed
-    requires { ⌜ Columns (now performances) (now factors) (now payments) (now used) (now unused) ⌝ }
-{
+    performances: &[i64; MEMBERS],
+    factors: &[i64; MEMBERS],
+    payments: &[i64; MEMBERS],
+    used: &[i64; MEMBERS],
+    unused: &[i64; MEMBERS],
+) -> Printed {
     let mut place: usize = 0;
     let mut row: u16 = 0;
     while row < units {
@@ -153,14 +148,12 @@ fn print_members(
     figures: &[i64],
     numbers: &[u16],
     places: &[u8],
-    performances: &[i64],
-    factors: &[i64],
-    payments: &[i64],
-    used: &[i64],
-    unused: &[i64],
-) -> bool
-    requires { ⌜ Columns (now performances) (now factors) (now payments) (now used) (now unused) ⌝ }
-{
+    performances: &[i64; MEMBERS],
+    factors: &[i64; MEMBERS],
+    payments: &[i64; MEMBERS],
+    used: &[i64; MEMBERS],
+    unused: &[i64; MEMBERS],
+) -> bool {
     let Answered::Given(given) = answered else {
         return false;
     };
@@ -205,12 +198,10 @@ fn to_print(written: bool, requirements: u16) -> u16
 
 // The first line, or what is told in its place; and how many requirements are to be printed after it.
 fn print_first(end: Next) -> u16 {
-    let tally = end.tally;
-    let course = end.course;
-    match course {
-        Course::On => to_print(output::interval(tally.interval), tally.requirements),
-        Course::Refused(refusal) => to_print(output::refused(refusal), 0),
-        Course::Failed => {
+    match end {
+        Next::Taken(tally) => to_print(output::interval(tally.interval), tally.requirements),
+        Next::Refused(refusal) => to_print(output::refused(refusal), 0),
+        Next::Failed => {
             output::reading_failed();
             0
         }
@@ -241,15 +232,13 @@ pub(crate) fn print_book(
     raise: &[i64],
     lower: &[i64],
     defaults: &[i64],
-    performances: &mut [i64],
-    factors: &mut [i64],
-    payments: &mut [i64],
-    used: &mut [i64],
-    unused: &mut [i64],
-)
-    requires { ⌜ Columns (now performances) (now factors) (now payments) (now used) (now unused) ⌝ }
-{
-    let tally = end.tally;
+) {
+    let mut performances = [0i64; MEMBERS];
+    let mut factors = [0i64; MEMBERS];
+    let mut payments = [0i64; MEMBERS];
+    let mut used = [0i64; MEMBERS];
+    let mut unused = [0i64; MEMBERS];
+    let tally = tally_of(end);
     let mut left = print_first(end);
     let mut start: usize = 0;
     while left > 0 {
@@ -265,11 +254,11 @@ pub(crate) fn print_book(
             raise,
             lower,
             defaults,
-            performances,
-            factors,
-            payments,
-            used,
-            unused,
+            &mut performances,
+            &mut factors,
+            &mut payments,
+            &mut used,
+            &mut unused,
         );
         let written = print_members(
             answered,
@@ -278,11 +267,11 @@ pub(crate) fn print_book(
             figures,
             numbers,
             places,
-            performances,
-            factors,
-            payments,
-            used,
-            unused,
+            &performances,
+            &factors,
+            &payments,
+            &used,
+            &unused,
         );
         left = to_print(written, left - 1);
         start += REQUIREMENT;

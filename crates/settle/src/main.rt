@@ -5,9 +5,9 @@ mod input;
 mod output;
 mod records;
 
-// The buffers, in bytes: the series 3 * 3,000, the units 512 * 67, five columns of 4,104, the figures 360, the records 769. While the
-// book is read there are 300 more for the frequencies of a region or the readings of a unit; while it is printed a line of 165 twice. So
-// there are never more than 65,283, within 65,536.
+// The buffers, in bytes: the series 3 * 3,000, the units 512 * 67, the figures 360, the records 769. While the book is read there are 900
+// more for the frequencies of a region or the readings and deviations of a unit; while it is printed five columns of 4,104 and a line of
+// 165 twice. So there are never more than 65,283, within 65,536.
 const SERIES: usize = 375;
 
 const FIGURES: usize = 45;
@@ -15,9 +15,6 @@ const FIGURES: usize = 45;
 const UNITS: usize = 512;
 
 const DEFAULTS: usize = 3072;
-
-// One more than the units, for the residual.
-const MEMBERS: usize = 513;
 
 // All requirements of 24 bytes, and the byte that may follow the last. The records before them are read into their place.
 const RECORDS: usize = 769;
@@ -32,21 +29,16 @@ fn main() {
     let mut raise = [0i64; UNITS];
     let mut lower = [0i64; UNITS];
     let mut defaults = [0i64; DEFAULTS];
-    let mut performances = [0i64; MEMBERS];
-    let mut factors = [0i64; MEMBERS];
-    let mut payments = [0i64; MEMBERS];
-    let mut used = [0i64; MEMBERS];
-    let mut unused = [0i64; MEMBERS];
     let mut bytes = [0u8; RECORDS];
-    let head = records::take_head(
+    let mut next = records::take_head(
         &mut bytes,
         &mut measures,
         &mut positive,
         &mut negative,
         &mut figures,
     );
-    let roster = records::take_units(
-        head,
+    next = records::take_units(
+        next,
         &mut bytes,
         &measures,
         &mut positive,
@@ -56,11 +48,10 @@ fn main() {
         &mut raise,
         &mut lower,
         &mut defaults,
-        &mut performances,
     );
-    let end = records::take_requirements(roster, &mut bytes);
+    next = records::take_requirements(next, &mut bytes);
     answers::print_book(
-        end,
+        next,
         &bytes,
         &measures,
         &positive,
@@ -71,10 +62,5 @@ fn main() {
         &raise,
         &lower,
         &defaults,
-        &mut performances,
-        &mut factors,
-        &mut payments,
-        &mut used,
-        &mut unused,
     );
 }

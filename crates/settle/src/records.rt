@@ -23,38 +23,45 @@ const REQUIREMENT: usize = 24;
 
 const POINTS: usize = 75;
 
-// Whether the book goes on; after a refusal or a failed reading no more is read.
-pub(crate) enum Course {
-    On,
+// The tally so far, or why no more is read.
+pub(crate) enum Next {
+    Taken(Tally),
     Refused(Refusal),
     Failed,
 }
 
-// The tally so far, and whether the book goes on.
-pub(crate) struct Next {
-    pub(crate) tally: Tally,
-    pub(crate) course: Course,
-}
-
 // What a call did with a record. A reading that failed brought no byte, so that its call refused and left all as it was.
 fn after(got: Filled, step: Step) -> Next {
+    if got.failed {
+        return Next::Failed;
+    }
     let tally = step.tally;
     let taking = step.taking;
-    if got.failed {
-        return Next {
-            tally: tally,
-            course: Course::Failed,
-        };
-    }
     match taking {
-        Taking::Taken => Next {
-            tally: tally,
-            course: Course::On,
-        },
-        Taking::Refused(refusal) => Next {
-            tally: tally,
-            course: Course::Refused(refusal),
-        },
+        Taking::Taken => Next::Taken(tally),
+        Taking::Refused(refusal) => Next::Refused(refusal),
+    }
+}
+
+// The tally so far; where the book stopped, one to which nothing is to come.
+pub(crate) fn tally_of(next: Next) -> Tally {
+    match next {
+        Next::Taken(tally) => tally,
+        Next::Refused(_) => nothing_to_come(),
+        Next::Failed => nothing_to_come(),
+    }
+}
+
+fn nothing_to_come() -> Tally {
+    Tally {
+        units: 0,
+        requirements: 0,
+        records: 0,
+        least: 0,
+        smoothing: 0,
+        limit: 0,
+        percent: 0,
+        interval: 0,
     }
 }
 
@@ -62,34 +69,10 @@ fn after(got: Filled, step: Step) -> Next {
 fn to_read(next: Next, records: u16) -> u16
     ensures { λ r. ⌜ r ≤ records ⌝ }
 {
-    let course = next.course;
-    match course {
-        Course::On => records,
-        Course::Refused(_) => 0,
-        Course::Failed => 0,
-    }
-}
-
-// A table that was refused announces nothing.
-fn announced(opened: Opened) -> Step {
-    match opened {
-        Opened::Taken(tally) => Step {
-            tally: tally,
-            taking: Taking::Taken,
-        },
-        Opened::Refused(refusal) => Step {
-            tally: Tally {
-                units: 0,
-                requirements: 0,
-                records: 0,
-                least: 0,
-                smoothing: 0,
-                limit: 0,
-                percent: 0,
-                interval: 0,
-            },
-            taking: Taking::Refused(refusal),
-        },
+    match next {
+        Next::Taken(_) => records,
+        Next::Refused(_) => 0,
+        Next::Failed => 0,
     }
 }
 
@@ -97,11 +80,15 @@ fn take_contents(bytes: &mut [u8]) -> Next
     requires { ⌜ 769 ≤ length (now bytes) ⌝ }
 {
     let got = read_record(bytes, 0, CONTENTS);
+    if got.failed {
+        return Next::Failed;
+    }
     let count = got.count;
-    after(
-        got,
-        announced(interval::contents::contents(&bytes[0..count])),
-    )
+    let opened = interval::contents::contents(&bytes[0..count]);
+    match opened {
+        Opened::Taken(tally) => Next::Taken(tally),
+        Opened::Refused(refusal) => Next::Refused(refusal),
+    }
 }
 
 // The contents, then the settings.
@@ -109,9 +96,7 @@ fn take_opening(bytes: &mut [u8]) -> Next
     requires { ⌜ 769 ≤ length (now bytes) ⌝ }
 {
     let opened = take_contents(bytes);
-    let tally = opened.tally;
-    let course = opened.course;
-    let Course::On = course else {
+    let Next::Taken(tally) = opened else {
         return opened;
     };
     let got = read_record(bytes, 0, SETTINGS);
@@ -135,9 +120,8 @@ pub(crate) fn take_head(
     while left > 0 {
         let got = read_record(bytes, 0, FREQUENCY);
         let count = got.count;
-        let tally = next.tally;
         let step = frequencies::frequency::frequency(
-            tally,
+            tally_of(next),
             &bytes[0..count],
             &mut frequencies,
             measures,
@@ -151,7 +135,6 @@ pub(crate) fn take_head(
     next
 }
 
-// The units. The deviations of each are made in a column that is not needed yet.
 pub(crate) fn take_units(
     head: Next,
     bytes: &mut [u8],
@@ -163,22 +146,21 @@ pub(crate) fn take_units(
     raise: &mut [i64],
     lower: &mut [i64],
     defaults: &mut [i64],
-    deviations: &mut [i64],
 ) -> Next
     requires { ⌜ 769 ≤ length (now bytes) ⌝ }
 {
     let mut readings = [0i32; POINTS];
+    let mut deviations = [0i64; POINTS];
     let mut next = head;
-    let mut tally = head.tally;
-    let mut left = to_read(head, tally.units);
+    let mut left = tally_of(next).units;
     while left > 0 {
         let got = read_record(bytes, 0, UNIT);
         let count = got.count;
         let step = units::unit::unit(
-            tally,
+            tally_of(next),
             &bytes[0..count],
             &mut readings,
-            deviations,
+            &mut deviations,
             measures,
             positive,
             negative,
@@ -189,7 +171,6 @@ pub(crate) fn take_units(
             defaults,
         );
         next = after(got, step);
-        tally = next.tally;
         left = to_read(next, left - 1);
     }
     next
@@ -205,33 +186,20 @@ fn asked(left: u16) -> usize
     REQUIREMENT
 }
 
-fn take_requirement(tally: Tally, start: usize, end: usize, bytes: &mut [u8]) -> Next
-    requires { ⌜ (start ≤ end) × (end ≤ length (now bytes)) ⌝ }
-{
-    let got = read_record(bytes, start, end);
-    let until = start + got.count;
-    after(
-        got,
-        interval::requirement::requirement(tally, &bytes[start..until]),
-    )
-}
-
 // The requirements are kept, one after the other. There is room for as many as a book may announce.
 pub(crate) fn take_requirements(roster: Next, bytes: &mut [u8]) -> Next {
     let mut next = roster;
-    let mut tally = roster.tally;
-    let mut left = to_read(roster, tally.requirements);
+    let mut left = tally_of(next).requirements;
     let mut start: usize = 0;
     while left > 0 {
         let size = asked(left);
         if bytes.len() - start < size {
-            return Next {
-                tally: tally,
-                course: Course::Refused(Refusal::TooShort),
-            };
+            return Next::Refused(Refusal::TooShort);
         }
-        next = take_requirement(tally, start, start + size, bytes);
-        tally = next.tally;
+        let got = read_record(bytes, start, start + size);
+        let until = start + got.count;
+        let step = interval::requirement::requirement(tally_of(next), &bytes[start..until]);
+        next = after(got, step);
         start += REQUIREMENT;
         left = to_read(next, left - 1);
     }

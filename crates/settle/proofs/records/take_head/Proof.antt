@@ -36,6 +36,9 @@ loop-holds c = (refl, refl, refl, refl, refl, refl)
 read-record-requires : tie.Need-read-record-requires Inv-loop μ-loop
 read-record-requires c κs = search needs
 
+tally-of-requires : tie.Need-tally-of-requires Inv-loop μ-loop
+tally-of-requires c κs = search needs
+
 sub-frequency : tie.Need-sub-frequency Inv-loop μ-loop
 sub-frequency c = search needs
 
@@ -46,7 +49,7 @@ part-frequency-end : tie.Need-part-frequency-end Inv-loop μ-loop
 part-frequency-end c = search needs
 
 slice-aggregate-frequency : tie.Need-slice-aggregate-frequency Inv-loop μ-loop
-slice-aggregate-frequency c = search needs
+slice-aggregate-frequency c = c .before .before .before .before .before .before .before .before .before .loop .inv .5
 
 frequency-requires : tie.Need-frequency-requires Inv-loop μ-loop
 frequency-requires c κs = search needs
@@ -99,6 +102,7 @@ take-head-spec =
     to-read-requires
     loop-holds
     read-record-requires
+    tally-of-requires
     sub-frequency
     part-frequency-start
     part-frequency-end

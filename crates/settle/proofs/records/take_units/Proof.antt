@@ -7,11 +7,11 @@ use Rattle.settle.proofs.records.take_units.Statement.{statement}
 use Rattle.settle.proofs.records.take_units.Tie as tie
 
 abbrev Inv-loop : tie.InvT-loop
-Inv-loop bytes₀ measures positive₀ negative₀ numbers₀ places₀ raise₀ lower₀ defaults₀ deviations₀ readings₀ next₀ tally₀ left₀ bytes positive negative numbers places raise lower defaults deviations readings next tally left =
-    (length bytes ≡ length bytes₀) × (length positive ≡ length positive₀) × (length negative ≡ length negative₀) × (length numbers ≡ length numbers₀) × (length places ≡ length places₀) × (length raise ≡ length raise₀) × (length lower ≡ length lower₀) × (length defaults ≡ length defaults₀) × (length deviations ≡ length deviations₀) × (75 ≡ length readings)
+Inv-loop bytes₀ measures positive₀ negative₀ numbers₀ places₀ raise₀ lower₀ defaults₀ readings₀ deviations₀ next₀ left₀ bytes positive negative numbers places raise lower defaults readings deviations next left =
+    (length bytes ≡ length bytes₀) × (length positive ≡ length positive₀) × (length negative ≡ length negative₀) × (length numbers ≡ length numbers₀) × (length places ≡ length places₀) × (length raise ≡ length raise₀) × (length lower ≡ length lower₀) × (length defaults ≡ length defaults₀) × (75 ≡ length readings) × (75 ≡ length deviations)
 
 abbrev μ-loop : tie.MeasureT-loop
-μ-loop bytes₀ measures positive₀ negative₀ numbers₀ places₀ raise₀ lower₀ defaults₀ deviations₀ readings₀ next₀ tally₀ left₀ bytes positive negative numbers places raise lower defaults deviations readings next tally left =
+μ-loop bytes₀ measures positive₀ negative₀ numbers₀ places₀ raise₀ lower₀ defaults₀ readings₀ deviations₀ next₀ left₀ bytes positive negative numbers places raise lower defaults readings deviations next left =
     left
 
 -- the places of a turn, from its end: the call, the reading, the start
@@ -19,19 +19,22 @@ abbrev unit-in : tie.After-after Inv-loop μ-loop → tie.After-unit Inv-loop μ
 unit-in c = c .before .before .before .before .before .before .before .before .before .before .before .before
 
 abbrev reading-in : tie.After-unit Inv-loop μ-loop → tie.After-read-record Inv-loop μ-loop
-reading-in c = c .before .before .before .before .before .before .before .before .before .before .before .before .before .before
+reading-in c = c .before .before .before .before .before .before .before .before .before .before .before .before .before .before .before
 
 abbrev turn-in : tie.After-read-record Inv-loop μ-loop → tie.In-loop Inv-loop μ-loop
 turn-in c = c .before .before
 
-to-read-requires : tie.Need-to-read-requires Inv-loop μ-loop
-to-read-requires c κs = search needs
+tally-of-requires : tie.Need-tally-of-requires Inv-loop μ-loop
+tally-of-requires c κs = search needs
 
 loop-holds : tie.Need-loop-holds Inv-loop μ-loop
 loop-holds c = (refl, refl, refl, refl, refl, refl, refl, refl, refl, refl)
 
 read-record-requires : tie.Need-read-record-requires Inv-loop μ-loop
 read-record-requires c κs = search needs
+
+tally-of-requires-2 : tie.Need-tally-of-requires-2 Inv-loop μ-loop
+tally-of-requires-2 c κs = search needs
 
 sub-unit : tie.Need-sub-unit Inv-loop μ-loop
 sub-unit c = search needs
@@ -43,7 +46,10 @@ part-unit-end : tie.Need-part-unit-end Inv-loop μ-loop
 part-unit-end c = search needs
 
 slice-aggregate-unit : tie.Need-slice-aggregate-unit Inv-loop μ-loop
-slice-aggregate-unit c = search needs
+slice-aggregate-unit c = c .before .before .before .before .before .before .before .before .before .loop .inv .8
+
+slice-aggregate-unit-2 : tie.Need-slice-aggregate-unit-2 Inv-loop μ-loop
+slice-aggregate-unit-2 c = c .before .before .before .before .before .before .before .before .before .before .loop .inv .9
 
 unit-requires : tie.Need-unit-requires Inv-loop μ-loop
 unit-requires c κs = search needs
@@ -52,21 +58,21 @@ after-requires : tie.Need-after-requires Inv-loop μ-loop
 after-requires c κs = search needs
 
 sub-to-read : tie.Need-sub-to-read Inv-loop μ-loop
-sub-to-read c = omega (arith, turn-in (reading-in (unit-in (c .before))) .loop-test .taken)
+sub-to-read c = omega (arith, turn-in (reading-in (unit-in c)) .loop-test .taken)
 
-to-read-requires-2 : tie.Need-to-read-requires-2 Inv-loop μ-loop
-to-read-requires-2 c κs = search needs
+to-read-requires : tie.Need-to-read-requires Inv-loop μ-loop
+to-read-requires c κs = search needs
 
 loop-less : tie.Need-loop-less Inv-loop μ-loop
-loop-less c = omega (arith, turn-in (reading-in (unit-in (c .before .before))) .loop-test .taken)
+loop-less c = omega (arith, turn-in (reading-in (unit-in (c .before))) .loop-test .taken)
 
 loop-again : tie.Need-loop-again Inv-loop μ-loop
 loop-again c =
-    let a = unit-in (c .before .before) in
+    let a = unit-in (c .before) in
     let b = reading-in a in
     let i = turn-in b .before .loop .inv in
     let k = a .unit .kept in
-    (b .read-record .kept .0 ∙ i .0, k .1 .1 .1 .1 .1 .0 ∙ i .1, k .1 .1 .1 .1 .1 .1 .0 ∙ i .2, k .1 .1 .1 .1 .1 .1 .1 .0 ∙ i .3, k .1 .1 .1 .1 .1 .1 .1 .1 .0 ∙ i .4, k .1 .1 .1 .1 .1 .1 .1 .1 .1 .0 ∙ i .5, k .1 .1 .1 .1 .1 .1 .1 .1 .1 .1 .0 ∙ i .6, k .1 .1 .1 .1 .1 .1 .1 .1 .1 .1 .1 .0 ∙ i .7, k .1 .1 .1 .0 ∙ i .8, i .9 ∙ sym (k .1 .1 .0))
+    (b .read-record .kept .0 ∙ i .0, k .1 .1 .1 .1 .1 .0 ∙ i .1, k .1 .1 .1 .1 .1 .1 .0 ∙ i .2, k .1 .1 .1 .1 .1 .1 .1 .0 ∙ i .3, k .1 .1 .1 .1 .1 .1 .1 .1 .0 ∙ i .4, k .1 .1 .1 .1 .1 .1 .1 .1 .1 .0 ∙ i .5, k .1 .1 .1 .1 .1 .1 .1 .1 .1 .1 .0 ∙ i .6, k .1 .1 .1 .1 .1 .1 .1 .1 .1 .1 .1 .0 ∙ i .7, i .8 ∙ sym (k .1 .1 .0), i .9 ∙ sym (k .1 .1 .1 .0))
 
 same-length : tie.Need-same-length Inv-loop μ-loop
 same-length c = c .before .loop .inv .0
@@ -92,9 +98,6 @@ same-length-7 c = c .before .loop .inv .6
 same-length-8 : tie.Need-same-length-8 Inv-loop μ-loop
 same-length-8 c = c .before .loop .inv .7
 
-same-length-9 : tie.Need-same-length-9 Inv-loop μ-loop
-same-length-9 c = c .before .loop .inv .8
-
 returns : tie.Need-returns Inv-loop μ-loop
 returns c = search needs
 
@@ -104,17 +107,19 @@ take-units-spec =
     (tie.spec
     Inv-loop
     μ-loop
-    to-read-requires
+    tally-of-requires
     loop-holds
     read-record-requires
+    tally-of-requires-2
     sub-unit
     part-unit-start
     part-unit-end
     slice-aggregate-unit
+    slice-aggregate-unit-2
     unit-requires
     after-requires
     sub-to-read
-    to-read-requires-2
+    to-read-requires
     loop-less
     loop-again
     same-length
@@ -125,5 +130,4 @@ take-units-spec =
     same-length-6
     same-length-7
     same-length-8
-    same-length-9
     returns)
