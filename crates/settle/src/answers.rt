@@ -2,9 +2,11 @@
 // answers whether the listing goes on. It stops where a line cannot be written; a refusal would stop it too, but what the calls leave of a
 // book is never refused.
 ghost use Prim.Native.Nat.{_<_, _≤_};
+ghost use lib.ListN.{length};
 use super::output;
 use super::records::Next;
 use super::records::tally_of;
+use super::records::within_room;
 use answer::Answer;
 use answer::Answered;
 use interval::Tally;
@@ -197,9 +199,14 @@ fn to_print(written: bool, requirements: u16) -> u16
 }
 
 // The first line, or what is told in its place; and how many requirements are to be printed after it.
-fn print_first(end: Next) -> u16 {
-    match end {
-        Next::Taken(tally) => to_print(output::interval(tally.interval), tally.requirements),
+fn print_first(taken: Next) -> u16
+    ensures { λ r. ⌜ r ≤ 32 ⌝ }
+{
+    match taken {
+        Next::Taken(tally) => to_print(
+            output::interval(tally.interval),
+            within_room(tally.requirements),
+        ),
         Next::Refused(refusal) => to_print(output::refused(refusal), 0),
         Next::Failed => {
             output::reading_failed();
@@ -208,20 +215,8 @@ fn print_first(end: Next) -> u16 {
     }
 }
 
-// The requirement's record that starts here, or nothing where there is none.
-fn record_at(bytes: &[u8], start: usize) -> &[u8] {
-    if bytes.len() < REQUIREMENT {
-        return &bytes[0..0];
-    }
-    if bytes.len() - REQUIREMENT < start {
-        return &bytes[0..0];
-    }
-    let end = start + REQUIREMENT;
-    &bytes[start..end]
-}
-
 pub(crate) fn print_book(
-    end: Next,
+    taken: Next,
     bytes: &[u8],
     measures: &[i64],
     positive: &[i64],
@@ -232,17 +227,20 @@ pub(crate) fn print_book(
     raise: &[i64],
     lower: &[i64],
     defaults: &[i64],
-) {
+)
+    requires { ⌜ 769 ≤ length (now bytes) ⌝ }
+{
     let mut performances = [0i64; MEMBERS];
     let mut factors = [0i64; MEMBERS];
     let mut payments = [0i64; MEMBERS];
     let mut used = [0i64; MEMBERS];
     let mut unused = [0i64; MEMBERS];
-    let tally = tally_of(end);
-    let mut left = print_first(end);
+    let tally = tally_of(taken);
+    let mut left = print_first(taken);
     let mut start: usize = 0;
     while left > 0 {
-        let part = record_at(bytes, start);
+        let end = start + REQUIREMENT;
+        let part = &bytes[start..end];
         let answered = answer::call::answer(
             tally,
             part,
@@ -274,6 +272,6 @@ pub(crate) fn print_book(
             &unused,
         );
         left = to_print(written, left - 1);
-        start += REQUIREMENT;
+        start = end;
     }
 }

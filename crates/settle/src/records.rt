@@ -1,5 +1,5 @@
 // The records of a book from standard input, each handed to its call: whole, or the short part that came before the input ended.
-ghost use Prim.Native.Nat.{_+_, _*_, _≤_};
+ghost use Prim.Native.Nat.{_≤_};
 ghost use lib.ListN.{length};
 use super::input::Filled;
 use super::input::read_record;
@@ -21,6 +21,9 @@ const UNIT: usize = 372;
 
 const REQUIREMENT: usize = 24;
 
+// How many requirements the bytes have room for.
+const ROOM: u16 = 32;
+
 const POINTS: usize = 75;
 
 // The tally so far, or why no more is read.
@@ -32,14 +35,16 @@ pub(crate) enum Next {
 
 // What a call did with a record. A reading that failed brought no byte, so that its call refused and left all as it was.
 fn after(got: Filled, step: Step) -> Next {
-    if got.failed {
-        return Next::Failed;
-    }
     let tally = step.tally;
     let taking = step.taking;
     match taking {
         Taking::Taken => Next::Taken(tally),
-        Taking::Refused(refusal) => Next::Refused(refusal),
+        Taking::Refused(refusal) => {
+            if got.failed {
+                return Next::Failed;
+            }
+            Next::Refused(refusal)
+        }
     }
 }
 
@@ -136,7 +141,7 @@ pub(crate) fn take_head(
 }
 
 pub(crate) fn take_units(
-    head: Next,
+    mut next: Next,
     bytes: &mut [u8],
     measures: &[i64],
     positive: &mut [i64],
@@ -151,13 +156,13 @@ pub(crate) fn take_units(
 {
     let mut readings = [0i32; POINTS];
     let mut deviations = [0i64; POINTS];
-    let mut next = head;
-    let mut left = tally_of(next).units;
+    let mut tally = tally_of(next);
+    let mut left = tally.units;
     while left > 0 {
         let got = read_record(bytes, 0, UNIT);
         let count = got.count;
         let step = units::unit::unit(
-            tally_of(next),
+            tally,
             &bytes[0..count],
             &mut readings,
             &mut deviations,
@@ -170,6 +175,7 @@ pub(crate) fn take_units(
             lower,
             defaults,
         );
+        tally = step.tally;
         next = after(got, step);
         left = to_read(next, left - 1);
     }
@@ -186,19 +192,28 @@ fn asked(left: u16) -> usize
     REQUIREMENT
 }
 
-// The requirements are kept, one after the other. There is room for as many as a book may announce.
-pub(crate) fn take_requirements(roster: Next, bytes: &mut [u8]) -> Next {
-    let mut next = roster;
-    let mut left = tally_of(next).requirements;
+// A book announces no more requirements than there is room for.
+pub(crate) fn within_room(requirements: u16) -> u16
+    ensures { λ r. ⌜ r ≤ 32 ⌝ }
+{
+    if ROOM < requirements {
+        return ROOM;
+    }
+    requirements
+}
+
+// The requirements are kept, one after the other.
+pub(crate) fn take_requirements(mut next: Next, bytes: &mut [u8]) -> Next
+    requires { ⌜ 769 ≤ length (now bytes) ⌝ }
+{
+    let mut tally = tally_of(next);
+    let mut left = within_room(tally.requirements);
     let mut start: usize = 0;
     while left > 0 {
-        let size = asked(left);
-        if bytes.len() - start < size {
-            return Next::Refused(Refusal::TooShort);
-        }
-        let got = read_record(bytes, start, start + size);
+        let got = read_record(bytes, start, start + asked(left));
         let until = start + got.count;
-        let step = interval::requirement::requirement(tally_of(next), &bytes[start..until]);
+        let step = interval::requirement::requirement(tally, &bytes[start..until]);
+        tally = step.tally;
         next = after(got, step);
         start += REQUIREMENT;
         left = to_read(next, left - 1);

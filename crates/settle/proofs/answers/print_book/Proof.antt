@@ -1,4 +1,4 @@
--- Each turn is a requirement further, and the columns keep their lengths; the requirements left fall.
+-- The records of the requirements left, which fall, are within the bytes, and the columns keep their lengths.
 use mathlib.Core.Path.{_≡_, refl, sym, _∙_}
 use Prim.Native.Nat.{_+_, _*_, _≤_}
 use native.Mathlib.Omega.{arith}
@@ -9,7 +9,7 @@ use Rattle.settle.proofs.answers.print_book.Tie as tie
 
 abbrev Inv-loop : tie.InvT-loop
 Inv-loop bytes measures positive negative figures numbers places raise lower defaults performances₀ factors₀ payments₀ used₀ unused₀ tally left₀ start₀ performances factors payments used unused left start =
-    (start + 24 * left ≤ 1572840) × (513 ≡ length performances) × (513 ≡ length factors) × (513 ≡ length payments) × (513 ≡ length used) × (513 ≡ length unused)
+    (start + 24 * left ≤ 768) × (513 ≡ length performances) × (513 ≡ length factors) × (513 ≡ length payments) × (513 ≡ length used) × (513 ≡ length unused)
 
 abbrev μ-loop : tie.MeasureT-loop
 μ-loop bytes measures positive negative figures numbers places raise lower defaults performances₀ factors₀ payments₀ used₀ unused₀ tally left₀ start₀ performances factors payments used unused left start =
@@ -24,8 +24,17 @@ print-first-requires c κs = search needs
 loop-holds : tie.Need-loop-holds Inv-loop μ-loop
 loop-holds c = (omega arith, refl, refl, refl, refl, refl)
 
-record-at-requires : tie.Need-record-at-requires Inv-loop μ-loop
-record-at-requires c κs = search needs
+add-end : tie.Need-add-end Inv-loop μ-loop
+add-end c = omega arith
+
+sub-part : tie.Need-sub-part Inv-loop μ-loop
+sub-part c = omega arith
+
+part-part-start : tie.Need-part-part-start Inv-loop μ-loop
+part-part-start c = omega arith
+
+part-part-end : tie.Need-part-part-end Inv-loop μ-loop
+part-part-end c = omega arith
 
 slice-aggregate-answer : tie.Need-slice-aggregate-answer Inv-loop μ-loop
 slice-aggregate-answer c = c .before .before .before .loop .inv .1
@@ -54,9 +63,6 @@ sub-to-print c = omega arith
 to-print-requires : tie.Need-to-print-requires Inv-loop μ-loop
 to-print-requires c κs = search needs
 
-add-start : tie.Need-add-start Inv-loop μ-loop
-add-start c = omega arith
-
 loop-less : tie.Need-loop-less Inv-loop μ-loop
 loop-less c = omega arith
 
@@ -79,7 +85,10 @@ print-book-spec =
     tally-of-requires
     print-first-requires
     loop-holds
-    record-at-requires
+    add-end
+    sub-part
+    part-part-start
+    part-part-end
     slice-aggregate-answer
     slice-aggregate-answer-2
     slice-aggregate-answer-3
@@ -89,7 +98,6 @@ print-book-spec =
     print-members-requires
     sub-to-print
     to-print-requires
-    add-start
     loop-less
     loop-again
     returns)

@@ -1,4 +1,4 @@
--- A requirement's place ends within the bytes, which keep their length; the requirements left fall.
+-- There is room for the requirements left, which fall, and the bytes keep their length.
 use mathlib.Core.Path.{_≡_, refl, _∙_}
 use Prim.Native.Nat.{_+_, _*_, _≤_}
 use native.Mathlib.Omega.{arith}
@@ -8,30 +8,24 @@ use Rattle.settle.proofs.records.take_requirements.Statement.{statement
 use Rattle.settle.proofs.records.take_requirements.Tie as tie
 
 abbrev Inv-loop : tie.InvT-loop
-Inv-loop bytes₀ next₀ left₀ start₀ bytes next left start =
-    (start ≤ length bytes) × (start + 24 * left ≤ 1572840) × (length bytes ≡ length bytes₀)
+Inv-loop next₀ bytes₀ tally₀ left₀ start₀ next bytes tally left start =
+    (start + 24 * left ≤ 768) × (length bytes ≡ length bytes₀)
 
 abbrev μ-loop : tie.MeasureT-loop
-μ-loop bytes₀ next₀ left₀ start₀ bytes next left start =
+μ-loop next₀ bytes₀ tally₀ left₀ start₀ next bytes tally left start =
     left
 
 tally-of-requires : tie.Need-tally-of-requires Inv-loop μ-loop
 tally-of-requires c κs = search needs
 
+within-room-requires : tie.Need-within-room-requires Inv-loop μ-loop
+within-room-requires c κs = search needs
+
 loop-holds : tie.Need-loop-holds Inv-loop μ-loop
-loop-holds c = (omega arith, omega arith, refl)
+loop-holds c = (omega arith, refl)
 
 asked-requires : tie.Need-asked-requires Inv-loop μ-loop
 asked-requires c κs = search needs
-
-sub-if1 : tie.Need-sub-if1 Inv-loop μ-loop
-sub-if1 c = omega arith
-
-same-length : tie.Need-same-length Inv-loop μ-loop
-same-length c = omega arith
-
-returns : tie.Need-returns Inv-loop μ-loop
-returns c = search needs
 
 add-read-record : tie.Need-add-read-record Inv-loop μ-loop
 add-read-record c = omega arith
@@ -41,9 +35,6 @@ read-record-requires c κs = omega arith
 
 add-until : tie.Need-add-until Inv-loop μ-loop
 add-until c = omega arith
-
-tally-of-requires-2 : tie.Need-tally-of-requires-2 Inv-loop μ-loop
-tally-of-requires-2 c κs = search needs
 
 sub-requirement : tie.Need-sub-requirement Inv-loop μ-loop
 sub-requirement c = omega arith
@@ -61,7 +52,7 @@ after-requires : tie.Need-after-requires Inv-loop μ-loop
 after-requires c κs = search needs
 
 add-start : tie.Need-add-start Inv-loop μ-loop
-add-start c = let i = c .before .before .before .before .before .before .before .before .before .before .before .before .before .loop .inv in omega (arith, i .1)
+add-start c = let i = c .before .before .before .before .before .before .before .before .before .before .before .before .loop .inv in omega (arith, i .0)
 
 sub-to-read : tie.Need-sub-to-read Inv-loop μ-loop
 sub-to-read c = omega arith
@@ -75,15 +66,15 @@ loop-less c = omega arith
 loop-again : tie.Need-loop-again Inv-loop μ-loop
 loop-again c =
     let r = c .before .before .before .before .before .before .before .before .before in
-    let e = r .before .before in
-    let i = e .before .before .before .loop .inv in
-    (omega (arith, e .if1 .left, e .before .asked .ensures, i .0, r .read-record .kept .0), omega (arith, i .1, e .before .before .loop-test .taken), r .read-record .kept .0 ∙ i .2)
+    let t = r .before .before .before in
+    let i = t .before .loop .inv in
+    (omega (arith, i .0, t .loop-test .taken), r .read-record .kept .0 ∙ i .1)
 
-same-length-2 : tie.Need-same-length-2 Inv-loop μ-loop
-same-length-2 c = c .before .loop .inv .2
+same-length : tie.Need-same-length Inv-loop μ-loop
+same-length c = c .before .loop .inv .1
 
-returns-2 : tie.Need-returns-2 Inv-loop μ-loop
-returns-2 c = search needs
+returns : tie.Need-returns Inv-loop μ-loop
+returns c = search needs
 
 pub take-requirements-spec : {M : Type 1} → statement M
 take-requirements-spec =
@@ -92,15 +83,12 @@ take-requirements-spec =
     Inv-loop
     μ-loop
     tally-of-requires
+    within-room-requires
     loop-holds
     asked-requires
-    sub-if1
-    same-length
-    returns
     add-read-record
     read-record-requires
     add-until
-    tally-of-requires-2
     sub-requirement
     part-requirement-start
     part-requirement-end
@@ -111,5 +99,5 @@ take-requirements-spec =
     to-read-requires
     loop-less
     loop-again
-    same-length-2
-    returns-2)
+    same-length
+    returns)

@@ -7,19 +7,19 @@ use Rattle.settle.proofs.records.take_units.Statement.{statement}
 use Rattle.settle.proofs.records.take_units.Tie as tie
 
 abbrev Inv-loop : tie.InvT-loop
-Inv-loop bytes₀ measures positive₀ negative₀ numbers₀ places₀ raise₀ lower₀ defaults₀ readings₀ deviations₀ next₀ left₀ bytes positive negative numbers places raise lower defaults readings deviations next left =
+Inv-loop next₀ bytes₀ measures positive₀ negative₀ numbers₀ places₀ raise₀ lower₀ defaults₀ readings₀ deviations₀ tally₀ left₀ next bytes positive negative numbers places raise lower defaults readings deviations tally left =
     (length bytes ≡ length bytes₀) × (length positive ≡ length positive₀) × (length negative ≡ length negative₀) × (length numbers ≡ length numbers₀) × (length places ≡ length places₀) × (length raise ≡ length raise₀) × (length lower ≡ length lower₀) × (length defaults ≡ length defaults₀) × (75 ≡ length readings) × (75 ≡ length deviations)
 
 abbrev μ-loop : tie.MeasureT-loop
-μ-loop bytes₀ measures positive₀ negative₀ numbers₀ places₀ raise₀ lower₀ defaults₀ readings₀ deviations₀ next₀ left₀ bytes positive negative numbers places raise lower defaults readings deviations next left =
+μ-loop next₀ bytes₀ measures positive₀ negative₀ numbers₀ places₀ raise₀ lower₀ defaults₀ readings₀ deviations₀ tally₀ left₀ next bytes positive negative numbers places raise lower defaults readings deviations tally left =
     left
 
 -- the places of a turn, from its end: the call, the reading, the start
 abbrev unit-in : tie.After-after Inv-loop μ-loop → tie.After-unit Inv-loop μ-loop
-unit-in c = c .before .before .before .before .before .before .before .before .before .before .before .before
+unit-in c = c .before .before .before .before .before .before .before .before .before .before .before .before .before
 
 abbrev reading-in : tie.After-unit Inv-loop μ-loop → tie.After-read-record Inv-loop μ-loop
-reading-in c = c .before .before .before .before .before .before .before .before .before .before .before .before .before .before .before
+reading-in c = c .before .before .before .before .before .before .before .before .before .before .before .before .before .before
 
 abbrev turn-in : tie.After-read-record Inv-loop μ-loop → tie.In-loop Inv-loop μ-loop
 turn-in c = c .before .before
@@ -33,9 +33,6 @@ loop-holds c = (refl, refl, refl, refl, refl, refl, refl, refl, refl, refl)
 read-record-requires : tie.Need-read-record-requires Inv-loop μ-loop
 read-record-requires c κs = search needs
 
-tally-of-requires-2 : tie.Need-tally-of-requires-2 Inv-loop μ-loop
-tally-of-requires-2 c κs = search needs
-
 sub-unit : tie.Need-sub-unit Inv-loop μ-loop
 sub-unit c = search needs
 
@@ -46,10 +43,10 @@ part-unit-end : tie.Need-part-unit-end Inv-loop μ-loop
 part-unit-end c = search needs
 
 slice-aggregate-unit : tie.Need-slice-aggregate-unit Inv-loop μ-loop
-slice-aggregate-unit c = c .before .before .before .before .before .before .before .before .before .loop .inv .8
+slice-aggregate-unit c = c .before .before .before .before .before .before .before .before .loop .inv .8
 
 slice-aggregate-unit-2 : tie.Need-slice-aggregate-unit-2 Inv-loop μ-loop
-slice-aggregate-unit-2 c = c .before .before .before .before .before .before .before .before .before .before .loop .inv .9
+slice-aggregate-unit-2 c = c .before .before .before .before .before .before .before .before .before .loop .inv .9
 
 unit-requires : tie.Need-unit-requires Inv-loop μ-loop
 unit-requires c κs = search needs
@@ -110,7 +107,6 @@ take-units-spec =
     tally-of-requires
     loop-holds
     read-record-requires
-    tally-of-requires-2
     sub-unit
     part-unit-start
     part-unit-end
