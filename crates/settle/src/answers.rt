@@ -146,7 +146,7 @@ fn figures_of(given: Answer) -> Figures {
 fn print_members(
     answered: Answered,
     units: u16,
-    part: &[u8],
+    set: u8,
     figures: &[i64],
     numbers: &[u16],
     places: &[u8],
@@ -166,7 +166,7 @@ fn print_members(
     let rows = print_rows(
         units,
         direction,
-        little::u8_at(part, SET),
+        set,
         figures,
         numbers,
         places,
@@ -258,10 +258,11 @@ pub(crate) fn print_book(
             &mut used,
             &mut unused,
         );
+        let set = little::u8_at(part, SET);
         let written = print_members(
             answered,
             tally.units,
-            part,
+            set,
             figures,
             numbers,
             places,

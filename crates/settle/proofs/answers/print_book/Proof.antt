@@ -54,6 +54,9 @@ slice-aggregate-answer-5 c = c .before .before .before .before .before .before .
 answer-requires : tie.Need-answer-requires Inv-loop μ-loop
 answer-requires c κs = search needs
 
+u8-at-requires : tie.Need-u8-at-requires Inv-loop μ-loop
+u8-at-requires c κs = search needs
+
 print-members-requires : tie.Need-print-members-requires Inv-loop μ-loop
 print-members-requires c κs = search needs
 
@@ -68,7 +71,7 @@ loop-less c = omega arith
 
 loop-again : tie.Need-loop-again Inv-loop μ-loop
 loop-again c =
-    let a = c .before .before .before .before .before .before .before .before .before .before .before .before in
+    let a = c .before .before .before .before .before .before .before .before .before .before .before .before .before in
     let i = a .before .before .before .before .before .before .before .before .loop .inv in
     let k = a .answer .kept in
     (omega arith, i .1 ∙ sym (k .1 .1 .1 .1 .1 .1 .1 .1 .1 .1 .0), i .2 ∙ sym (k .1 .1 .1 .1 .1 .1 .1 .1 .1 .1 .1 .0), i .3 ∙ sym (k .1 .1 .1 .1 .1 .1 .1 .1 .1 .1 .1 .1 .0), i .4 ∙ sym (k .1 .1 .1 .1 .1 .1 .1 .1 .1 .1 .1 .1 .1 .0), i .5 ∙ sym (k .1 .1 .1 .1 .1 .1 .1 .1 .1 .1 .1 .1 .1 .1 .0))
@@ -95,6 +98,7 @@ print-book-spec =
     slice-aggregate-answer-4
     slice-aggregate-answer-5
     answer-requires
+    u8-at-requires
     print-members-requires
     sub-to-print
     to-print-requires
