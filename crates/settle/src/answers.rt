@@ -9,7 +9,6 @@ use super::records::tally_of;
 use super::records::within_room;
 use answer::Answer;
 use answer::Answered;
-use interval::Tally;
 use listing::Amounts;
 use listing::Figures;
 use listing::Pool;
