@@ -3,11 +3,12 @@
 // book is never refused.
 ghost use Prim.Native.Nat.{_<_, _≤_};
 ghost use lib.ListN.{length};
-ghost use Rattle.settle.specs.Columns.{Columns};
 use super::output;
+use super::records::Next;
+use super::records::tally_of;
+use super::records::within_room;
 use answer::Answer;
 use answer::Answered;
-use interval::Tally;
 use listing::Amounts;
 use listing::Figures;
 use listing::Pool;
@@ -19,6 +20,7 @@ const REQUIREMENT: usize = 24;
 // Where a requirement's record holds its region set.
 const SET: usize = 2;
 
+// One more than the units, for the residual.
 const MEMBERS: usize = 513;
 
 // Where the next member's amounts stand in the columns.
@@ -29,13 +31,13 @@ enum Printed {
 
 fn amounts(
     place: usize,
-    performances: &[i64],
-    factors: &[i64],
-    payments: &[i64],
-    used: &[i64],
-    unused: &[i64],
+    performances: &[i64; MEMBERS],
+    factors: &[i64; MEMBERS],
+    payments: &[i64; MEMBERS],
+    used: &[i64; MEMBERS],
+    unused: &[i64; MEMBERS],
 ) -> Amounts
-    requires { ⌜ (place < 513) × Columns (now performances) (now factors) (now payments) (now used) (now unused) ⌝ }
+    requires { ⌜ place < 513 ⌝ }
 {
     Amounts {
         performance: performances[place],
@@ -56,14 +58,12 @@ fn print_row(
     figures: &[i64],
     numbers: &[u16],
     places: &[u8],
-    performances: &[i64],
-    factors: &[i64],
-    payments: &[i64],
-    used: &[i64],
-    unused: &[i64],
-) -> Printed
-    requires { ⌜ Columns (now performances) (now factors) (now payments) (now used) (now unused) ⌝ }
-{
+    performances: &[i64; MEMBERS],
+    factors: &[i64; MEMBERS],
+    payments: &[i64; MEMBERS],
+    used: &[i64; MEMBERS],
+    unused: &[i64; MEMBERS],
+) -> Printed {
     if MEMBERS <= place {
         return Printed::Stopped;
     }
@@ -88,14 +88,12 @@ fn print_rows(
     figures: &[i64],
     numbers: &[u16],
     places: &[u8],
-    performances: &[i64],
-    factors: &[i64],
-    payments: &[i64],
-    used: &[i64],
-    unused: &[i64],
-) -> Printed
-    requires { ⌜ Columns (now performances) (now factors) (now payments) (now used) (now unused) ⌝ }
-{
+    performances: &[i64; MEMBERS],
+    factors: &[i64; MEMBERS],
+    payments: &[i64; MEMBERS],
+    used: &[i64; MEMBERS],
+    unused: &[i64; MEMBERS],
+) -> Printed {
     let mut place: usize = 0;
     let mut row: u16 = 0;
     while row < units {
@@ -145,20 +143,21 @@ fn figures_of(given: Answer) -> Figures {
 
 // A requirement's line, its units' lines and its residual's.
 fn print_members(
-    given: Answer,
+    answered: Answered,
     units: u16,
     set: u8,
     figures: &[i64],
     numbers: &[u16],
     places: &[u8],
-    performances: &[i64],
-    factors: &[i64],
-    payments: &[i64],
-    used: &[i64],
-    unused: &[i64],
-) -> bool
-    requires { ⌜ Columns (now performances) (now factors) (now payments) (now used) (now unused) ⌝ }
-{
+    performances: &[i64; MEMBERS],
+    factors: &[i64; MEMBERS],
+    payments: &[i64; MEMBERS],
+    used: &[i64; MEMBERS],
+    unused: &[i64; MEMBERS],
+) -> bool {
+    let Answered::Given(given) = answered else {
+        return false;
+    };
     if !output::requirement(figures_of(given)) {
         return false;
     }
@@ -187,64 +186,36 @@ fn print_members(
     output::residual(standing, shares)
 }
 
-fn print_answer(
-    tally: Tally,
-    part: &[u8],
-    measures: &[i64],
-    positive: &[i64],
-    negative: &[i64],
-    figures: &[i64],
-    numbers: &[u16],
-    places: &[u8],
-    raise: &[i64],
-    lower: &[i64],
-    defaults: &[i64],
-    performances: &mut [i64],
-    factors: &mut [i64],
-    payments: &mut [i64],
-    used: &mut [i64],
-    unused: &mut [i64],
-) -> bool
-    requires { ⌜ Columns (now performances) (now factors) (now payments) (now used) (now unused) ⌝ }
+// How many of the requirements to come are to be printed: none where a line was not written, which is told.
+fn to_print(written: bool, requirements: u16) -> u16
+    ensures { λ r. ⌜ r ≤ requirements ⌝ }
 {
-    let answered = answer::call::answer(
-        tally,
-        part,
-        measures,
-        positive,
-        negative,
-        figures,
-        places,
-        raise,
-        lower,
-        defaults,
-        performances,
-        factors,
-        payments,
-        used,
-        unused,
-    );
-    let Answered::Given(given) = answered else {
-        return false;
-    };
-    let set = little::u8_at(part, SET);
-    print_members(
-        given,
-        tally.units,
-        set,
-        figures,
-        numbers,
-        places,
-        performances,
-        factors,
-        payments,
-        used,
-        unused,
-    )
+    if written {
+        return requirements;
+    }
+    output::writing_failed();
+    0
+}
+
+// The first line, or what is told in its place; and how many requirements are to be printed after it.
+fn print_first(taken: Next) -> u16
+    ensures { λ r. ⌜ r ≤ 32 ⌝ }
+{
+    match taken {
+        Next::Taken(tally) => to_print(
+            output::interval(tally.interval),
+            within_room(tally.requirements),
+        ),
+        Next::Refused(refusal) => to_print(output::refused(refusal), 0),
+        Next::Failed => {
+            output::reading_failed();
+            0
+        }
+    }
 }
 
 pub(crate) fn print_book(
-    tally: Tally,
+    taken: Next,
     bytes: &[u8],
     measures: &[i64],
     positive: &[i64],
@@ -255,46 +226,52 @@ pub(crate) fn print_book(
     raise: &[i64],
     lower: &[i64],
     defaults: &[i64],
-    performances: &mut [i64],
-    factors: &mut [i64],
-    payments: &mut [i64],
-    used: &mut [i64],
-    unused: &mut [i64],
-) -> bool
-    requires { ⌜ Columns (now performances) (now factors) (now payments) (now used) (now unused) ⌝ }
+)
+    requires { ⌜ 769 ≤ length (now bytes) ⌝ }
 {
-    if !output::interval(tally.interval) {
-        return false;
-    }
-    let mut left = tally.requirements;
+    let mut performances = [0i64; MEMBERS];
+    let mut factors = [0i64; MEMBERS];
+    let mut payments = [0i64; MEMBERS];
+    let mut used = [0i64; MEMBERS];
+    let mut unused = [0i64; MEMBERS];
+    let tally = tally_of(taken);
+    let mut left = print_first(taken);
     let mut start: usize = 0;
     while left > 0 {
-        if bytes.len() - start < REQUIREMENT {
-            return false;
-        }
         let end = start + REQUIREMENT;
-        if !print_answer(
+        let part = &bytes[start..end];
+        let answered = answer::call::answer(
             tally,
-            &bytes[start..end],
+            part,
             measures,
             positive,
             negative,
             figures,
-            numbers,
             places,
             raise,
             lower,
             defaults,
-            performances,
-            factors,
-            payments,
-            used,
-            unused,
-        ) {
-            return false;
-        }
+            &mut performances,
+            &mut factors,
+            &mut payments,
+            &mut used,
+            &mut unused,
+        );
+        let set = little::u8_at(part, SET);
+        let written = print_members(
+            answered,
+            tally.units,
+            set,
+            figures,
+            numbers,
+            places,
+            &performances,
+            &factors,
+            &payments,
+            &used,
+            &unused,
+        );
+        left = to_print(written, left - 1);
         start = end;
-        left -= 1;
     }
-    true
 }

@@ -5,11 +5,9 @@ mod input;
 mod output;
 mod records;
 
-use records::Next;
-
-// The buffers, in bytes: the series 3 * 3,000, the units 512 * 67, five columns of 4,104, the figures 360, the records 769. While the
-// book is read there are 300 more for the frequencies of a region or the readings of a unit; while it is printed a line of 165 twice. So
-// there are never more than 65,283, within 65,536.
+// The buffers, in bytes: the series 3 * 3,000, the units 512 * 67, the figures 360, the records 769. While the book is read there are 900
+// more for the frequencies of a region or the readings and deviations of a unit; while it is printed five columns of 4,104 and a line of
+// 165 twice. So there are never more than 65,283, within 65,536.
 const SERIES: usize = 375;
 
 const FIGURES: usize = 45;
@@ -17,9 +15,6 @@ const FIGURES: usize = 45;
 const UNITS: usize = 512;
 
 const DEFAULTS: usize = 3072;
-
-// One more than the units, for the residual.
-const MEMBERS: usize = 513;
 
 // All requirements of 24 bytes, and the byte that may follow the last. The records before them are read into their place.
 const RECORDS: usize = 769;
@@ -34,53 +29,38 @@ fn main() {
     let mut raise = [0i64; UNITS];
     let mut lower = [0i64; UNITS];
     let mut defaults = [0i64; DEFAULTS];
-    let mut performances = [0i64; MEMBERS];
-    let mut factors = [0i64; MEMBERS];
-    let mut payments = [0i64; MEMBERS];
-    let mut used = [0i64; MEMBERS];
-    let mut unused = [0i64; MEMBERS];
     let mut bytes = [0u8; RECORDS];
-    let end = records::take_book(
+    let mut next = records::take_head(
         &mut bytes,
         &mut measures,
         &mut positive,
         &mut negative,
         &mut figures,
+    );
+    next = records::take_units(
+        next,
+        &mut bytes,
+        &measures,
+        &mut positive,
+        &mut negative,
         &mut numbers,
         &mut places,
         &mut raise,
         &mut lower,
         &mut defaults,
-        &mut performances,
     );
-    match end {
-        Next::Taken(tally) => {
-            if !answers::print_book(
-                tally,
-                &bytes,
-                &measures,
-                &positive,
-                &negative,
-                &figures,
-                &numbers,
-                &places,
-                &raise,
-                &lower,
-                &defaults,
-                &mut performances,
-                &mut factors,
-                &mut payments,
-                &mut used,
-                &mut unused,
-            ) {
-                output::writing_failed();
-            }
-        }
-        Next::Refused(refusal) => {
-            if !output::refused(refusal) {
-                output::writing_failed();
-            }
-        }
-        Next::Failed => output::reading_failed(),
-    }
+    next = records::take_requirements(next, &mut bytes);
+    answers::print_book(
+        next,
+        &bytes,
+        &measures,
+        &positive,
+        &negative,
+        &figures,
+        &numbers,
+        &places,
+        &raise,
+        &lower,
+        &defaults,
+    );
 }

@@ -1,6 +1,7 @@
 // The records of a book from standard input, each handed to its call: whole, or the short part that came before the input ended.
 ghost use Prim.Native.Nat.{_≤_};
 ghost use lib.ListN.{length};
+use super::input::Filled;
 use super::input::read_record;
 use interval::Opened;
 use interval::Step;
@@ -12,7 +13,7 @@ const CONTENTS: usize = 56;
 
 const SETTINGS: usize = 8;
 
-const REGIONS: usize = 5;
+const REGIONS: u16 = 5;
 
 const FREQUENCY: usize = 368;
 
@@ -20,21 +21,63 @@ const UNIT: usize = 372;
 
 const REQUIREMENT: usize = 24;
 
+// How many requirements the bytes have room for.
+const ROOM: u16 = 32;
+
 const POINTS: usize = 75;
 
-// The tally after a record, or why there is none.
+// The tally so far, or why no more is read.
 pub(crate) enum Next {
     Taken(Tally),
     Refused(Refusal),
     Failed,
 }
 
-fn after(step: Step) -> Next {
+// What a call did with a record. A reading that failed brought no byte, so that its call refused and left all as it was.
+fn after(got: Filled, step: Step) -> Next {
     let tally = step.tally;
     let taking = step.taking;
     match taking {
         Taking::Taken => Next::Taken(tally),
-        Taking::Refused(refusal) => Next::Refused(refusal),
+        Taking::Refused(refusal) => {
+            if got.failed {
+                return Next::Failed;
+            }
+            Next::Refused(refusal)
+        }
+    }
+}
+
+// The tally so far; where the book stopped, one to which nothing is to come.
+pub(crate) fn tally_of(next: Next) -> Tally {
+    match next {
+        Next::Taken(tally) => tally,
+        Next::Refused(_) => nothing_to_come(),
+        Next::Failed => nothing_to_come(),
+    }
+}
+
+fn nothing_to_come() -> Tally {
+    Tally {
+        units: 0,
+        requirements: 0,
+        records: 0,
+        least: 0,
+        smoothing: 0,
+        limit: 0,
+        percent: 0,
+        interval: 0,
+    }
+}
+
+// How many of the records to come are to be read: none where the book stopped.
+fn to_read(next: Next, records: u16) -> u16
+    ensures { λ r. ⌜ r ≤ records ⌝ }
+{
+    match next {
+        Next::Taken(_) => records,
+        Next::Refused(_) => 0,
+        Next::Failed => 0,
     }
 }
 
@@ -53,46 +96,21 @@ fn take_contents(bytes: &mut [u8]) -> Next
     }
 }
 
-fn take_settings(tally: Tally, bytes: &mut [u8]) -> Next
+// The contents, then the settings.
+fn take_opening(bytes: &mut [u8]) -> Next
     requires { ⌜ 769 ≤ length (now bytes) ⌝ }
 {
+    let opened = take_contents(bytes);
+    let Next::Taken(tally) = opened else {
+        return opened;
+    };
     let got = read_record(bytes, 0, SETTINGS);
-    if got.failed {
-        return Next::Failed;
-    }
     let count = got.count;
-    after(interval::settings::settings(tally, &bytes[0..count]))
+    after(got, interval::settings::settings(tally, &bytes[0..count]))
 }
 
-fn take_frequency(
-    tally: Tally,
-    bytes: &mut [u8],
-    frequencies: &mut [u32],
-    measures: &mut [i64],
-    positive: &mut [i64],
-    negative: &mut [i64],
-    figures: &mut [i64],
-) -> Next
-    requires { ⌜ 769 ≤ length (now bytes) ⌝ }
-{
-    let got = read_record(bytes, 0, FREQUENCY);
-    if got.failed {
-        return Next::Failed;
-    }
-    let count = got.count;
-    after(frequencies::frequency::frequency(
-        tally,
-        &bytes[0..count],
-        frequencies,
-        measures,
-        positive,
-        negative,
-        figures,
-    ))
-}
-
-fn take_frequencies(
-    first: Tally,
+// The records before the units.
+pub(crate) fn take_head(
     bytes: &mut [u8],
     measures: &mut [i64],
     positive: &mut [i64],
@@ -102,67 +120,28 @@ fn take_frequencies(
     requires { ⌜ 769 ≤ length (now bytes) ⌝ }
 {
     let mut frequencies = [0u32; POINTS];
-    let mut tally = first;
-    let mut left = REGIONS;
+    let mut next = take_opening(bytes);
+    let mut left = to_read(next, REGIONS);
     while left > 0 {
-        let next = take_frequency(
-            tally,
-            bytes,
+        let got = read_record(bytes, 0, FREQUENCY);
+        let count = got.count;
+        let step = frequencies::frequency::frequency(
+            tally_of(next),
+            &bytes[0..count],
             &mut frequencies,
             measures,
             positive,
             negative,
             figures,
         );
-        let Next::Taken(further) = next else {
-            return next;
-        };
-        tally = further;
-        left -= 1;
+        next = after(got, step);
+        left = to_read(next, left - 1);
     }
-    Next::Taken(tally)
+    next
 }
 
-// The deviations of a unit are made in a column that is not needed yet.
-fn take_unit(
-    tally: Tally,
-    bytes: &mut [u8],
-    readings: &mut [i32],
-    measures: &[i64],
-    positive: &mut [i64],
-    negative: &mut [i64],
-    numbers: &mut [u16],
-    places: &mut [u8],
-    raise: &mut [i64],
-    lower: &mut [i64],
-    defaults: &mut [i64],
-    deviations: &mut [i64],
-) -> Next
-    requires { ⌜ 769 ≤ length (now bytes) ⌝ }
-{
-    let got = read_record(bytes, 0, UNIT);
-    if got.failed {
-        return Next::Failed;
-    }
-    let count = got.count;
-    after(units::unit::unit(
-        tally,
-        &bytes[0..count],
-        readings,
-        deviations,
-        measures,
-        positive,
-        negative,
-        numbers,
-        places,
-        raise,
-        lower,
-        defaults,
-    ))
-}
-
-fn take_units(
-    first: Tally,
+pub(crate) fn take_units(
+    mut next: Next,
     bytes: &mut [u8],
     measures: &[i64],
     positive: &mut [i64],
@@ -172,18 +151,21 @@ fn take_units(
     raise: &mut [i64],
     lower: &mut [i64],
     defaults: &mut [i64],
-    deviations: &mut [i64],
 ) -> Next
     requires { ⌜ 769 ≤ length (now bytes) ⌝ }
 {
     let mut readings = [0i32; POINTS];
-    let mut tally = first;
-    let mut left = first.units;
+    let mut deviations = [0i64; POINTS];
+    let mut tally = tally_of(next);
+    let mut left = tally.units;
     while left > 0 {
-        let next = take_unit(
+        let got = read_record(bytes, 0, UNIT);
+        let count = got.count;
+        let step = units::unit::unit(
             tally,
-            bytes,
+            &bytes[0..count],
             &mut readings,
+            &mut deviations,
             measures,
             positive,
             negative,
@@ -192,15 +174,12 @@ fn take_units(
             raise,
             lower,
             defaults,
-            deviations,
         );
-        let Next::Taken(further) = next else {
-            return next;
-        };
-        tally = further;
-        left -= 1;
+        tally = step.tally;
+        next = after(got, step);
+        left = to_read(next, left - 1);
     }
-    Next::Taken(tally)
+    next
 }
 
 // With the last requirement a byte more is asked for, so that its call sees whether bytes follow the book.
@@ -213,94 +192,31 @@ fn asked(left: u16) -> usize
     REQUIREMENT
 }
 
-fn take_requirement(tally: Tally, start: usize, end: usize, bytes: &mut [u8]) -> Next
-    requires { ⌜ (start ≤ end) × (end ≤ length (now bytes)) ⌝ }
+// A book announces no more requirements than there is room for.
+pub(crate) fn within_room(requirements: u16) -> u16
+    ensures { λ r. ⌜ r ≤ 32 ⌝ }
 {
-    let got = read_record(bytes, start, end);
-    if got.failed {
-        return Next::Failed;
+    if ROOM < requirements {
+        return ROOM;
     }
-    let until = start + got.count;
-    after(interval::requirement::requirement(tally, &bytes[start..until]))
+    requirements
 }
 
-// The requirements are kept, one after the other. There is room for as many as a book may announce.
-fn take_requirements(first: Tally, bytes: &mut [u8]) -> Next {
-    let mut tally = first;
-    let mut left = first.requirements;
+// The requirements are kept, one after the other.
+pub(crate) fn take_requirements(mut next: Next, bytes: &mut [u8]) -> Next
+    requires { ⌜ 769 ≤ length (now bytes) ⌝ }
+{
+    let mut tally = tally_of(next);
+    let mut left = within_room(tally.requirements);
     let mut start: usize = 0;
     while left > 0 {
-        let size = asked(left);
-        if bytes.len() - start < size {
-            return Next::Refused(Refusal::TooShort);
-        }
-        let next = take_requirement(tally, start, start + size, bytes);
-        let Next::Taken(further) = next else {
-            return next;
-        };
-        tally = further;
+        let got = read_record(bytes, start, start + asked(left));
+        let until = start + got.count;
+        let step = interval::requirement::requirement(tally, &bytes[start..until]);
+        tally = step.tally;
+        next = after(got, step);
         start += REQUIREMENT;
-        left -= 1;
+        left = to_read(next, left - 1);
     }
-    Next::Taken(tally)
-}
-
-// The records before the units.
-fn take_head(
-    bytes: &mut [u8],
-    measures: &mut [i64],
-    positive: &mut [i64],
-    negative: &mut [i64],
-    figures: &mut [i64],
-) -> Next
-    requires { ⌜ 769 ≤ length (now bytes) ⌝ }
-{
-    let opened = take_contents(bytes);
-    let Next::Taken(announced) = opened else {
-        return opened;
-    };
-    let set = take_settings(announced, bytes);
-    let Next::Taken(ready) = set else {
-        return set;
-    };
-    take_frequencies(ready, bytes, measures, positive, negative, figures)
-}
-
-// All records of a book, which ends with its last requirement.
-pub(crate) fn take_book(
-    bytes: &mut [u8],
-    measures: &mut [i64],
-    positive: &mut [i64],
-    negative: &mut [i64],
-    figures: &mut [i64],
-    numbers: &mut [u16],
-    places: &mut [u8],
-    raise: &mut [i64],
-    lower: &mut [i64],
-    defaults: &mut [i64],
-    deviations: &mut [i64],
-) -> Next
-    requires { ⌜ 769 ≤ length (now bytes) ⌝ }
-{
-    let head = take_head(bytes, measures, positive, negative, figures);
-    let Next::Taken(measured) = head else {
-        return head;
-    };
-    let roster = take_units(
-        measured,
-        bytes,
-        measures,
-        positive,
-        negative,
-        numbers,
-        places,
-        raise,
-        lower,
-        defaults,
-        deviations,
-    );
-    let Next::Taken(complete) = roster else {
-        return roster;
-    };
-    take_requirements(complete, bytes)
+    next
 }

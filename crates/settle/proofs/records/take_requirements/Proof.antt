@@ -1,6 +1,6 @@
--- A requirement's place ends within the bytes, which keep their length; the requirements left fall.
-use mathlib.Core.Path.{_≡_, refl}
-use Prim.Native.Nat.{_≤_}
+-- There is room for the requirements left, which fall, and the bytes keep their length.
+use mathlib.Core.Path.{_≡_, refl, _∙_}
+use Prim.Native.Nat.{_+_, _*_, _≤_}
 use native.Mathlib.Omega.{arith}
 use lib.ListN.{length}
 use borrow.Author.Needs.{needs}
@@ -8,10 +8,18 @@ use Rattle.settle.proofs.records.take_requirements.Statement.{statement
 use Rattle.settle.proofs.records.take_requirements.Tie as tie
 
 abbrev Inv-loop : tie.InvT-loop
-Inv-loop bytes₀ tally₀ left₀ start₀ bytes tally left start = (start ≤ length bytes) × (length bytes ≡ length bytes₀)
+Inv-loop next₀ bytes₀ tally₀ left₀ start₀ next bytes tally left start =
+    (start + 24 * left ≤ 768) × (length bytes ≡ length bytes₀)
 
 abbrev μ-loop : tie.MeasureT-loop
-μ-loop bytes₀ tally₀ left₀ start₀ bytes tally left start = left
+μ-loop next₀ bytes₀ tally₀ left₀ start₀ next bytes tally left start =
+    left
+
+tally-of-requires : tie.Need-tally-of-requires Inv-loop μ-loop
+tally-of-requires c κs = search needs
+
+within-room-requires : tie.Need-within-room-requires Inv-loop μ-loop
+within-room-requires c κs = search needs
 
 loop-holds : tie.Need-loop-holds Inv-loop μ-loop
 loop-holds c = (omega arith, refl)
@@ -19,47 +27,54 @@ loop-holds c = (omega arith, refl)
 asked-requires : tie.Need-asked-requires Inv-loop μ-loop
 asked-requires c κs = search needs
 
-sub-if1 : tie.Need-sub-if1 Inv-loop μ-loop
-sub-if1 c = omega arith
+add-read-record : tie.Need-add-read-record Inv-loop μ-loop
+add-read-record c = omega arith
 
-same-length : tie.Need-same-length Inv-loop μ-loop
-same-length c = omega arith
+read-record-requires : tie.Need-read-record-requires Inv-loop μ-loop
+read-record-requires c κs = omega arith
 
-returns : tie.Need-returns Inv-loop μ-loop
-returns c = search needs
+add-until : tie.Need-add-until Inv-loop μ-loop
+add-until c = omega arith
 
-add-take-requirement : tie.Need-add-take-requirement Inv-loop μ-loop
-add-take-requirement c = omega arith
+sub-requirement : tie.Need-sub-requirement Inv-loop μ-loop
+sub-requirement c = omega arith
 
-take-requirement-requires : tie.Need-take-requirement-requires Inv-loop μ-loop
-take-requirement-requires c κs = omega arith
+part-requirement-start : tie.Need-part-requirement-start Inv-loop μ-loop
+part-requirement-start c = omega arith
 
-enum-known-next : tie.Need-enum-known-next Inv-loop μ-loop
-enum-known-next c = search needs
+part-requirement-end : tie.Need-part-requirement-end Inv-loop μ-loop
+part-requirement-end c = omega arith
 
-same-length-2 : tie.Need-same-length-2 Inv-loop μ-loop
-same-length-2 c = omega arith
+requirement-requires : tie.Need-requirement-requires Inv-loop μ-loop
+requirement-requires c κs = search needs
 
-returns-2 : tie.Need-returns-2 Inv-loop μ-loop
-returns-2 c = search needs
+after-requires : tie.Need-after-requires Inv-loop μ-loop
+after-requires c κs = search needs
 
 add-start : tie.Need-add-start Inv-loop μ-loop
-add-start c = omega arith
+add-start c = let i = c .before .before .before .before .before .before .before .before .before .before .before .before .loop .inv in omega (arith, i .0)
 
-sub-left : tie.Need-sub-left Inv-loop μ-loop
-sub-left c = omega arith
+sub-to-read : tie.Need-sub-to-read Inv-loop μ-loop
+sub-to-read c = omega arith
+
+to-read-requires : tie.Need-to-read-requires Inv-loop μ-loop
+to-read-requires c κs = search needs
 
 loop-less : tie.Need-loop-less Inv-loop μ-loop
 loop-less c = omega arith
 
 loop-again : tie.Need-loop-again Inv-loop μ-loop
-loop-again c = omega arith
+loop-again c =
+    let r = c .before .before .before .before .before .before .before .before .before in
+    let t = r .before .before .before in
+    let i = t .before .loop .inv in
+    (omega (arith, i .0, t .loop-test .taken), r .read-record .kept .0 ∙ i .1)
 
-same-length-3 : tie.Need-same-length-3 Inv-loop μ-loop
-same-length-3 c = c .before .loop .inv .1
+same-length : tie.Need-same-length Inv-loop μ-loop
+same-length c = c .before .loop .inv .1
 
-returns-3 : tie.Need-returns-3 Inv-loop μ-loop
-returns-3 c = search needs
+returns : tie.Need-returns Inv-loop μ-loop
+returns c = search needs
 
 pub take-requirements-spec : {M : Type 1} → statement M
 take-requirements-spec =
@@ -67,19 +82,22 @@ take-requirements-spec =
     (tie.spec
     Inv-loop
     μ-loop
+    tally-of-requires
+    within-room-requires
     loop-holds
     asked-requires
-    sub-if1
-    same-length
-    returns
-    add-take-requirement
-    take-requirement-requires
-    enum-known-next
-    same-length-2
-    returns-2
+    add-read-record
+    read-record-requires
+    add-until
+    sub-requirement
+    part-requirement-start
+    part-requirement-end
+    requirement-requires
+    after-requires
     add-start
-    sub-left
+    sub-to-read
+    to-read-requires
     loop-less
     loop-again
-    same-length-3
-    returns-3)
+    same-length
+    returns)

@@ -7,100 +7,96 @@ use Rattle.settle.proofs.records.take_units.Statement.{statement}
 use Rattle.settle.proofs.records.take_units.Tie as tie
 
 abbrev Inv-loop : tie.InvT-loop
-Inv-loop bytes₀ measures positive₀ negative₀ numbers₀ places₀ raise₀ lower₀ defaults₀ deviations₀ readings₀ tally₀ left₀ bytes positive negative numbers places raise lower defaults deviations readings tally left =
-    (length bytes ≡ length bytes₀) × (length positive ≡ length positive₀) × (length negative ≡ length negative₀) × (length numbers ≡ length numbers₀) × (length places ≡ length places₀) × (length raise ≡ length raise₀) × (length lower ≡ length lower₀) × (length defaults ≡ length defaults₀) × (length deviations ≡ length deviations₀) × (75 ≡ length readings)
+Inv-loop next₀ bytes₀ measures positive₀ negative₀ numbers₀ places₀ raise₀ lower₀ defaults₀ readings₀ deviations₀ tally₀ left₀ next bytes positive negative numbers places raise lower defaults readings deviations tally left =
+    (length bytes ≡ length bytes₀) × (length positive ≡ length positive₀) × (length negative ≡ length negative₀) × (length numbers ≡ length numbers₀) × (length places ≡ length places₀) × (length raise ≡ length raise₀) × (length lower ≡ length lower₀) × (length defaults ≡ length defaults₀) × (75 ≡ length readings) × (75 ≡ length deviations)
 
 abbrev μ-loop : tie.MeasureT-loop
-μ-loop bytes₀ measures positive₀ negative₀ numbers₀ places₀ raise₀ lower₀ defaults₀ deviations₀ readings₀ tally₀ left₀ bytes positive negative numbers places raise lower defaults deviations readings tally left =
+μ-loop next₀ bytes₀ measures positive₀ negative₀ numbers₀ places₀ raise₀ lower₀ defaults₀ readings₀ deviations₀ tally₀ left₀ next bytes positive negative numbers places raise lower defaults readings deviations tally left =
     left
 
--- what the lent lists' lengths are after the call
-lengths : (c : tie.After-take-unit Inv-loop μ-loop) → (length (c .take-unit .last .1 .0) ≡ length (c .before .before .before .before .before .before .before .before .before .before .before .before .before .before .before .before .args .bytes .now)) × (length (c .take-unit .last .1 .1 .1 .1 .0) ≡ length (c .before .before .before .before .before .before .before .before .before .before .before .before .before .before .before .before .args .positive .now)) × (length (c .take-unit .last .1 .1 .1 .1 .1 .0) ≡ length (c .before .before .before .before .before .before .before .before .before .before .before .before .before .before .before .before .args .negative .now)) × (length (c .take-unit .last .1 .1 .1 .1 .1 .1 .0) ≡ length (c .before .before .before .before .before .before .before .before .before .before .before .before .before .before .before .before .args .numbers .now)) × (length (c .take-unit .last .1 .1 .1 .1 .1 .1 .1 .0) ≡ length (c .before .before .before .before .before .before .before .before .before .before .before .before .before .before .before .before .args .places .now)) × (length (c .take-unit .last .1 .1 .1 .1 .1 .1 .1 .1 .0) ≡ length (c .before .before .before .before .before .before .before .before .before .before .before .before .before .before .before .before .args .raise .now)) × (length (c .take-unit .last .1 .1 .1 .1 .1 .1 .1 .1 .1 .0) ≡ length (c .before .before .before .before .before .before .before .before .before .before .before .before .before .before .before .before .args .lower .now)) × (length (c .take-unit .last .1 .1 .1 .1 .1 .1 .1 .1 .1 .1 .0) ≡ length (c .before .before .before .before .before .before .before .before .before .before .before .before .before .before .before .before .args .defaults .now)) × (length (c .take-unit .last .1 .1 .1 .1 .1 .1 .1 .1 .1 .1 .1 .0) ≡ length (c .before .before .before .before .before .before .before .before .before .before .before .before .before .before .before .before .args .deviations .now)) × (75 ≡ length (c .take-unit .last .1 .1 .0))
-lengths c =
-    let k = c .take-unit .kept in
-    let l = c .before .before .before .before .before .before .before .before .before .before .before .before in
-    (k .1 .0 ∙ l .loop .inv .0, k .1 .1 .1 .1 .0 ∙ l .loop .inv .1, k .1 .1 .1 .1 .1 .0 ∙ l .loop .inv .2, k .1 .1 .1 .1 .1 .1 .0 ∙ l .loop .inv .3, k .1 .1 .1 .1 .1 .1 .1 .0 ∙ l .loop .inv .4, k .1 .1 .1 .1 .1 .1 .1 .1 .0 ∙ l .loop .inv .5, k .1 .1 .1 .1 .1 .1 .1 .1 .1 .0 ∙ l .loop .inv .6, k .1 .1 .1 .1 .1 .1 .1 .1 .1 .1 .0 ∙ l .loop .inv .7, k .1 .1 .1 .1 .1 .1 .1 .1 .1 .1 .1 .0 ∙ l .loop .inv .8, l .loop .inv .9 ∙ sym (k .1 .1 .0))
+-- the places of a turn, from its end: the call, the reading, the start
+abbrev unit-in : tie.After-after Inv-loop μ-loop → tie.After-unit Inv-loop μ-loop
+unit-in c = c .before .before .before .before .before .before .before .before .before .before .before .before .before
+
+abbrev reading-in : tie.After-unit Inv-loop μ-loop → tie.After-read-record Inv-loop μ-loop
+reading-in c = c .before .before .before .before .before .before .before .before .before .before .before .before .before .before
+
+abbrev turn-in : tie.After-read-record Inv-loop μ-loop → tie.In-loop Inv-loop μ-loop
+turn-in c = c .before .before
+
+tally-of-requires : tie.Need-tally-of-requires Inv-loop μ-loop
+tally-of-requires c κs = search needs
 
 loop-holds : tie.Need-loop-holds Inv-loop μ-loop
 loop-holds c = (refl, refl, refl, refl, refl, refl, refl, refl, refl, refl)
 
-slice-aggregate-take-unit : tie.Need-slice-aggregate-take-unit Inv-loop μ-loop
-slice-aggregate-take-unit c = c .before .before .before .loop .inv .9
+read-record-requires : tie.Need-read-record-requires Inv-loop μ-loop
+read-record-requires c κs = search needs
 
-take-unit-requires : tie.Need-take-unit-requires Inv-loop μ-loop
-take-unit-requires c κs = let l = c .before .before .before .before .before .before .before .before .before .before .before in omega (arith, l .loop .inv .0, l .before .before .before .before .pre)
+sub-unit : tie.Need-sub-unit Inv-loop μ-loop
+sub-unit c = search needs
 
-enum-known-next : tie.Need-enum-known-next Inv-loop μ-loop
-enum-known-next c = search needs
+part-unit-start : tie.Need-part-unit-start Inv-loop μ-loop
+part-unit-start c = search needs
+
+part-unit-end : tie.Need-part-unit-end Inv-loop μ-loop
+part-unit-end c = search needs
+
+slice-aggregate-unit : tie.Need-slice-aggregate-unit Inv-loop μ-loop
+slice-aggregate-unit c = c .before .before .before .before .before .before .before .before .loop .inv .8
+
+slice-aggregate-unit-2 : tie.Need-slice-aggregate-unit-2 Inv-loop μ-loop
+slice-aggregate-unit-2 c = c .before .before .before .before .before .before .before .before .before .loop .inv .9
+
+unit-requires : tie.Need-unit-requires Inv-loop μ-loop
+unit-requires c κs = search needs
+
+after-requires : tie.Need-after-requires Inv-loop μ-loop
+after-requires c κs = search needs
+
+sub-to-read : tie.Need-sub-to-read Inv-loop μ-loop
+sub-to-read c = omega (arith, turn-in (reading-in (unit-in c)) .loop-test .taken)
+
+to-read-requires : tie.Need-to-read-requires Inv-loop μ-loop
+to-read-requires c κs = search needs
+
+loop-less : tie.Need-loop-less Inv-loop μ-loop
+loop-less c = omega (arith, turn-in (reading-in (unit-in (c .before))) .loop-test .taken)
+
+loop-again : tie.Need-loop-again Inv-loop μ-loop
+loop-again c =
+    let a = unit-in (c .before) in
+    let b = reading-in a in
+    let i = turn-in b .before .loop .inv in
+    let k = a .unit .kept in
+    (b .read-record .kept .0 ∙ i .0, k .1 .1 .1 .1 .1 .0 ∙ i .1, k .1 .1 .1 .1 .1 .1 .0 ∙ i .2, k .1 .1 .1 .1 .1 .1 .1 .0 ∙ i .3, k .1 .1 .1 .1 .1 .1 .1 .1 .0 ∙ i .4, k .1 .1 .1 .1 .1 .1 .1 .1 .1 .0 ∙ i .5, k .1 .1 .1 .1 .1 .1 .1 .1 .1 .1 .0 ∙ i .6, k .1 .1 .1 .1 .1 .1 .1 .1 .1 .1 .1 .0 ∙ i .7, i .8 ∙ sym (k .1 .1 .0), i .9 ∙ sym (k .1 .1 .1 .0))
 
 same-length : tie.Need-same-length Inv-loop μ-loop
-same-length c = lengths (c .before .before .before .before .before .before .before .before .before .before .before .before .before .before) .0
+same-length c = c .before .loop .inv .0
 
 same-length-2 : tie.Need-same-length-2 Inv-loop μ-loop
-same-length-2 c = lengths (c .before .before .before .before .before .before .before .before .before .before .before .before .before .before) .1
+same-length-2 c = c .before .loop .inv .1
 
 same-length-3 : tie.Need-same-length-3 Inv-loop μ-loop
-same-length-3 c = lengths (c .before .before .before .before .before .before .before .before .before .before .before .before .before .before) .2
+same-length-3 c = c .before .loop .inv .2
 
 same-length-4 : tie.Need-same-length-4 Inv-loop μ-loop
-same-length-4 c = lengths (c .before .before .before .before .before .before .before .before .before .before .before .before .before .before) .3
+same-length-4 c = c .before .loop .inv .3
 
 same-length-5 : tie.Need-same-length-5 Inv-loop μ-loop
-same-length-5 c = lengths (c .before .before .before .before .before .before .before .before .before .before .before .before .before .before) .4
+same-length-5 c = c .before .loop .inv .4
 
 same-length-6 : tie.Need-same-length-6 Inv-loop μ-loop
-same-length-6 c = lengths (c .before .before .before .before .before .before .before .before .before .before .before .before .before .before) .5
+same-length-6 c = c .before .loop .inv .5
 
 same-length-7 : tie.Need-same-length-7 Inv-loop μ-loop
-same-length-7 c = lengths (c .before .before .before .before .before .before .before .before .before .before .before .before .before .before) .6
+same-length-7 c = c .before .loop .inv .6
 
 same-length-8 : tie.Need-same-length-8 Inv-loop μ-loop
-same-length-8 c = lengths (c .before .before .before .before .before .before .before .before .before .before .before .before .before .before) .7
-
-same-length-9 : tie.Need-same-length-9 Inv-loop μ-loop
-same-length-9 c = lengths (c .before .before .before .before .before .before .before .before .before .before .before .before .before .before) .8
+same-length-8 c = c .before .loop .inv .7
 
 returns : tie.Need-returns Inv-loop μ-loop
 returns c = search needs
-
-sub-left : tie.Need-sub-left Inv-loop μ-loop
-sub-left c = omega arith
-
-loop-less : tie.Need-loop-less Inv-loop μ-loop
-loop-less c = omega arith
-
-loop-again : tie.Need-loop-again Inv-loop μ-loop
-loop-again c = lengths (c .before .before .before .before .before .before .before .before .before .before .before .before .before .before .before .before)
-
-same-length-10 : tie.Need-same-length-10 Inv-loop μ-loop
-same-length-10 c = c .before .loop .inv .0
-
-same-length-11 : tie.Need-same-length-11 Inv-loop μ-loop
-same-length-11 c = c .before .loop .inv .1
-
-same-length-12 : tie.Need-same-length-12 Inv-loop μ-loop
-same-length-12 c = c .before .loop .inv .2
-
-same-length-13 : tie.Need-same-length-13 Inv-loop μ-loop
-same-length-13 c = c .before .loop .inv .3
-
-same-length-14 : tie.Need-same-length-14 Inv-loop μ-loop
-same-length-14 c = c .before .loop .inv .4
-
-same-length-15 : tie.Need-same-length-15 Inv-loop μ-loop
-same-length-15 c = c .before .loop .inv .5
-
-same-length-16 : tie.Need-same-length-16 Inv-loop μ-loop
-same-length-16 c = c .before .loop .inv .6
-
-same-length-17 : tie.Need-same-length-17 Inv-loop μ-loop
-same-length-17 c = c .before .loop .inv .7
-
-same-length-18 : tie.Need-same-length-18 Inv-loop μ-loop
-same-length-18 c = c .before .loop .inv .8
-
-returns-2 : tie.Need-returns-2 Inv-loop μ-loop
-returns-2 c = search needs
 
 pub take-units-spec : {M : Type 1} → statement M
 take-units-spec =
@@ -108,10 +104,20 @@ take-units-spec =
     (tie.spec
     Inv-loop
     μ-loop
+    tally-of-requires
     loop-holds
-    slice-aggregate-take-unit
-    take-unit-requires
-    enum-known-next
+    read-record-requires
+    sub-unit
+    part-unit-start
+    part-unit-end
+    slice-aggregate-unit
+    slice-aggregate-unit-2
+    unit-requires
+    after-requires
+    sub-to-read
+    to-read-requires
+    loop-less
+    loop-again
     same-length
     same-length-2
     same-length-3
@@ -120,18 +126,4 @@ take-units-spec =
     same-length-6
     same-length-7
     same-length-8
-    same-length-9
-    returns
-    sub-left
-    loop-less
-    loop-again
-    same-length-10
-    same-length-11
-    same-length-12
-    same-length-13
-    same-length-14
-    same-length-15
-    same-length-16
-    same-length-17
-    same-length-18
-    returns-2)
+    returns)

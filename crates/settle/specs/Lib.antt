@@ -1,2 +1,0 @@
--- What the functions of the program ask of each other
-pub mod Columns
