@@ -26,11 +26,11 @@ use Rattle.rules.specs.Members.{Name, unit, residual, Member as Sharer}
 use Rattle.interval.specs.Lent.{figures-each, figures-length}
 use Rattle.kept.specs.Kept.{Kept, figure, region-of, row-standing, row-member, residual-row, rows, kept-members}
 use Rattle.kept.specs.Range.{from-0, figures-fine, rows-fine}
-use Rattle.response.specs.Promises.{asked}
+use Rattle.ranges.specs.Lent.{asked}
+use Rattle.ranges.specs.Rows.{row-fine, rows-all-fine, rows-fine-is}
 use Rattle.members.specs.declared.Row.{Row}
 use Rattle.members.specs.declared.Row.the-variants.{Unit, Other, Refused}
 use Rattle.members.specs.Made.{reliable-at, flag}
-use Rattle.members.specs.Range.{row-fine, rows-all-fine, rows-fine-is}
 use Rattle.members.specs.Lists.{gathered}
 
 -- room, by the lengths of the lists

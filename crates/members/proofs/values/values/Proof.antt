@@ -14,11 +14,11 @@ use Rattle.rules.specs.declared.Standing.{Standing}
 use Rattle.rules.specs.RequirementRecord.{set-fine}
 use Rattle.kept.specs.Kept.{Kept, kept-members}
 use Rattle.kept.specs.Range.{figures-fine, rows-fine}
-use Rattle.response.specs.Promises.{asked}
+use Rattle.ranges.specs.Lent.{kept-rows, asked}
+use Rattle.ranges.specs.Rows.{room-means}
 use Rattle.members.specs.declared.Gathered.the-variants.{Are}
 use Rattle.members.specs.declared.Member.{Member}
 use Rattle.members.specs.Made.{picked, residual-shown}
-use Rattle.members.specs.Range.{kept-rows, room-means}
 use Rattle.members.specs.Lists.{headed-length}
 use Rattle.members.specs.Values.{values-room, Roomy, values-room-means, values-reply, values-taken, gathered-of, Fine, all-fine, with-residual}
 use Rattle.members.proofs.values.values.Statement.{statement}
@@ -68,7 +68,7 @@ returns c =
     record { reply = rw e; column = rw e }
 
 lists-long-requires : tie.Need-lists-long-requires
-lists-long-requires c κs = few c
+lists-long-requires c κs = search needs
 
 returns-2 : tie.Need-returns-2
 unfolding values-reply
