@@ -20,7 +20,7 @@ use Rattle.interval.specs.Tally.{in-range, answer-turn}
 use Rattle.interval.specs.Lent.{series-length, figures-length}
 use Rattle.kept.specs.Kept.{Kept, kept-answer}
 use Rattle.kept.specs.Range.{kept-fine}
-use Rattle.members.specs.Range.{rows-room}
+use Rattle.ranges.specs.Rows.{rows-room}
 use Rattle.members.specs.Lists.{headed}
 use Rattle.answer.specs.declared.Answer.{Answer}
 use Rattle.answer.specs.declared.Answered.{Answered}

@@ -22,7 +22,7 @@ use Rattle.rules.specs.ShareLaws.{never-left-overs}
 use Rattle.rules.specs.RequirementRecord.{set-fine}
 use Rattle.kept.specs.Kept.{Kept, residual-row, kept-members}
 use Rattle.kept.specs.Range.{figures-fine, rows-fine}
-use Rattle.response.specs.Promises.{asked}
+use Rattle.ranges.specs.Lent.{kept-rows, asked}
 use Rattle.rules.specs.declared.Refusal.{Refusal}
 use Rattle.rules.specs.Members.{Member as Sharer}
 use Rattle.share.specs.declared.Shared.{Shared}
@@ -37,7 +37,6 @@ use Rattle.members.specs.declared.Gathered.the-variants.{Are, Refused}
 use Rattle.members.specs.declared.Field.{Field}
 use Rattle.members.specs.declared.Field.the-variants.{Payment}
 use Rattle.members.specs.Made.{field-of}
-use Rattle.members.specs.Range.{kept-rows}
 use Rattle.members.specs.Lists.{headed, headed-length, headed-take}
 use Rattle.members.specs.Values.{values-room, Roomy, values-room-means, values-reply, values-taken, gathered-of, column-of, ValuesPromise, Fine, all-fine, members-few}
 use Rattle.members.specs.Sizes.{members-size}

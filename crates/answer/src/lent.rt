@@ -5,9 +5,9 @@ ghost use Prim.Native.Nat.{_*_, _≤_};
 ghost use lib.ListN.{length};
 ghost use Rattle.kept.specs.Range.{kept-fine};
 ghost use Rattle.answer.specs.Promises.{lists-long, columns-long, kept-lists, LentReady};
-use members::range::rows_in_range;
-use response::range::figures_in_range;
-use response::range::series_in_range;
+use ranges::figures::figures_in_range;
+use ranges::rows::rows_in_range;
+use ranges::series::series_in_range;
 
 const SERIES_LENGTH: usize = 375;
 

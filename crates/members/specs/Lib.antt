@@ -1,6 +1,5 @@
 -- Who shares in a requirement, and by which numbers
 pub mod Made
-pub mod Range
 pub mod Residual
 pub mod Lists
 pub mod Values

@@ -1,17 +1,16 @@
 -- A member as the code makes it, from lists and a direction (01, Members; Performance), and that it is the member of what is kept.
-use mathlib.Core.Path.{_≡_, refl, sym, _∙_, ap, ap₂}
-use mathlib.Core.Bool.{Bool, true, false, cond, not, _&&_, _||_}
+use mathlib.Core.Path.{_≡_, refl, _∙_, ap, ap₂}
+use mathlib.Core.Bool.{Bool, true, false, not, _&&_, _||_}
 use mathlib.Core.List.{List}
 use Prim.Native.Nat.{ℕ, _+_, _*_, _/_, _%_, _≤_, _<_}
 use native.Mathlib.Omega.{arith}
 use lib.Dec.{eqb, leb}
-use lib.IntN.{ℤ, pos, negℤ, _+ℤ_, +ℤ-idr}
+use lib.IntN.{ℤ, pos, negℤ, _+ℤ_}
 use lib.ListN.{length, getD}
 use lib.Signed.{ltZ}
-use Rattle.integers.specs.Sums.{sum, count, every, when, sum-step, every-more}
+use Rattle.integers.specs.Sums.{sum, count, every, when}
 use Rattle.rules.specs.declared.Direction.{Direction}
 use Rattle.rules.specs.declared.Direction.the-variants.{Raise, Lower}
-use Rattle.rules.specs.declared.Reason.{Reason}
 use Rattle.rules.specs.declared.Reason.the-variants.{UnreliableRegion, BadUnit, NoGoodUnit}
 use Rattle.rules.specs.declared.Standing.{Standing}
 use Rattle.rules.specs.declared.Standing.the-variants.{Live, Default}
@@ -58,6 +57,14 @@ pub made-same : {s s′ : Standing} {x x′ p p′ u u′ v v′ : ℤ} → s �
 made-same {s} {s′} {x} {x′} {p} {p′} {u} {u′} {v} {v′} hs hx hp hu hv =
     ap₂ (λ (a : Standing) (b : ℤ). made a b p u v) hs hx ∙ ap₂ (λ (a b : ℤ). made s′ x′ a b v) hp hu ∙ ap (λ (a : ℤ). made s′ x′ p′ u′ a) hv
 
+-- with the direction's three of the six defaults from a place on
+abbrev pub made-at : Direction → Standing → ℤ → ℕ → List ℤ → Member
+made-at d s performance start defaults =
+    made s performance
+    (getD defaults (start + defaults-at d) (pos 0))
+    (getD defaults (start + (defaults-at d + 1)) (pos 0))
+    (getD defaults (start + (defaults-at d + 2)) (pos 0))
+
 -- the number of a field
 abbrev pub picked : Field → Member → ℤ
 picked Payment m = m .payment
@@ -87,10 +94,7 @@ place-good i places = eqb (getD places i 0 % 2) 1
 
 abbrev pub unit-made : Direction → ℕ → List ℤ → List ℕ → List ℤ → List ℤ → List ℤ → Member
 unit-made d i figures places raise lower defaults =
-    made (standing (flag d (place-region i places) figures) (place-good i places) BadUnit) (getD (side d raise lower) i (pos 0))
-    (getD defaults (6 * i + defaults-at d) (pos 0))
-    (getD defaults (6 * i + (defaults-at d + 1)) (pos 0))
-    (getD defaults (6 * i + (defaults-at d + 2)) (pos 0))
+    made-at d (standing (flag d (place-region i places) figures) (place-good i places) BadUnit) (getD (side d raise lower) i (pos 0)) (6 * i) defaults
 
 pub row-shown : (k : Kept) (d : Direction) (i : ℕ) → shown (row-member k d i) ≡ unit-made d i (k .figures) (k .places) (k .raise) (k .lower) (k .defaults)
 row-shown k Raise i = refl
@@ -123,6 +127,13 @@ region-made d r units figures places raise lower =
     (getD figures (figures-each * r + (3 + defaults-at d)) (pos 0))
     (getD figures (figures-each * r + (3 + defaults-at d + 1)) (pos 0))
     (getD figures (figures-each * r + (3 + defaults-at d + 2)) (pos 0))
+
+-- of a region the six defaults stand behind its first three figures
+pub made-behind : (d : Direction) (s : Standing) (x : ℤ) (start : ℕ) (fs : List ℤ) → made-at d s x (start + 3) fs ≡ made s x (getD fs (start + (3 + defaults-at d)) (pos 0)) (getD fs (start + (3 + defaults-at d + 1)) (pos 0)) (getD fs (start + (3 + defaults-at d + 2)) (pos 0))
+made-behind d s x start fs = made-same refl refl (at (omega arith)) (at (omega arith)) (at (omega arith))
+  where
+    at : {m n : ℕ} → m ≡ n → getD fs m (pos 0) ≡ getD fs n (pos 0)
+    at e = ap (λ (n : ℕ). getD fs n (pos 0)) e
 
 -- the worse of two standings; two members as one
 abbrev pub worse-of : Standing → Standing → Standing

@@ -1,10 +1,10 @@
 -- The sums of a region's rows and of the regions: what they are, and that none leaves 64 bits. Each unit stands in one region, so the sizes of the regions'
 -- residuals together are within a unit's limit for each unit, with a residual's default limit for each region.
-use mathlib.Core.Path.{_≡_, refl, sym, _∙_, ap, ap₂}
-use mathlib.Core.Bool.{Bool, true, false, cond, not, _&&_, _||_}
+use mathlib.Core.Path.{_≡_, refl, sym, _∙_, ap₂}
+use mathlib.Core.Bool.{Bool, true, false, not, _&&_, _||_}
 use mathlib.Core.List.{List}
-use Prim.Native.Nat.{ℕ, zero, suc, _+_, _*_, _/_, _%_, _≤_, _<_}
-use native.Mathlib.Nat.{mul-le-mul-right, add-mul}
+use Prim.Native.Nat.{ℕ, zero, suc, _+_, _*_, _≤_, _<_}
+use native.Mathlib.Nat.{mul-le-mul-right}
 use native.Mathlib.Omega.{arith}
 use lib.Dec.{eqb, leb}
 use lib.IntN.{ℤ, pos, negℤ, natAbs, _+ℤ_, _-ℤ_, +ℤ-idl, +ℤ-idr}
@@ -13,7 +13,7 @@ use mir.Syntax.{w64}
 use mir.Val.{SFits, toZ, ofZ}
 use mir.Facts.{toZ-ofZ}
 use Rattle.integers.specs.Bounds.{Within, abs-neg, within-negation, fits-within}
-use Rattle.integers.specs.Sums.{sum, sumℕ, count, one, when, every, every-more, sum-step, sum-size, sumℕ-plus, sumℕ-times, sumℕ-prefix, sumℕ-≤, count-one, count-≤}
+use Rattle.integers.specs.Sums.{sum, sumℕ, count, one, when, every, every-more, sum-step, sum-size, sumℕ-plus, sumℕ-times, sumℕ-prefix, count-one, count-≤}
 use Rattle.rules.specs.Quantities.{regions, most-units, performance-limit, residual-default-limit}
 use Rattle.rules.specs.declared.Direction.{Direction}
 use Rattle.rules.specs.declared.Direction.the-variants.{Raise, Lower}

@@ -1,6 +1,6 @@
 -- What `member` promises, and that a walk over the rows meets every unit of a requirement's members, in their order, with its number and standing.
-use mathlib.Core.Path.{_≡_, refl, sym, _∙_, ap, ap₂}
-use mathlib.Core.Bool.{Bool, true, false, cond, _&&_}
+use mathlib.Core.Path.{_≡_, refl, sym, _∙_, ap}
+use mathlib.Core.Bool.{Bool, true, cond, _&&_}
 use mathlib.Core.List.{List, [], _∷_, _++_, map, map-append, map-map}
 use Prim.Native.Nat.{ℕ, _+_, _*_, _/_, _%_, _≤_, _<_}
 use lib.Dec.{eqb, leb, ltb}
@@ -26,11 +26,11 @@ use Rattle.rules.specs.Members.{Name, unit, residual, Member as Sharer}
 use Rattle.interval.specs.Lent.{figures-each, figures-length}
 use Rattle.kept.specs.Kept.{Kept, figure, region-of, row-standing, row-member, residual-row, rows, kept-members}
 use Rattle.kept.specs.Range.{from-0, figures-fine, rows-fine}
-use Rattle.response.specs.Promises.{asked}
+use Rattle.ranges.specs.Lent.{asked}
+use Rattle.ranges.specs.Rows.{row-fine, rows-all-fine, rows-fine-is}
 use Rattle.members.specs.declared.Row.{Row}
 use Rattle.members.specs.declared.Row.the-variants.{Unit, Other, Refused}
 use Rattle.members.specs.Made.{reliable-at, flag}
-use Rattle.members.specs.Range.{row-fine, rows-all-fine, rows-fine-is}
 use Rattle.members.specs.Lists.{gathered}
 
 -- room, by the lengths of the lists
@@ -63,6 +63,11 @@ member-reply k q i =
     (unless (ltb i (k .units)) OutOfTurn
     (unless (roster-room (k .units) (length (k .figures)) (length (k .numbers)) (length (k .places))) TooShort
     (unless (place-fine (q .direction) (getD (k .places) i 0) (k .figures)) OutOfTurn (taken (row-of k q i)))))
+
+-- by the unit's number and place
+abbrev pub row-told : Direction → ℕ → ℕ → ℕ → List ℤ → Reply Row
+row-told d set number place figures =
+    unless (place-fine d place figures) OutOfTurn (taken (cond (bit (place / 2) set) (Unit number (standing (flag d (place / 2) figures) (eqb (place % 2) 1) BadUnit)) Other))
 
 abbrev pub row-answer : Reply Row → Row
 row-answer (taken r) = r
@@ -97,10 +102,15 @@ pub standing-of-row : (k : Kept) (d : Direction) (i : ℕ) → standing (flag d 
 standing-of-row k Raise i = refl
 standing-of-row k Lower i = refl
 
+pub row-told-is : (k : Kept) (q : Requirement) (i : ℕ) → row-told (q .direction) (q .set) (getD (k .numbers) i 0) (getD (k .places) i 0) (k .figures) ≡ unless (place-fine (q .direction) (getD (k .places) i 0) (k .figures)) OutOfTurn (taken (row-of k q i))
+row-told-is k q i = ap (λ (s : Standing). unless (place-fine (q .direction) (getD (k .places) i 0) (k .figures)) OutOfTurn (taken (cond (covers q (region-of k i)) (Unit (getD (k .numbers) i 0) s) Other))) (standing-of-row k (q .direction) i)
+
 -- what is promised of the lent lists is so of all that is kept, and of the whole requirement
 pub member-of-kept : (k : Kept) (q : Requirement) (i : ℕ) → member-reply (kept-roster (k .units) (k .figures) (k .numbers) (k .places)) (asked (q .direction) (q .set)) i ≡ member-reply k q i
 unfolding member-reply
-member-of-kept k q i = ap (λ (s : Standing). unless (leb (k .units) most-units && set-fine (q .set)) OutOfTurn (unless (ltb i (k .units)) OutOfTurn (unless (roster-room (k .units) (length (k .figures)) (length (k .numbers)) (length (k .places))) TooShort (unless (place-fine (q .direction) (getD (k .places) i 0) (k .figures)) OutOfTurn (taken (cond (covers q (region-of k i)) (Unit (getD (k .numbers) i 0) s) Other)))))) (sym (standing-of-row (kept-roster (k .units) (k .figures) (k .numbers) (k .places)) (q .direction) i) ∙ standing-of-row k (q .direction) i)
+member-of-kept k q i =
+    ap (λ (x : Reply Row). unless (leb (k .units) most-units && set-fine (q .set)) OutOfTurn (unless (ltb i (k .units)) OutOfTurn (unless (roster-room (k .units) (length (k .figures)) (length (k .numbers)) (length (k .places))) TooShort x)))
+    (sym (row-told-is (kept-roster (k .units) (k .figures) (k .numbers) (k .places)) (asked (q .direction) (q .set)) i) ∙ row-told-is k q i)
 
 -- a member's name and standing; the rows' walk, in which those of other regions are passed over
 pub record Named : Type 0 where

@@ -1,23 +1,22 @@
 -- The sizes of a requirement's members: numbers in range give weights that sum to at most 6,010,000,000,000,000,000, so no share of theirs meets its limit on W.
-use mathlib.Core.Path.{_≡_, refl, sym, _∙_, ap}
+use mathlib.Core.Path.{_≡_, sym, _∙_, ap}
 use mathlib.Core.Bool.{Bool, true, false, cond}
-use mathlib.Core.List.{List, [], _∷_, _++_, map}
+use mathlib.Core.List.{[], _∷_, _++_, map}
 use Prim.Native.Nat.{ℕ, zero, suc, _+_, _*_, _≤_, _<_}
 use native.Mathlib.Nat.{add-mul}
 use native.Mathlib.Numerals.{add-one}
 use native.Mathlib.Omega.{arith}
 use lib.IntN.{ℤ, pos, natAbs}
-use lib.ListN.{length, getD}
+use lib.ListN.{getD}
 use Rattle.integers.specs.Bounds.{Within}
-use Rattle.integers.specs.Totals.{totalℕ, totalℕ-++, totalℕ-map}
+use Rattle.integers.specs.Totals.{totalℕ, totalℕ-++}
 use Rattle.rules.specs.declared.Direction.{Direction}
 use Rattle.rules.specs.declared.Direction.the-variants.{Raise, Lower}
 use Rattle.rules.specs.declared.Standing.{Standing}
 use Rattle.rules.specs.declared.Standing.the-variants.{Live, Default}
-use Rattle.rules.specs.Quantities.{regions, most-units, performance-limit, weight-limit}
+use Rattle.rules.specs.Quantities.{regions, performance-limit, weight-limit}
 use Rattle.rules.specs.Standings.{live-or}
 use Rattle.rules.specs.Book.{Requirement}
-use Rattle.rules.specs.Members.{Member as Sharer}
 use Rattle.kept.specs.Kept.{Kept, kept-members}
 use Rattle.members.specs.declared.Field.{Field}
 use Rattle.members.specs.declared.Field.the-variants.{Payment, Used, Unused}

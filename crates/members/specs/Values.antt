@@ -14,29 +14,28 @@ use Rattle.integers.specs.Pairs.{le-out}
 use Rattle.integers.specs.Tests.{leZ-true}
 use Rattle.integers.specs.Sums.{both, every-at}
 use Rattle.rules.specs.declared.Direction.{Direction}
-use Rattle.rules.specs.declared.Refusal.{Refusal}
 use Rattle.rules.specs.declared.Refusal.the-variants.{OutOfTurn, TooShort}
 use Rattle.rules.specs.declared.Standing.{Standing}
 use Rattle.rules.specs.Quantities.{regions, most-units, amount-limit, performance-limit, unit-default-limit, residual-default-limit}
 use Rattle.rules.specs.Refusals.{Reply, taken, refused, unless}
 use Rattle.rules.specs.Bytes.{bit}
-use Rattle.rules.specs.Book.{Requirement, covers}
+use Rattle.rules.specs.Book.{Requirement}
 use Rattle.rules.specs.RequirementRecord.{set-fine}
 use Rattle.rules.specs.Fields.{sized, default-fine}
 use Rattle.rules.specs.LimitsLaws.{size-fits}
 use Rattle.rules.specs.Members.{Member as Sharer}
 use Rattle.interval.specs.Lent.{figures-each, figures-length}
-use Rattle.kept.specs.Kept.{Kept, figure, row-member, residual-row, region-of, rows, kept-members}
+use Rattle.kept.specs.Kept.{Kept, figure, row-member, residual-row, rows, kept-members}
 use Rattle.kept.specs.Range.{from-0, figures-fine, rows-fine}
-use Rattle.response.specs.Promises.{asked}
+use Rattle.ranges.specs.Lent.{kept-rows, asked}
+use Rattle.ranges.specs.Rows.{rows-room, room-means, row-fine, rows-all-fine, rows-fine-is}
 use Rattle.members.specs.declared.Field.{Field}
 use Rattle.members.specs.declared.Field.the-variants.{Payment}
 use Rattle.members.specs.declared.Gathered.{Gathered}
 use Rattle.members.specs.declared.Gathered.the-variants.{Are, Refused}
 use Rattle.members.specs.declared.Member.{Member}
-use Rattle.members.specs.Made.{picked, field-of, shown, field-shown, place-region, unit-made, row-shown, RowReady, residual-to, residual-shown}
-use Rattle.members.specs.Range.{kept-rows, rows-room, room-means, row-fine, rows-all-fine, rows-fine-is}
-use Rattle.members.specs.Residual.{RowsFit, RegionsFit}
+use Rattle.members.specs.Made.{picked, field-of, field-shown, place-region, unit-made, row-shown, RowReady, residual-to, residual-shown}
+use Rattle.members.specs.Residual.{RegionsFit}
 use Rattle.members.specs.Lists.{headed, headed-none, headed-more, gathered, gathered-none, gathered-more, gathered-length}
 
 -- ---- room, by the lengths of the lists: the column takes one number more than there are units

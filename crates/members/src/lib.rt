@@ -1,9 +1,8 @@
 // members: who shares in a requirement (document 01, Members): the units of its regions in roster order, then one residual, each with its
-// standing and the numbers that its shares go by. All is read from what the calls of `interval` keep.
+// standing and the numbers that its shares go by. All is read from what the calls of `interval` keep; `ranges` tests what is lent.
 use rules::Refusal;
 use rules::Standing;
 
-pub mod range;
 mod residual;
 pub mod roster;
 mod rows;

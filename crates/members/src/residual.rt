@@ -9,8 +9,7 @@ ghost use Rattle.members.specs.Made.{side, region-made, worse-of, residu
 ghost use Rattle.members.specs.Residual.{RowsFit, Holds, RegionsFit};
 use super::Member;
 use super::rows::covers;
-use super::rows::defaults_place;
-use super::rows::member_of;
+use super::rows::member_at;
 use super::rows::reliable;
 use super::rows::standing_of;
 use rules::Direction;
@@ -116,15 +115,8 @@ fn region_member(
     let sound = reliable(direction, region, figures);
     let fine = some_good_or_none(rows.good, rows.units);
     let standing = standing_of(sound, fine, Reason::NoGoodUnit);
-    let start = FIGURES_EACH * (region as usize);
-    let at = 3 + defaults_place(direction);
-    member_of(
-        standing,
-        -rows.sum,
-        figures[start + at],
-        figures[start + (at + 1)],
-        figures[start + (at + 2)],
-    )
+    let start = FIGURES_EACH * (region as usize) + 3;
+    member_at(direction, standing, -rows.sum, start, figures)
 }
 
 // The worse of two standings.

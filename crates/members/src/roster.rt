@@ -1,10 +1,8 @@
 // Who stands in a row of the roster, by a few numbers of the row and its region: a listing walks the rows with it.
 ghost use mathlib.Core.Path.{_≡_};
-ghost use mathlib.Core.Bool.{_&&_};
 ghost use Prim.Native.Nat.{_<_, _≤_};
-ghost use lib.Dec.{leb};
 ghost use lib.ListN.{length};
-ghost use Rattle.members.specs.Roster.{roster-room, place-fine, MemberPromise};
+ghost use Rattle.members.specs.Roster.{roster-room, place-fine, row-told, row-answer, MemberPromise};
 use super::Row;
 use super::rows::covers;
 use super::rows::figure_of;
@@ -45,8 +43,22 @@ fn place_in_range(direction: Direction, place: u8, figures: &[i64]) -> bool
     figure <= 1
 }
 
-// The unit's number and standing where its region is one of the set's. Refuses 11 for fields out of range or a row that no unit has, then
-// 12 for a short list, then 11 for a lent number out of range.
+// The unit's number and standing where its region is one of the set's. Refuses 11 for a number that is out of range.
+fn unit_or_other(direction: Direction, set: u8, number: u16, place: u8, figures: &[i64]) -> Row
+    requires { ⌜ 45 ≤ length (now figures) ⌝ }
+    ensures { λ r. ⌜ r ≡ row-answer (row-told direction set number place (now (figures .entry))) ⌝ }
+{
+    if !place_in_range(direction, place, figures) {
+        return Row::Refused(Refusal::OutOfTurn);
+    }
+    if !covers(set, place / 2) {
+        return Row::Other;
+    }
+    Row::Unit(number, row_standing(direction, place, figures))
+}
+
+// Who stands in a row. Refuses 11 for fields out of range or a row that no unit has, then 12 for a short list, then 11 for a lent number
+// out of range.
 pub fn member(
     row: u16,
     units: u16,
@@ -68,13 +80,5 @@ pub fn member(
         return Row::Refused(Refusal::TooShort);
     }
     let at = row as usize;
-    let place = places[at];
-    if !place_in_range(direction, place, figures) {
-        return Row::Refused(Refusal::OutOfTurn);
-    }
-    if !covers(set, place / 2) {
-        return Row::Other;
-    }
-    let number = numbers[at];
-    Row::Unit(number, row_standing(direction, place, figures))
+    unit_or_other(direction, set, numbers[at], places[at], figures)
 }

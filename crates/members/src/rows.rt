@@ -1,6 +1,5 @@
 // A unit's row as a member: live, or default with its reason. One path for raise and lower: the direction picks a column and two places.
 ghost use mathlib.Core.Path.{_≡_};
-ghost use mathlib.Core.Bool.{_&&_};
 ghost use Prim.Native.Nat.{_+_, _*_, _/_, _%_, _<_, _≤_};
 ghost use lib.Dec.{eqb};
 ghost use lib.IntN.{pos};
@@ -8,7 +7,7 @@ ghost use lib.ListN.{length, getD};
 ghost use Rattle.rules.specs.declared.Reason.the-variants.{BadUnit};
 ghost use Rattle.rules.specs.Bytes.{bit};
 ghost use Rattle.rules.specs.Standings.{standing};
-ghost use Rattle.members.specs.Made.{reliable-at, defaults-at, side, flag, made, picked, unit-made, RowReady};
+ghost use Rattle.members.specs.Made.{reliable-at, defaults-at, side, flag, made, made-at, picked, unit-made, RowReady};
 use super::Field;
 use super::Member;
 use rules::Direction;
@@ -38,7 +37,7 @@ fn reliable_place(direction: Direction) -> usize
 }
 
 // Where among six defaults the three of a direction start.
-pub(crate) fn defaults_place(direction: Direction) -> usize
+fn defaults_place(direction: Direction) -> usize
     ensures { λ r. ⌜ r ≡ defaults-at direction ⌝ }
 {
     match direction {
@@ -76,13 +75,7 @@ pub(crate) fn standing_of(reliable: bool, fine: bool, why: Reason) -> Standing
 }
 
 // The performance of a live member; else its defaults stand in.
-pub(crate) fn member_of(
-    standing: Standing,
-    performance: i64,
-    payment: i64,
-    used: i64,
-    unused: i64,
-) -> Member
+fn member_of(standing: Standing, performance: i64, payment: i64, used: i64, unused: i64) -> Member
     ensures { λ r. ⌜ r ≡ made standing performance payment used unused ⌝ }
 {
     match standing {
@@ -99,6 +92,27 @@ pub(crate) fn member_of(
             unused: unused,
         },
     }
+}
+
+// The same, with the direction's three of the six defaults from a place on.
+pub(crate) fn member_at(
+    direction: Direction,
+    standing: Standing,
+    performance: i64,
+    start: usize,
+    defaults: &[i64],
+) -> Member
+    requires { ⌜ start + 6 ≤ length (now defaults) ⌝ }
+    ensures { λ r. ⌜ r ≡ made-at direction standing performance start (now (defaults .entry)) ⌝ }
+{
+    let at = defaults_place(direction);
+    member_of(
+        standing,
+        performance,
+        defaults[start + at],
+        defaults[start + (at + 1)],
+        defaults[start + (at + 2)],
+    )
 }
 
 pub(crate) fn value(field: Field, member: Member) -> i64
@@ -144,13 +158,11 @@ pub(crate) fn row_member(
 {
     let standing = row_standing(direction, places[row], figures);
     let performance = performance_of(direction, row, raise, lower);
-    let start = DEFAULTS_EACH * row;
-    let at = defaults_place(direction);
-    member_of(
+    member_at(
+        direction,
         standing,
         performance,
-        defaults[start + at],
-        defaults[start + (at + 1)],
-        defaults[start + (at + 2)],
+        DEFAULTS_EACH * row,
+        defaults,
     )
 }

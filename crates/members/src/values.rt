@@ -7,18 +7,18 @@ ghost use lib.Dec.{leb};
 ghost use lib.ListN.{length};
 ghost use Rattle.rules.specs.RequirementRecord.{set-fine};
 ghost use Rattle.kept.specs.Range.{figures-fine, rows-fine};
+ghost use Rattle.ranges.specs.Lent.{kept-rows};
 ghost use Rattle.members.specs.Made.{RowReady};
-ghost use Rattle.members.specs.Range.{kept-rows};
 ghost use Rattle.members.specs.Values.{values-room, RowsReady, RowPut, RowsPut, ValuesPromise};
 use super::Field;
 use super::Gathered;
-use super::range::all_in_range;
-use super::range::rows_fit;
 use super::residual::residual_member;
 use super::rows::covers;
 use super::rows::row_member;
 use super::rows::value;
-use response::range::figures_in_range;
+use ranges::figures::figures_in_range;
+use ranges::rows::rows_fit;
+use ranges::rows::rows_in_range;
 use rules::Direction;
 use rules::Refusal;
 
@@ -41,7 +41,7 @@ pub(crate) fn asked_in_range(units: u16, set: u8) -> bool
 
 // The figures of five regions, rows for all units, and a column with one number more than units: by the lengths of the lists.
 fn lists_long(
-    units: usize,
+    units: u16,
     figures: usize,
     places: usize,
     raise: usize,
@@ -49,20 +49,19 @@ fn lists_long(
     defaults: usize,
     column: usize,
 ) -> bool
-    requires { ⌜ units ≤ 512 ⌝ }
     ensures { λ r. ⌜ r ≡ values-room units figures places raise lower defaults column ⌝ }
 {
     if figures < FIGURES_LENGTH {
         return false;
     }
-    if column <= units {
+    if column <= units as usize {
         return false;
     }
     rows_fit(units, places, raise, lower, defaults)
 }
 
 fn lent_in_range(
-    units: usize,
+    units: u16,
     figures: &[i64],
     places: &[u8],
     raise: &[i64],
@@ -75,7 +74,7 @@ fn lent_in_range(
     if !figures_in_range(figures) {
         return false;
     }
-    all_in_range(units, places, raise, lower, defaults)
+    rows_in_range(units, places, raise, lower, defaults)
 }
 
 // A row's value behind those that are there, if its region is one of the set's: how many there are then.
@@ -158,9 +157,8 @@ pub fn values(
     if !asked_in_range(units, set) {
         return Gathered::Refused(Refusal::OutOfTurn);
     }
-    let rows = units as usize;
     if !lists_long(
-        rows,
+        units,
         figures.len(),
         places.len(),
         raise.len(),
@@ -170,9 +168,10 @@ pub fn values(
     ) {
         return Gathered::Refused(Refusal::TooShort);
     }
-    if !lent_in_range(rows, figures, places, raise, lower, defaults) {
+    if !lent_in_range(units, figures, places, raise, lower, defaults) {
         return Gathered::Refused(Refusal::OutOfTurn);
     }
+    let rows = units as usize;
     let at = put_rows(
         field,
         direction,

@@ -1,82 +1,40 @@
 -- What the parts of RCR promise each other, and the laws that join them to the promise of the whole.
-use mathlib.Core.Path.{_≡_, refl, sym, _∙_, ap, ap₂}
+use mathlib.Core.Path.{_≡_, refl, _∙_, ap, ap₂}
 use mathlib.Core.Bool.{Bool, true, false, cond, not, _&&_, _||_}
-use mathlib.Core.List.{List, []}
-use Prim.Native.Nat.{ℕ, zero, suc, _+_, _*_, _/_, _%_, _≤_, _<_, max}
+use mathlib.Core.List.{List}
+use Prim.Native.Nat.{ℕ, _+_, _*_, _/_, _%_, _≤_, _<_, max}
 use native.Mathlib.Omega.{arith}
 use lib.Bits.{bitAnd, and-mask}
 use lib.Dec.{eqb, leb, ltb}
-use lib.IntN.{ℤ, pos, negsuc, negℤ, natAbs, _+ℤ_, _*ℤ_}
+use lib.IntN.{ℤ, pos, negsuc, natAbs, _+ℤ_, _*ℤ_}
 use lib.ListN.{length, getD}
-use lib.Signed.{ltZ, leZ}
+use lib.Signed.{ltZ}
 use mir.Syntax.{w64}
 use mir.Val.{SFits}
-use borrow.Author.Tests.{leb-true, leb-false, le-leb, lt-leb, ltb-true, ltb-false, lt-ltb, le-ltb}
+use borrow.Author.Tests.{leb-true, ltb-true}
 use Rattle.integers.specs.Bounds.{Within, within-natural, within-product, within-wider, fits-within, fits-wider}
-use Rattle.integers.specs.Pairs.{gain, loss, v, neg, le! }
-use Rattle.integers.specs.Tests.{le-leZ}
-use Rattle.integers.specs.Sums.{sum, sumℕ, count, every, largest, when, both, every-at, every-all, sum-step, sum-within, sumℕ-term}
+use Rattle.integers.specs.Pairs.{gain, loss}
+use Rattle.integers.specs.Sums.{sum, count, every, largest, when, both, every-at, every-all, sum-step, sum-within, sumℕ-term}
 use Rattle.rules.specs.declared.Direction.{Direction}
 use Rattle.rules.specs.declared.Direction.the-variants.{Raise, Lower}
-use Rattle.rules.specs.Quantities.{points, regions, measure-limit, amount-limit, deviation-limit, residual-default-limit}
+use Rattle.rules.specs.Quantities.{points, regions, measure-limit, amount-limit, deviation-limit}
 use Rattle.rules.specs.Bytes.{bit}
 use Rattle.rules.specs.Refusals.{taken}
 use Rattle.rules.specs.Book.{toward, Requirement}
-use Rattle.rules.specs.Fields.{sized, default-fine}
+use Rattle.rules.specs.Fields.{sized}
 use Rattle.rules.specs.RequirementRecord.{set-fine}
 use Rattle.rules.specs.LimitsLaws.{size-fits}
-use Rattle.interval.specs.Lent.{series-start, figures-each}
+use Rattle.interval.specs.Lent.{figures-each}
 use Rattle.kept.specs.Kept.{Kept, kept-rcr, kept-reliable, kept-few-bad}
 use Rattle.kept.specs.Range.{series-fine, figures-fine, rows-fine, kept-fine}
+use Rattle.ranges.specs.Lent.{lent, asked}
+use Rattle.ranges.specs.Series.{there, measures-here, sums-here}
+use Rattle.ranges.specs.Figures.{up-to, region-here}
+use Rattle.ranges.specs.Places.{places-fine}
 use Rattle.response.specs.declared.points.Sums.{Sums}
 use Rattle.response.specs.declared.units.Units.{Units}
 use Rattle.response.specs.declared.Response.the-variants.{Is}
-use Rattle.response.specs.Promises.{lent, asked, room, lent-fine, places-fine, fields-fine, lists-long, rcr-reply, RcrPromise}
-
--- ---- the five regions at a point
-abbrev pub there : List ℤ → ℕ → ℕ → ℤ
-there xs t r = getD xs (series-start r + t) (pos 0)
-
-abbrev pub measures-here : List ℤ → ℕ → Bool
-measures-here measures t = every regions (λ r. sized measure-limit (there measures t r))
-
-abbrev pub sums-here : ℕ → List ℤ → ℕ → Bool
-sums-here most sums t = leb (sumℕ regions (λ r. natAbs (there sums t r))) most
-
-abbrev pub series-here : ℕ → List ℤ → List ℤ → List ℤ → Bool
-series-here units measures positive negative = series-fine (lent units 0 measures positive negative [] [])
-
--- a size is told by both ends
-pub sized-between : (k : ℕ) (x : ℤ) → leZ (negℤ (pos k)) x && leZ x (pos k) ≡ sized k x
-sized-between k (pos n) = ap (λ (t : Bool). t && leb n k) (le-leZ (le! (neg (v (pos k))) (v (pos n)) (omega arith)))
-sized-between zero (negsuc n) = sym (lt-leb (suc n) 0 (omega arith))
-sized-between (suc k) (negsuc n) = swapped (leb n k) ∙ sym (same k n)
-  where
-    swapped : (t : Bool) → t && true ≡ t
-    swapped true = refl
-    swapped false = refl
-
-    same : (k n : ℕ) → leb (suc n) (suc k) ≡ leb n k
-    same k n = go (leb n k) refl
-      where
-        go : (t : Bool) → leb n k ≡ t → leb (suc n) (suc k) ≡ t
-        go true e = le-leb (suc n) (suc k) (omega (arith, leb-true n k e))
-        go false e = lt-leb (suc n) (suc k) (omega (arith, leb-false n k e))
-
--- ---- a region's figures, from where they start
-abbrev pub defaults-here : List ℤ → ℕ → Bool
-defaults-here figures start = every 6 (λ i. default-fine residual-default-limit (getD figures (start + (3 + i)) (pos 0)))
-
-abbrev pub up-to : ℕ → ℤ → Bool
-up-to limit x = leZ (pos 0) x && leZ x (pos limit)
-
-abbrev pub region-here : List ℤ → ℕ → Bool
-region-here figures start =
-    up-to amount-limit (getD figures (start + 0) (pos 0))
-    && (up-to 1 (getD figures (start + 1) (pos 0)) && (up-to 1 (getD figures (start + 2) (pos 0)) && defaults-here figures start))
-
-abbrev pub figures-here : List ℤ → Bool
-figures-here figures = figures-fine (lent 0 0 [] [] [] figures [])
+use Rattle.response.specs.Promises.{room, lent-fine, fields-fine, lists-long, rcr-reply, RcrPromise}
 
 -- ---- reliability: one figure for each direction
 abbrev pub reliable-place : Direction → ℕ
@@ -102,20 +60,6 @@ all-stand-is Lower set units percent measures positive negative figures places =
 -- ---- units by their places: the region is the place shifted by one, and a good unit's lowest bit is 1
 pub place-masked : (place : ℕ) → eqb (bitAnd place 1) 1 ≡ eqb (place % 2) 1
 place-masked place = ap (λ (y : ℕ). eqb y 1) (and-mask place 1)
-
--- every number is below k where the largest is
-both-below : (a b k : ℕ) → ltb (max a b) k ≡ ltb a k && ltb b k
-both-below a b k = go (ltb a k) refl (ltb b k) refl
-  where
-    go : (s : Bool) → ltb a k ≡ s → (t : Bool) → ltb b k ≡ t → ltb (max a b) k ≡ s && t
-    go true e true f = lt-ltb (max a b) k (omega (arith, ltb-true a k e, ltb-true b k f))
-    go true e false f = le-ltb (max a b) k (omega (arith, ltb-false b k f))
-    go false e t f = le-ltb (max a b) k (omega (arith, ltb-false a k e))
-
-pub largest-below : (n k : ℕ) (f : ℕ → ℕ) → 0 < k → ltb (largest n f) k ≡ every n (λ i. ltb (f i) k)
-unfolding largest every
-largest-below zero k f h = lt-ltb 0 k h
-largest-below (suc n) k f h = both-below (largest n f) (f n) k ∙ ap (λ (t : Bool). t && ltb (f n) k) (largest-below n k f h)
 
 pub record PlacesFine (units : ℕ) (places : List ℕ) : Type 0 where
   pub here : (i : ℕ) → i < units → getD places i 0 < 10

@@ -1,22 +1,25 @@
 // response: RCR, the requirement for corrective response, from what the calls of `interval` have kept of a book (document 01, RCR). Nothing
-// is written; raise and lower share their code. Lent numbers are tested first, then the reliability of the set's regions, their bad units,
-// and last the 75 points.
+// is written; raise and lower share their code. Lent numbers are tested first (by `ranges`), then the reliability of the set's regions, their
+// bad units, and last the 75 points.
 ghost use mathlib.Core.Path.{_≡_};
 ghost use mathlib.Core.Bool.{_&&_};
+ghost use Prim.Native.Nat.{_≤_};
 ghost use lib.Dec.{leb};
+ghost use lib.ListN.{length};
 ghost use Rattle.rules.specs.RequirementRecord.{set-fine};
-ghost use Rattle.response.specs.Promises.{RcrPromise, room};
+ghost use Rattle.ranges.specs.Lent.{lent};
+ghost use Rattle.response.specs.Promises.{RcrPromise, room, lent-fine};
 use points::largest_response;
-use range::lent_in_range;
+use ranges::figures::figures_in_range;
+use ranges::places::places_in_range;
+use ranges::series::series_in_range;
 use regions::all_reliable;
 use rules::Direction;
 use rules::Refusal;
 use units::few_bad;
 
 mod points;
-pub mod range;
 mod regions;
-mod sizes;
 mod units;
 
 const POINTS: usize = 75;
@@ -83,6 +86,27 @@ fn lists_long(
         return false;
     }
     units <= places
+}
+
+// Every lent number that RCR reads.
+fn lent_in_range(
+    units: u16,
+    measures: &[i64],
+    positive: &[i64],
+    negative: &[i64],
+    figures: &[i64],
+    places: &[u8],
+) -> bool
+    requires { ⌜ (375 ≤ length (now measures)) × (375 ≤ length (now positive)) × (375 ≤ length (now negative)) × (45 ≤ length (now figures)) × (units ≤ length (now places)) ⌝ }
+    ensures { λ r. ⌜ r ≡ lent-fine (lent units 0 (now (measures .entry)) (now (positive .entry)) (now (negative .entry)) (now (figures .entry)) (now (places .entry))) ⌝ }
+{
+    if !series_in_range(units, measures, positive, negative) {
+        return false;
+    }
+    if !figures_in_range(figures) {
+        return false;
+    }
+    places_in_range(units, places)
 }
 
 // RCR of a requirement with that direction and region set. Refuses 11 for fields out of range, then 12 for short lists, then 11 for lent

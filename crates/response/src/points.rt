@@ -1,6 +1,6 @@
 // RCR's 75 points. Every number has been tested, so these ask for bounds and test none again.
 ghost use mathlib.Core.Path.{_≡_};
-ghost use Prim.Native.Nat.{_<_};
+ghost use Prim.Native.Nat.{_<_, max};
 ghost use lib.IntN.{pos};
 ghost use lib.Signed.{ltZ};
 ghost use Rattle.integers.specs.Sums.{when};
@@ -11,9 +11,8 @@ use super::GENERATION;
 use super::POINTS;
 use super::REGIONS;
 use super::regions::covered;
-use super::sizes::above;
-use super::sizes::below;
-use super::sizes::larger;
+use ranges::sizes::above;
+use ranges::sizes::below;
 use rules::Direction;
 
 // Over the set's regions, at one point: generation times FM, and the sums of positive and of negative deviations.
@@ -41,6 +40,15 @@ fn right_sign(direction: Direction, weighed: i64) -> bool
         Direction::Raise => 0 < weighed,
         Direction::Lower => weighed < 0,
     }
+}
+
+fn larger(a: u64, b: u64) -> u64
+    ensures { λ r. ⌜ r ≡ max a b ⌝ }
+{
+    if a < b {
+        return b;
+    }
+    a
 }
 
 fn sums_at(

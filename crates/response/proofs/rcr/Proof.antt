@@ -7,7 +7,8 @@ use lib.Dec.{leb}
 use lib.ListN.{length}
 use Rattle.rules.specs.RequirementRecord.{set-fine}
 use Rattle.kept.specs.Kept.{kept-reliable, kept-few-bad}
-use Rattle.response.specs.Promises.{lent, asked, room, lent-fine, rcr-reply}
+use Rattle.ranges.specs.Lent.{lent, asked}
+use Rattle.response.specs.Promises.{room, lent-fine, rcr-reply}
 use Rattle.response.specs.Laws.{Passed, Told, told, fine-at-any, all-stand-is, passed-ready, passed-places, passed-reply, rcr-unreliable, rcr-many-bad, rcr-of-points}
 use Rattle.response.proofs.rcr.Statement.{statement}
 use Rattle.response.proofs.rcr.Tie as tie

@@ -1,10 +1,9 @@
 -- Before a region the residual is that of the regions passed.
-use mathlib.Core.Path.{_≡_, refl, sym, ap₂}
-use Prim.Native.Nat.{ℕ, _-_, _≤_}
+use mathlib.Core.Path.{_≡_}
+use Prim.Native.Nat.{_-_, _≤_}
 use native.Mathlib.Omega.{arith}
-use Rattle.integers.specs.Sums.{sum-none, every-none}
 use Rattle.members.specs.Made.{residual-to}
-use Rattle.members.specs.Residual.{same-member, none-yet}
+use Rattle.members.specs.Residual.{none-yet}
 use Rattle.members.proofs.residual.residual_member.Statement.{statement}
 use Rattle.members.proofs.residual.residual_member.Tie as tie
 

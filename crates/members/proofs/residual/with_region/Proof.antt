@@ -1,8 +1,6 @@
 -- A region that is not of the set leaves the residual as it is; one of the set joins it.
-use mathlib.Core.Path.{_≡_, sym, _∙_}
-use mathlib.Core.Bool.{true, false}
+use mathlib.Core.Path.{sym, _∙_}
 use borrow.Author.Tests.{not-true, not-false}
-use Rattle.rules.specs.Bytes.{bit}
 use Rattle.members.specs.Residual.{Joins, joins, same-member, added-fits, added-back, residual-stays}
 use borrow.Author.Needs.{needs}
 use Rattle.members.proofs.residual.with_region.Statement.{statement}

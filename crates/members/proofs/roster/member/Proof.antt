@@ -1,16 +1,15 @@
--- The tests in their order; past them the row's number and standing, or another region's.
+-- The tests in their order; past them the row by its number and place.
 use mathlib.Core.Path.{_≡_, sym, _∙_, ap}
 use mathlib.Core.Bool.{true, _&&_}
-use Prim.Native.Nat.{ℕ, _≤_, _<_}
+use Prim.Native.Nat.{_≤_}
 use lib.Dec.{leb}
-use lib.ListN.{length, getD}
+use lib.ListN.{length}
 use native.Mathlib.Omega.{arith}
 use borrow.Author.Needs.{needs}
 use borrow.Author.Tests.{le-ltb, lt-ltb, not-true, not-false}
 use Rattle.rules.specs.RequirementRecord.{set-fine}
-use Rattle.rules.specs.declared.Standing.{Standing}
-use Rattle.members.specs.declared.Row.the-variants.{Unit}
-use Rattle.members.specs.Roster.{roster-room, roster-room-means, place-fine, place-means, member-reply, kept-roster, standing-of-row}
+use Rattle.ranges.specs.Lent.{asked}
+use Rattle.members.specs.Roster.{roster-room, roster-room-means, member-reply, kept-roster, row-answer, row-told-is}
 use Rattle.members.proofs.roster.member.Statement.{statement}
 use Rattle.members.proofs.roster.member.Tie as tie
 
@@ -28,12 +27,6 @@ long c = sym (c .before .roster-long .ensures) ∙ not-false _ (c .if3 .left)
 
 room : (c : tie.Else3) → let a = start c .args in (45 ≤ length (a .figures .now)) × (a .units ≤ length (a .numbers .now)) × (a .units ≤ length (a .places .now))
 room c = let a = start c .args in roster-room-means (a .units) (length (a .figures .now)) (length (a .numbers .now)) (length (a .places .now)) (long c)
-
-fine : (c : tie.Else4) → let a = start (c .before .before .before) .args in place-fine (a .direction) (getD (a .places .now) (a .row) 0) (a .figures .now) ≡ true
-fine c = sym (c .before .place-in-range .ensures) ∙ not-false _ (c .if4 .left)
-
-placed : (c : tie.Else4) → let a = start (c .before .before .before) .args in getD (a .places .now) (a .row) 0 < 10
-placed c = let a = start (c .before .before .before) .args in place-means (a .direction) (getD (a .places .now) (a .row) 0) (a .figures .now) (fine c)
 
 asked-in-range-requires : tie.Need-asked-in-range-requires
 asked-in-range-requires c κs = search needs
@@ -55,50 +48,26 @@ returns-3 c =
     let e = c .before .before in
     record { reply = rw (asked-well (e .before), lt-ltb _ _ (e .if2 .left), sym (c .before .roster-long .ensures) ∙ not-true _ (c .if3 .taken)) }
 
-shared-slice-read-place : tie.Need-shared-slice-read-place
-shared-slice-read-place c = omega (arith, room (c .before) .2)
+mul-unit-or-other : tie.Need-mul-unit-or-other
+mul-unit-or-other c = search needs
 
-place-in-range-requires : tie.Need-place-in-range-requires
-place-in-range-requires c κs = room (c .before) .0
+shared-slice-read-unit-or-other : tie.Need-shared-slice-read-unit-or-other
+shared-slice-read-unit-or-other c = omega (arith, room (c .before) .1)
+
+shared-slice-read-unit-or-other-2 : tie.Need-shared-slice-read-unit-or-other-2
+shared-slice-read-unit-or-other-2 c = omega (arith, room (c .before .before) .2)
+
+unit-or-other-requires : tie.Need-unit-or-other-requires
+unit-or-other-requires c κs = room (c .before .before) .0
 
 returns-4 : tie.Need-returns-4
 unfolding member-reply
 returns-4 c =
     let f = c .before .before .before in
     let e = f .before .before in
-    record { reply = rw (asked-well (e .before), lt-ltb _ _ (e .if2 .left), long f, sym (c .before .place-in-range .ensures) ∙ not-true _ (c .if4 .taken)) }
-
-covers-requires : tie.Need-covers-requires
-covers-requires c κs = omega (arith, placed c)
-
-returns-5 : tie.Need-returns-5
-unfolding member-reply
-returns-5 c =
-    let g = c .before .before in
-    let f = g .before .before .before in
-    let e = f .before .before in
-    record { reply = rw (asked-well (e .before), lt-ltb _ _ (e .if2 .left), long f, fine g, sym (c .before .covers .ensures) ∙ not-true _ (c .if5 .taken)) }
-
-mul-number : tie.Need-mul-number
-mul-number c = search needs
-
-shared-slice-read-number : tie.Need-shared-slice-read-number
-shared-slice-read-number c = omega (arith, room (c .before .before .before .before .before .before) .1)
-
-row-standing-requires : tie.Need-row-standing-requires
-row-standing-requires c κs = (placed (c .before .before .before), room (c .before .before .before .before .before .before) .0)
-
-returns-6 : tie.Need-returns-6
-unfolding member-reply
-returns-6 c =
-    let h = c .before .before in
-    let g = h .before .before in
-    let f = g .before .before .before in
-    let e = f .before .before in
     let a = S (e .before) .args in
-    let k = kept-roster (a .units) (a .figures .now) (a .numbers .now) (a .places .now) in
     record {
-      reply = rw (asked-well (e .before), lt-ltb _ _ (e .if2 .left), long f, fine g, sym (h .before .covers .ensures) ∙ not-false _ (h .if5 .left)) (ap (λ (s : Standing). Unit (getD (a .numbers .now) (a .row) 0) s) (c .row-standing .ensures ∙ standing-of-row k (a .direction) (a .row)));
+      reply = rw (asked-well (e .before), lt-ltb _ _ (e .if2 .left), long f) (c .unit-or-other .ensures ∙ ap row-answer (row-told-is (kept-roster (a .units) (a .figures .now) (a .numbers .now) (a .places .now)) (asked (a .direction) (a .set)) (a .row)));
     }
 
 pub member-spec : {M : Type 1} → statement M
@@ -110,12 +79,8 @@ member-spec =
     returns-2
     roster-long-requires
     returns-3
-    shared-slice-read-place
-    place-in-range-requires
-    returns-4
-    covers-requires
-    returns-5
-    mul-number
-    shared-slice-read-number
-    row-standing-requires
-    returns-6)
+    mul-unit-or-other
+    shared-slice-read-unit-or-other
+    shared-slice-read-unit-or-other-2
+    unit-or-other-requires
+    returns-4)

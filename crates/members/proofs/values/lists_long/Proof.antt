@@ -14,7 +14,7 @@ rows-fit-requires : tie.Need-rows-fit-requires
 rows-fit-requires c κs = search needs
 
 returns-3 : tie.Need-returns-3
-returns-3 c = rw (le-leb _ _ (c .before .before .if1 .left), lt-ltb _ _ (c .before .if2 .left)) (c .rows-fit .ensures)
+returns-3 c = rw (le-leb _ _ (c .before .before .if1 .left), lt-ltb _ _ (c .before .if2 .left)) (c .rows-fit .ensures .told)
 
 pub lists-long-spec : {M : Type 1} → statement M
 lists-long-spec = tie.close (tie.spec returns returns-2 rows-fit-requires returns-3)

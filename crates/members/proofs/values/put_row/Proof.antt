@@ -1,5 +1,5 @@
 -- A row of another region leaves all as it is; else its number is stored.
-use mathlib.Core.Path.{_≡_, refl, sym, _∙_, ap}
+use mathlib.Core.Path.{sym, _∙_, ap}
 use borrow.Author.Needs.{needs, sfits-of}
 use borrow.Author.Tests.{not-true, not-false}
 use lib.IntN.{ℤ}

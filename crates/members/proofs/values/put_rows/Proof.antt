@@ -1,6 +1,6 @@
 -- Before a row the numbers of the rows passed stand at the front, and they are no more than the rows.
 use mathlib.Core.Path.{_≡_, _∙_, ap}
-use Prim.Native.Nat.{ℕ, _+_, _-_, _≤_}
+use Prim.Native.Nat.{_-_, _≤_}
 use native.Mathlib.Omega.{arith}
 use lib.ListN.{length}
 use Rattle.members.specs.Lists.{headed-length}

@@ -1,9 +1,8 @@
 -- The tests in their order; past them the rows' numbers stand at the front of the column, and the residual's is stored behind them.
-use mathlib.Core.Path.{_≡_, refl, sym, _∙_, ap, ap₂}
+use mathlib.Core.Path.{_≡_, sym, _∙_, ap, ap₂}
 use mathlib.Core.Bool.{true, _&&_}
-use Prim.Native.Nat.{ℕ, _+_, _≤_, _<_}
+use Prim.Native.Nat.{ℕ, _≤_, _<_}
 use lib.Dec.{leb}
-use lib.IntN.{ℤ}
 use lib.ListN.{length, set}
 use native.Mathlib.Omega.{arith}
 use borrow.Author.Needs.{needs, sfits-of}
@@ -12,15 +11,15 @@ use mir.Facts.{toZ-ofZ}
 use Rattle.integers.specs.Sums.{both}
 use Rattle.rules.specs.declared.Standing.{Standing}
 use Rattle.rules.specs.RequirementRecord.{set-fine}
-use Rattle.kept.specs.Kept.{Kept, kept-members}
+use Rattle.kept.specs.Kept.{Kept}
 use Rattle.kept.specs.Range.{figures-fine, rows-fine}
-use Rattle.response.specs.Promises.{asked}
+use Rattle.ranges.specs.Lent.{kept-rows, asked}
+use Rattle.ranges.specs.Rows.{room-means}
 use Rattle.members.specs.declared.Gathered.the-variants.{Are}
 use Rattle.members.specs.declared.Member.{Member}
 use Rattle.members.specs.Made.{picked, residual-shown}
-use Rattle.members.specs.Range.{kept-rows, room-means}
 use Rattle.members.specs.Lists.{headed-length}
-use Rattle.members.specs.Values.{values-room, Roomy, values-room-means, values-reply, values-taken, gathered-of, Fine, all-fine, with-residual}
+use Rattle.members.specs.Values.{values-room, Roomy, values-room-means, values-reply, values-taken, Fine, all-fine, with-residual}
 use Rattle.members.proofs.values.values.Statement.{statement}
 use Rattle.members.proofs.values.values.Tie as tie
 
@@ -33,8 +32,11 @@ asked-well c = sym (c .before .asked-in-range .ensures) ∙ not-false _ (c .if1 
 few : (c : tie.Else1) → S c .args .units ≤ 512
 few c = leb-true _ _ (both (leb (S c .args .units) 512) _ (asked-well c) .0)
 
+long-told : (c : tie.After-lists-long) → let a = S (c .before) .args in values-room (a .units) (length (a .figures .now)) (length (a .places .now)) (length (a .raise .now)) (length (a .lower .now)) (length (a .defaults .now)) (length (a .column .now)) ≡ c .lists-long .result
+long-told c = sym (c .lists-long .ensures)
+
 long : (c : tie.Else2) → let a = S (c .before .before) .args in values-room (a .units) (length (a .figures .now)) (length (a .places .now)) (length (a .raise .now)) (length (a .lower .now)) (length (a .defaults .now)) (length (a .column .now)) ≡ true
-long c = sym (c .before .lists-long .ensures) ∙ not-false _ (c .if2 .left)
+long c = long-told (c .before) ∙ not-false _ (c .if2 .left)
 
 room : (c : tie.Else2) → let a = S (c .before .before) .args in Roomy (a .units) (length (a .figures .now)) (length (a .places .now)) (length (a .raise .now)) (length (a .lower .now)) (length (a .defaults .now)) (length (a .column .now))
 room c = let a = S (c .before .before) .args in values-room-means (a .units) (length (a .figures .now)) (length (a .places .now)) (length (a .raise .now)) (length (a .lower .now)) (length (a .defaults .now)) (length (a .column .now)) (long c)
@@ -45,8 +47,11 @@ start c = S (c .before .before .before .before)
 abbrev kept : tie.Else3 → Kept
 kept c = let a = start c .args in kept-rows (a .units) (a .figures .now) (a .places .now) (a .raise .now) (a .lower .now) (a .defaults .now)
 
+lent-told : (c : tie.After-lent-in-range) → let a = S (c .before .before .before) .args in let k = kept-rows (a .units) (a .figures .now) (a .places .now) (a .raise .now) (a .lower .now) (a .defaults .now) in (figures-fine k && rows-fine k) ≡ c .lent-in-range .result
+lent-told c = sym (c .lent-in-range .ensures)
+
 lent : (c : tie.Else3) → (figures-fine (kept c) && rows-fine (kept c)) ≡ true
-lent c = sym (c .before .lent-in-range .ensures) ∙ not-false _ (c .if3 .left)
+lent c = lent-told (c .before) ∙ not-false _ (c .if3 .left)
 
 fine : (c : tie.Else3) → let a = start c .args in Fine (a .units) (a .figures .now) (a .places .now) (a .raise .now) (a .lower .now) (a .defaults .now)
 fine c = let m = room (c .before .before) in all-fine (kept c) (few (c .before .before .before .before)) (m .figures) (m .rows) (lent c)
@@ -68,13 +73,13 @@ returns c =
     record { reply = rw e; column = rw e }
 
 lists-long-requires : tie.Need-lists-long-requires
-lists-long-requires c κs = few c
+lists-long-requires c κs = search needs
 
 returns-2 : tie.Need-returns-2
 unfolding values-reply
 returns-2 c =
     let a = asked-well (c .before .before) in
-    let e = sym (c .before .lists-long .ensures) ∙ not-true _ (c .if2 .taken) in
+    let e = long-told (c .before) ∙ not-true _ (c .if2 .taken) in
     record { reply = rw (a, e); column = rw (a, e) }
 
 lent-in-range-requires : tie.Need-lent-in-range-requires
@@ -89,7 +94,7 @@ unfolding values-reply
 returns-3 c =
     let a = asked-well (c .before .before .before .before) in
     let b = long (c .before .before) in
-    let e = sym (c .before .lent-in-range .ensures) ∙ not-true _ (c .if3 .taken) in
+    let e = lent-told (c .before) ∙ not-true _ (c .if3 .taken) in
     record { reply = rw (a, b, e); column = rw (a, b, e) }
 
 put-rows-requires : tie.Need-put-rows-requires

@@ -11,7 +11,8 @@ use mir.Val.{SFits, toZ}
 use mir.Facts.{toZ-ofZ}
 use Rattle.integers.specs.Sums.{sum, sum-none, when}
 use Rattle.rules.specs.Quantities.{regions}
-use Rattle.response.specs.Laws.{there, weighed-part, sum-part, Turn, product-fits, weighed-turn, positive-turn, negative-turn}
+use Rattle.ranges.specs.Series.{there}
+use Rattle.response.specs.Laws.{weighed-part, sum-part, Turn, product-fits, weighed-turn, positive-turn, negative-turn}
 use Rattle.response.proofs.points.sums_at.Statement.{statement}
 use Rattle.response.proofs.points.sums_at.Tie as tie
 
