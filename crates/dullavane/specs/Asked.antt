@@ -1,5 +1,5 @@
 -- What is asked once every unit is in: who stands in a row of the roster.
-use mathlib.Core.Path.{_≡_, refl}
+use mathlib.Core.Path.{_≡_, refl, sym, _∙_, ap}
 use mathlib.Core.Bool.{Bool, true, false, _&&_}
 use mathlib.Core.List.{List, [], _∷_}
 use Prim.Native.Nat.{ℕ, zero, suc, _≤_, _<_}
@@ -21,7 +21,7 @@ use Rattle.interval.specs.Tally.{in-range, answer-turn}
 use Rattle.members.specs.declared.Row.{Row}
 use Rattle.members.specs.declared.Row.the-variants as w
 use Rattle.members.specs.Roster.{MemberPromise, member-only}
-use Rattle.dullavane.specs.Words.{held}
+use Rattle.dullavane.specs.Words.{held, reply-number, Held, held-means}
 use Rattle.dullavane.specs.Called.{Called, alone-only}
 
 -- the tally at its turn, what is asked in range, and room for the answer
@@ -73,24 +73,45 @@ module _ (ts : List ℕ) (row direction set : ℕ) (figures : List ℤ) (numbers
       alone-only row-number row-after _ (λ t s s₂ x y. member-only _ _ _ _ _ _ _ x y) ws _ _ _ _ _ (a .answer) (b .answer)
 
 -- ---- laws
--- a tally that is ready: what is asked is in range, and there is room
-pub record Ready (fine room : Bool) : Type 0 where
+-- a tally that is ready: the words hold it, what is asked is in range, and there is room
+pub record Ready (ws : List ℕ) (fine room : Bool) : Type 0 where
+  pub in-words : Held ws
+  pub as-held : ready ws fine room ≡ held ws
   pub asked : fine ≡ true
   pub roomy : room ≡ true
 
-pub ready-means : (ws : List ℕ) (fine room : Bool) (t : Tally) → ready ws fine room ≡ taken t → Ready fine room
+pub ready-means : (ws : List ℕ) (fine room : Bool) {r : ℕ} → r ≡ reply-number (ready ws fine room) → r ≡ 0 → Ready ws fine room
 unfolding ready in-turn
-ready-means ws fine room t e = go (held ws) e
+ready-means ws fine room e none = go (held ws) refl (sym e ∙ none)
   where
-    last : (turn fine room : Bool) (u : Tally) → unless turn OutOfTurn (unless fine OutOfTurn (unless room TooShort (taken u))) ≡ taken t → Ready fine room
-    last true true true u e = record { asked = refl; roomy = refl }
-    last true true false u e = let z : _≡_ {A = ℕ} 0 1 = cc in absurd (omega arith)
-    last true false room u e = let z : _≡_ {A = ℕ} 0 1 = cc in absurd (omega arith)
-    last false fine room u e = let z : _≡_ {A = ℕ} 0 1 = cc in absurd (omega arith)
+    last : (turn fine room : Bool) (t : Tally) → let y = unless turn OutOfTurn (unless fine OutOfTurn (unless room TooShort (taken t))) in reply-number y ≡ 0 → (y ≡ taken t) × (fine ≡ true) × (room ≡ true)
+    last true true true t e = (refl, refl, refl)
+    last true true false t e = absurd (omega arith)
+    last true false room t e = absurd (omega arith)
+    last false fine room t e = absurd (omega arith)
 
-    go : (y : Reply Tally) → (y >>= in-turn fine room) ≡ taken t → Ready fine room
-    go (taken u) e = last (in-range u && answer-turn u) fine room u e
-    go (refused r) e = let z : _≡_ {A = ℕ} 0 1 = cc in absurd (omega arith)
+    go : (y : Reply Tally) → held ws ≡ y → reply-number (y >>= in-turn fine room) ≡ 0 → Ready ws fine room
+    go (taken t) h e =
+        let l = last (in-range t && answer-turn t) fine room t e in
+        record { in-words = held-means ws (ap reply-number (sym h)) refl; as-held = rw h (l .0); asked = l .1; roomy = l .2 }
+    go (refused r) h e =
+        let t = held-means ws (ap reply-number (sym h)) e .tally in
+        let z : _≡_ {A = ℕ} 0 1 = cc in
+        absurd (omega arith)
+
+-- by what the tests say of the tally that the words hold
+pub ready-number : (ws : List ℕ) (fine room : Bool) {t : Tally} {x f m : Bool} → held ws ≡ taken t → (in-range t && answer-turn t) ≡ x → fine ≡ f → room ≡ m → reply-number (unless x OutOfTurn (unless f OutOfTurn (unless m TooShort (taken t)))) ≡ reply-number (ready ws fine room)
+unfolding ready in-turn
+ready-number ws fine room h a b d = rw (h, a, b, d)
+
+-- where the words hold no tally, that is the answer
+pub unready-held : (ws : List ℕ) (fine room : Bool) → (reply-number (held ws) ≡ 0 → ⊥) → reply-number (held ws) ≡ reply-number (ready ws fine room)
+unfolding ready
+unready-held ws fine room some = go (held ws) some
+  where
+    go : (y : Reply Tally) → (reply-number y ≡ 0 → ⊥) → reply-number y ≡ reply-number (y >>= in-turn fine room)
+    go (taken t) some = absurd (some refl)
+    go (refused r) some = refl
 
 pub record AskedNarrow (row direction set : ℕ) : Type 0 where
   pub row-fits : row < 65_536

@@ -1,11 +1,12 @@
 -- What a call over words promises, by one form for all: the call below the boundary on the tally that the words hold, its answer told as a number and
 -- as words. Where there is no tally to call it on, the refusal is told, and all that is lent stays.
-use mathlib.Core.Path.{_≡_, sym, _∙_, ap, subst⁻¹}
+use mathlib.Core.Path.{_≡_, refl, sym, _∙_, ap, subst⁻¹}
 use mathlib.Core.List.{List}
 use Prim.Native.Nat.{ℕ}
 use Rattle.rules.specs.declared.Refusal.{Refusal}
 use Rattle.rules.specs.Refusals.{Reply, taken, refused, number}
 use Rattle.interval.specs.declared.Tally.{Tally}
+use Rattle.dullavane.specs.Words.{reply-number}
 
 -- S is what the call below answers; told is its number, after the words that it leaves of those that were there
 module _ {S : Type 0} (told : S → ℕ) (after : S → List ℕ → List ℕ) where
@@ -27,14 +28,16 @@ Called told after Call Kept (refused refusal) ws r ws′ = Unheld Kept refusal w
 
 module _ {S : Type 0} (told : S → ℕ) (after : S → List ℕ → List ℕ) where
   -- by what the words hold
-  module _ (Call : Tally → S → Type 0) (Kept : Type 0) (ws : List ℕ) {r : ℕ} {ws′ : List ℕ} {y : Reply Tally} where
-    pub was-held : {t : Tally} → y ≡ taken t → Stepped told after (Call t) ws r ws′ → Called told after Call Kept y ws r ws′
+  module _ (Call : Tally → S → Type 0) (Kept : Type 0) (ws : List ℕ) where
+    pub was-held : {y : Reply Tally} {t : Tally} {s : S} {r : ℕ} {ws′ : List ℕ} → y ≡ taken t → Call t s → (r ≡ told s) × (ws′ ≡ after s ws) → Called told after Call Kept y ws r ws′
     unfolding Called
-    was-held e s = subst⁻¹ (λ (z : Reply Tally). Called told after Call Kept z ws r ws′) e s
+    was-held {s = s} {r = r} {ws′ = ws′} e call answered =
+        subst⁻¹ (λ (z : Reply Tally). Called told after Call Kept z ws r ws′) e (record { step = s; call = call; reply = answered .0; words = answered .1 })
 
-    pub was-unheld : {refusal : Refusal} → y ≡ refused refusal → Unheld Kept refusal ws r ws′ → Called told after Call Kept y ws r ws′
+    pub was-unheld : (y : Reply Tally) {r : ℕ} → r ≡ reply-number y → (r ≡ 0 → ⊥) → Kept → Called told after Call Kept y ws r ws
     unfolding Called
-    was-unheld e s = subst⁻¹ (λ (z : Reply Tally). Called told after Call Kept z ws r ws′) e s
+    was-unheld (taken t) e some kept = absurd (some e)
+    was-unheld (refused refusal) e some kept = record { reply = e; words = refl; kept = kept }
 
   -- any two answers that such a promise allows are equal, and with them what else is lent, if those of the call below are
   module _ (Call Call₂ : Tally → S → Type 0) (Kept Kept₂ Same : Type 0) (by-call : (t : Tally) (s s₂ : S) → Call t s → Call₂ t s₂ → (s ≡ s₂) × Same) (by-keeping : Kept → Kept₂ → Same) where

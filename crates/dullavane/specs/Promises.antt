@@ -1,21 +1,22 @@
 -- What each call that takes a record promises, completely. Primed lists are what the call leaves.
-use mathlib.Core.Path.{_≡_, refl, sym, _∙_, ap}
-use mathlib.Core.Bool.{Bool, true, false}
+use mathlib.Core.Path.{_≡_, refl, sym, _∙_}
 use mathlib.Core.List.{List}
-use Prim.Native.Nat.{ℕ}
+use Prim.Native.Nat.{ℕ, _≤_, _<_}
+use borrow.Author.Tests.{le-leb, lt-leb}
 use lib.Dec.{leb}
 use lib.IntN.{ℤ}
 use lib.ListN.{length}
 use Rattle.rules.specs.declared.Refusal.the-variants.{TooShort}
-use Rattle.rules.specs.Refusals.{Reply, taken, refused, unless}
+use Rattle.rules.specs.Refusals.{Reply, taken, refused, unless, number}
 use Rattle.rules.specs.Contents.{Counts, contents}
 use Rattle.interval.specs.declared.Tally.{Tally}
 use Rattle.interval.specs.declared.Opened.{Opened}
+use Rattle.interval.specs.declared.Opened.the-variants.{Taken, Refused}
 use Rattle.interval.specs.declared.Step.{Step}
 use Rattle.interval.specs.Calls.{fresh, opened, left}
 use Rattle.interval.specs.Promises.{SettingsPromise, settings-only, FrequencyPromise, frequency-only, UnitPromise, unit-only, RequirementPromise, requirement-only}
 use Rattle.dullavane.specs.Called.{Called, called-only, alone-only}
-use Rattle.dullavane.specs.Words.{tally-words, with-words, held, opened-reply, started, reply-number, told, words-after}
+use Rattle.dullavane.specs.Words.{tally-words, with-words, held, reply-number, told, words-after}
 
 -- ---- contents: a tally of the counts that the table announces, where there are eight words for it
 abbrev pub contents-reply : List ℕ → List ℕ → Reply Counts
@@ -28,23 +29,27 @@ pub record ContentsCalled (part ws : List ℕ) (r : ℕ) (ws′ : List ℕ) : Ty
 pub dullavane-contents-only : {part ws : List ℕ} {r r₂ : ℕ} {ws′ ws₂ : List ℕ} → ContentsCalled part ws r ws′ → ContentsCalled part ws r₂ ws₂ → (r ≡ r₂) × (ws′ ≡ ws₂)
 dullavane-contents-only a b = (a .reply ∙ sym (b .reply), a .tally ∙ sym (b .tally))
 
--- from what the call of `interval` starts
-module _ (part ws : List ℕ) where
-  pub contents-told : {o : Opened} → o ≡ opened (contents part) → reply-number (started o ws) ≡ reply-number (contents-reply part ws)
-  contents-told e = ap (λ (o : Opened). reply-number (started o ws)) e ∙ go (leb tally-words (length ws)) (contents part)
-    where
-      go : (x : Bool) (y : Reply Counts) → reply-number (unless x TooShort (opened-reply (opened y))) ≡ reply-number (unless x TooShort y)
-      go true (taken c) = refl
-      go true (refused r) = refl
-      go false y = refl
+-- from the room for a tally, and from what the call of `interval` starts
+abbrev pub opened-reply : Opened → Reply Tally
+opened-reply (Taken t) = taken t
+opened-reply (Refused r) = refused r
 
-  pub contents-left : {o : Opened} → o ≡ opened (contents part) → left with-words (started o ws) ws ≡ left (λ c. with-words (fresh c)) (contents-reply part ws) ws
-  contents-left e = ap (λ (o : Opened). left with-words (started o ws) ws) e ∙ go (leb tally-words (length ws)) (contents part)
+module _ (part ws : List ℕ) where
+  pub contents-short : length ws < tally-words → {r : ℕ} → r ≡ number TooShort → ContentsCalled part ws r ws
+  contents-short short e = let l = lt-leb tally-words (length ws) short in record { reply = e ∙ rw l; tally = rw l }
+
+  pub contents-opened : tally-words ≤ length ws → (opening : Opened) {r : ℕ} {ws′ : List ℕ} → opening ≡ opened (contents part) → r ≡ reply-number (opened-reply opening) → ws′ ≡ left with-words (opened-reply opening) ws → ContentsCalled part ws r ws′
+  contents-opened long opening e told left-in =
+      let l = le-leb tally-words (length ws) long in
+      record { reply = told ∙ rw (e, l) (same-number (contents part)); tally = left-in ∙ rw (e, l) (same-words (contents part)) }
     where
-      go : (x : Bool) (y : Reply Counts) → left with-words (unless x TooShort (opened-reply (opened y))) ws ≡ left (λ c. with-words (fresh c)) (unless x TooShort y) ws
-      go true (taken c) = refl
-      go true (refused r) = refl
-      go false y = refl
+      same-number : (y : Reply Counts) → reply-number (opened-reply (opened y)) ≡ reply-number y
+      same-number (taken c) = refl
+      same-number (refused r) = refl
+
+      same-words : (y : Reply Counts) → left with-words (opened-reply (opened y)) ws ≡ left (λ c. with-words (fresh c)) y ws
+      same-words (taken c) = refl
+      same-words (refused r) = refl
 
 -- ---- calls that lend nothing but the tally's words
 pub record SettingsCalled (ws part : List ℕ) (r : ℕ) (ws′ : List ℕ) : Type 0 where

@@ -1,22 +1,19 @@
 -- The tally as the firmware holds it: eight words, in the order of its fields. A word over its field's width is a tally out of range (01, Numbers the box
 -- can say no with); without eight words there is no tally to judge, so 12 is told first.
-use mathlib.Core.Path.{_≡_, refl}
+use mathlib.Core.Path.{_≡_, refl, sym, _∙_, ap}
 use mathlib.Core.Bool.{Bool, true, false, _&&_}
 use mathlib.Core.List.{List, [], _∷_, _++_}
 use Prim.Native.Nat.{ℕ, _≤_, _<_}
 use native.Mathlib.Omega.{arith}
 use lib.Dec.{leb, ltb}
 use lib.ListN.{length, getD, set, drop}
-use borrow.Author.Tests.{leb-true, ltb-true}
+use borrow.Author.Tests.{leb-true, ltb-true, lt-ltb}
 use Rattle.integers.specs.Sums.{both}
-use Rattle.rules.specs.declared.Refusal.{Refusal}
 use Rattle.rules.specs.declared.Refusal.the-variants.{OutOfTurn, TooShort}
 use Rattle.rules.specs.Refusals.{Reply, taken, refused, unless, number}
 use Rattle.interval.specs.declared.Tally.{Tally}
 use Rattle.interval.specs.declared.Step.{Step}
-use Rattle.interval.specs.declared.Opened as o
 use Rattle.interval.specs.declared.Taking as k
-use Rattle.dullavane.specs.declared.words.Held as h
 
 -- how many words a tally takes
 abbrev pub tally-words : ℕ
@@ -44,34 +41,23 @@ tally-of ws =
     }
 
 -- each word within its field's width: 16, 16, 16, 32, 16, 8, 8 and 32 bits; no word passes 32
-abbrev pub words-narrow : ℕ → ℕ → ℕ → ℕ → ℕ → ℕ → Bool
-words-narrow units requirements records smoothing limit percent =
-    ltb units 65_536
-    && (ltb requirements 65_536 && (ltb records 65_536 && (ltb smoothing 65_536 && (ltb limit 256 && ltb percent 256))))
-
-abbrev pub words-fit : List ℕ → Bool
-words-fit ws = words-narrow (getD ws 0 0) (getD ws 1 0) (getD ws 2 0) (getD ws 4 0) (getD ws 5 0) (getD ws 6 0)
+unfoldable pub words-fit : List ℕ → Bool
+words-fit ws =
+    ltb (getD ws 0 0) 65_536
+    && (ltb (getD ws 1 0) 65_536
+    && (ltb (getD ws 2 0) 65_536
+    && (ltb (getD ws 4 0) 65_536
+    && (ltb (getD ws 5 0) 256
+    && ltb (getD ws 6 0) 256))))
 
 -- the tally that words hold, or why they hold none
 unfoldable pub held : List ℕ → Reply Tally
 held ws = unless (leb tally-words (length ws)) TooShort (unless (words-fit ws) OutOfTurn (taken (tally-of ws)))
 
-abbrev pub held-as : Reply Tally → h.Held
-held-as (taken t) = h.the-variants.Is t
-held-as (refused r) = h.the-variants.Refused r
-
--- ---- after the table of contents: without eight words there is no room for a tally
-abbrev pub opened-reply : o.Opened → Reply Tally
-opened-reply (o.the-variants.Taken t) = taken t
-opened-reply (o.the-variants.Refused r) = refused r
-
 -- 0, or the refusal's number
 abbrev pub reply-number : {A : Type 0} → Reply A → ℕ
 reply-number (taken a) = 0
 reply-number (refused r) = number r
-
-abbrev pub started : o.Opened → List ℕ → Reply Tally
-started opened ws = unless (leb tally-words (length ws)) TooShort (opened-reply opened)
 
 -- ---- after a step: 0 or the refusal's number, and the next tally's words or the words as they came
 abbrev pub taking-number : k.Taking → ℕ
@@ -89,16 +75,17 @@ abbrev pub words-after : Step → List ℕ → List ℕ
 words-after s ws = words-left (s .taking) (s .tally) ws
 
 -- ---- laws
-pub record Narrow (u q k s l p : ℕ) : Type 0 where
-  pub units : u < 65_536
-  pub requirements : q < 65_536
-  pub records : k < 65_536
-  pub smoothing : s < 65_536
-  pub limit : l < 256
-  pub percent : p < 256
+pub record Narrow (ws : List ℕ) : Type 0 where
+  pub units : getD ws 0 0 < 65_536
+  pub requirements : getD ws 1 0 < 65_536
+  pub records : getD ws 2 0 < 65_536
+  pub smoothing : getD ws 4 0 < 65_536
+  pub limit : getD ws 5 0 < 256
+  pub percent : getD ws 6 0 < 256
 
-pub narrowed : (u q k s l p : ℕ) → words-narrow u q k s l p ≡ true → Narrow u q k s l p
-narrowed u q k s l p e =
+pub narrowed : (ws : List ℕ) → words-fit ws ≡ true → Narrow ws
+unfolding words-fit
+narrowed ws e =
     let a = both _ _ e in
     let b = both _ _ (a .1) in
     let c = both _ _ (b .1) in
@@ -113,23 +100,40 @@ narrowed u q k s l p e =
       percent = ltb-true _ _ (f .1);
     }
 
--- words that hold a tally are eight at least
-pub held-long : (ws : List ℕ) (t : Tally) → held ws ≡ taken t → tally-words ≤ length ws
-unfolding held
-held-long ws t e = go (leb tally-words (length ws)) _ refl e
+pub wide : (ws : List ℕ) → (Narrow ws → ⊥) → false ≡ words-fit ws
+wide ws over = go (words-fit ws) refl
   where
-    go : (x : Bool) (rest : Reply Tally) → leb tally-words (length ws) ≡ x → unless x TooShort rest ≡ taken t → tally-words ≤ length ws
-    go true rest l e = leb-true _ _ l
-    go false rest l e = let z : _≡_ {A = ℕ} 0 1 = cc in omega arith
+    go : (x : Bool) → words-fit ws ≡ x → false ≡ words-fit ws
+    go true e = absurd (over (narrowed ws e))
+    go false e = sym e
 
--- what is held is known by its answer
-pub held-is : (y : Reply Tally) {t : Tally} → h.the-variants.Is t ≡ held-as y → y ≡ taken t
-held-is (taken t) e = cc
-held-is (refused r) e = cc
+-- past five tests the last word settles it
+pub narrow-but : (ws : List ℕ) → getD ws 0 0 < 65_536 → getD ws 1 0 < 65_536 → getD ws 2 0 < 65_536 → getD ws 4 0 < 65_536 → getD ws 5 0 < 256 → ltb (getD ws 6 0) 256 ≡ words-fit ws
+unfolding words-fit
+narrow-but ws u q k s l = rw (lt-ltb _ _ u, lt-ltb _ _ q, lt-ltb _ _ k, lt-ltb _ _ s, lt-ltb _ _ l)
 
-pub unheld-is : (y : Reply Tally) {r : Refusal} → h.the-variants.Refused r ≡ held-as y → y ≡ refused r
-unheld-is (taken t) e = cc
-unheld-is (refused r) e = cc
+-- words that hold a tally
+pub record Held (ws : List ℕ) : Type 0 where
+  pub long : tally-words ≤ length ws
+  pub narrow : Narrow ws
+  pub tally : held ws ≡ taken (tally-of ws)
+
+-- by the two tests
+pub held-by : (ws : List ℕ) {x y : Bool} → leb tally-words (length ws) ≡ x → words-fit ws ≡ y → held ws ≡ unless x TooShort (unless y OutOfTurn (taken (tally-of ws)))
+unfolding held
+held-by ws {x} l n =
+    ap (λ (b : Bool). unless b TooShort (unless (words-fit ws) OutOfTurn (taken (tally-of ws)))) l
+    ∙ ap (λ (b : Bool). unless x TooShort (unless b OutOfTurn (taken (tally-of ws)))) n
+
+-- known by the number of their refusal
+pub held-means : (ws : List ℕ) {r : ℕ} → r ≡ reply-number (held ws) → r ≡ 0 → Held ws
+held-means ws e none =
+    go (leb tally-words (length ws)) (words-fit ws) refl refl (sym (ap reply-number (held-by ws refl refl)) ∙ sym e ∙ none)
+  where
+    go : (x y : Bool) → leb tally-words (length ws) ≡ x → words-fit ws ≡ y → reply-number (unless x TooShort (unless y OutOfTurn (taken (tally-of ws)))) ≡ 0 → Held ws
+    go true true l n e = record { long = leb-true _ _ l; narrow = narrowed ws n; tally = held-by ws l n }
+    go true false l n e = absurd (omega arith)
+    go false y l n e = absurd (omega arith)
 
 -- eight stores in a row
 pub eight-stores : (ws : List ℕ) (a b c d e f g h : ℕ) → 8 ≤ length ws → set (set (set (set (set (set (set (set ws 0 a) 1 b) 2 c) 3 d) 4 e) 5 f) 6 g) 7 h ≡ a ∷ b ∷ c ∷ d ∷ e ∷ f ∷ g ∷ h ∷ drop 8 ws

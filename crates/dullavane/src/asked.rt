@@ -3,11 +3,13 @@ ghost use mathlib.Core.Path.{_≡_};
 ghost use mathlib.Core.Bool.{_&&_};
 ghost use Prim.Native.Nat.{_≤_};
 ghost use lib.ListN.{length};
-ghost use Rattle.dullavane.specs.Words.{held-as};
+ghost use Rattle.dullavane.specs.Words.{reply-number};
 ghost use Rattle.dullavane.specs.Asked.{ready, asked-narrow, direction-of, standing-number, with-row, row-number, row-after};
 ghost use Rattle.dullavane.specs.Answers.{with-answer, answered-number, answered-after};
-use super::words::Held;
+use super::words::OVER_8_BITS;
+use super::words::OVER_16_BITS;
 use super::words::tally_in;
+use super::words::unheld;
 use answer::Answer;
 use answer::Answered;
 use interval::turns::answer_turn;
@@ -18,31 +20,25 @@ use rules::Refusal;
 use rules::Standing;
 use rules::refusal_number;
 
-const OVER_16_BITS: u32 = 65_536;
-
-const OVER_8_BITS: u32 = 256;
-
-// The tally that words hold, once every unit is in. Refuses 12 and 11 for the words, 11 out of turn, 11 where what is asked is out of
-// range, and then 12 where there is no room for the answer.
-pub(crate) fn ready(words: &[u32], fine: bool, room: bool) -> Held
-    ensures { λ r. ⌜ r ≡ held-as (ready (now (words .entry)) fine room) ⌝ }
+// 0 where words hold a tally with every unit in and the answer can be given, else why not: 12 and 11 for the words, 11 out of turn, 11 where
+// what is asked is out of range, then 12 where there is no room for the answer.
+pub(crate) fn unready(words: &[u32], fine: bool, room: bool) -> u32
+    ensures { λ r. ⌜ r ≡ reply-number (ready (now (words .entry)) fine room) ⌝ }
 {
-    let holding = tally_in(words);
-    match holding {
-        Held::Is(tally) => {
-            if !answer_turn(tally) {
-                return Held::Refused(Refusal::OutOfTurn);
-            }
-            if !fine {
-                return Held::Refused(Refusal::OutOfTurn);
-            }
-            if !room {
-                return Held::Refused(Refusal::TooShort);
-            }
-            Held::Is(tally)
-        }
-        Held::Refused(refusal) => Held::Refused(refusal),
+    let refusal = unheld(words);
+    if refusal != 0 {
+        return refusal;
     }
+    if !answer_turn(tally_in(words)) {
+        return refusal_number(Refusal::OutOfTurn);
+    }
+    if !fine {
+        return refusal_number(Refusal::OutOfTurn);
+    }
+    if !room {
+        return refusal_number(Refusal::TooShort);
+    }
+    0
 }
 
 // Is each number that a row is asked by within its width? A direction is 0 or 1.

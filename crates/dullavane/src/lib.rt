@@ -5,20 +5,23 @@ ghost use Rattle.dullavane.specs.Asked.{MemberCalled};
 ghost use Rattle.dullavane.specs.Promises.{ContentsCalled, SettingsCalled, FrequencyCalled, UnitCalled, RequirementCalled};
 use asked::direction_of;
 use asked::narrow_asked;
-use asked::ready;
 use asked::tell_answer;
 use asked::tell_row;
+use asked::unready;
 use frequencies::frequency::frequency;
+use interval::Opened;
 use interval::contents::contents;
 use interval::requirement::requirement;
 use interval::settings::settings;
 use members::roster::member;
+use rules::Refusal;
 use rules::refusal_number;
 use units::unit::unit;
-use words::Held;
-use words::start;
+use words::TALLY_WORDS;
+use words::put_words;
 use words::tally_in;
 use words::tell;
+use words::unheld;
 
 mod asked;
 mod words;
@@ -34,7 +37,17 @@ const REPLY_WORDS: usize = 8;
 pub extern "C" fn dullavane_contents(part: &[u8], tally: &mut [u32]) -> u32
     ensures { λ r. ⌜ ContentsCalled (now (part .entry)) (now (tally .entry)) r (now (tally .exit)) ⌝ }
 {
-    start(contents(part), tally)
+    if tally.len() < TALLY_WORDS {
+        return refusal_number(Refusal::TooShort);
+    }
+    let opened = contents(part);
+    match opened {
+        Opened::Taken(fresh) => {
+            put_words(fresh, tally);
+            0
+        }
+        Opened::Refused(refusal) => refusal_number(refusal),
+    }
 }
 
 // Takes the settings. Refuses 12 for the tally's words, 11, then 1 and 6.
@@ -42,11 +55,11 @@ pub extern "C" fn dullavane_contents(part: &[u8], tally: &mut [u32]) -> u32
 pub extern "C" fn dullavane_settings(tally: &mut [u32], part: &[u8]) -> u32
     ensures { λ r. ⌜ SettingsCalled (now (tally .entry)) (now (part .entry)) r (now (tally .exit)) ⌝ }
 {
-    let holding = tally_in(tally);
-    match holding {
-        Held::Is(before) => tell(settings(before, part), tally),
-        Held::Refused(refusal) => refusal_number(refusal),
+    let refusal = unheld(tally);
+    if refusal != 0 {
+        return refusal;
     }
+    tell(settings(tally_in(tally), part), tally)
 }
 
 // Takes the frequency record of the next region. Refuses 12 for the tally's words, 11, 12, then 1 and 7.
@@ -62,22 +75,20 @@ pub extern "C" fn dullavane_frequency(
 ) -> u32
     ensures { λ r. ⌜ FrequencyCalled (now (tally .entry)) (now (part .entry)) (now (frequencies .entry)) (now (measures .entry)) (now (positive .entry)) (now (negative .entry)) (now (figures .entry)) r (now (tally .exit)) (now (frequencies .exit)) (now (measures .exit)) (now (positive .exit)) (now (negative .exit)) (now (figures .exit)) ⌝ }
 {
-    let holding = tally_in(tally);
-    match holding {
-        Held::Is(before) => {
-            let step = frequency(
-                before,
-                part,
-                frequencies,
-                measures,
-                positive,
-                negative,
-                figures,
-            );
-            tell(step, tally)
-        }
-        Held::Refused(refusal) => refusal_number(refusal),
+    let refusal = unheld(tally);
+    if refusal != 0 {
+        return refusal;
     }
+    let step = frequency(
+        tally_in(tally),
+        part,
+        frequencies,
+        measures,
+        positive,
+        negative,
+        figures,
+    );
+    tell(step, tally)
 }
 
 // Takes a unit. Refuses 12 for the tally's words, 11, 12, 11 for lent numbers of its region, then 1, 8 and 9.
@@ -98,27 +109,25 @@ pub extern "C" fn dullavane_unit(
 ) -> u32
     ensures { λ r. ⌜ UnitCalled (now (tally .entry)) (now (part .entry)) (now (readings .entry)) (now (deviations .entry)) (now (measures .entry)) (now (positive .entry)) (now (negative .entry)) (now (numbers .entry)) (now (places .entry)) (now (raise .entry)) (now (lower .entry)) (now (defaults .entry)) r (now (tally .exit)) (now (readings .exit)) (now (deviations .exit)) (now (positive .exit)) (now (negative .exit)) (now (numbers .exit)) (now (places .exit)) (now (raise .exit)) (now (lower .exit)) (now (defaults .exit)) ⌝ }
 {
-    let holding = tally_in(tally);
-    match holding {
-        Held::Is(before) => {
-            let step = unit(
-                before,
-                part,
-                readings,
-                deviations,
-                measures,
-                positive,
-                negative,
-                numbers,
-                places,
-                raise,
-                lower,
-                defaults,
-            );
-            tell(step, tally)
-        }
-        Held::Refused(refusal) => refusal_number(refusal),
+    let refusal = unheld(tally);
+    if refusal != 0 {
+        return refusal;
     }
+    let step = unit(
+        tally_in(tally),
+        part,
+        readings,
+        deviations,
+        measures,
+        positive,
+        negative,
+        numbers,
+        places,
+        raise,
+        lower,
+        defaults,
+    );
+    tell(step, tally)
 }
 
 // Takes a requirement. Refuses 12 for the tally's words, 11, then 1 and 10, then, with the last one, 4.
@@ -126,11 +135,11 @@ pub extern "C" fn dullavane_unit(
 pub extern "C" fn dullavane_requirement(tally: &mut [u32], part: &[u8]) -> u32
     ensures { λ r. ⌜ RequirementCalled (now (tally .entry)) (now (part .entry)) r (now (tally .exit)) ⌝ }
 {
-    let holding = tally_in(tally);
-    match holding {
-        Held::Is(before) => tell(requirement(before, part), tally),
-        Held::Refused(refusal) => refusal_number(refusal),
+    let refusal = unheld(tally);
+    if refusal != 0 {
+        return refusal;
     }
+    tell(requirement(tally_in(tally), part), tally)
 }
 
 // Answers a requirement: its members' numbers in the columns, its figures in eight words. Refuses 12 for the tally's words, 11 before the last unit,
@@ -156,30 +165,28 @@ pub extern "C" fn dullavane_answer(
 ) -> u32
     ensures { λ r. ⌜ AnswerCalled (now (tally .entry)) (now (part .entry)) (now (measures .entry)) (now (positive .entry)) (now (negative .entry)) (now (figures .entry)) (now (places .entry)) (now (raise .entry)) (now (lower .entry)) (now (defaults .entry)) (now (performances .entry)) (now (factors .entry)) (now (payments .entry)) (now (used .entry)) (now (unused .entry)) (now (reply .entry)) r (now (performances .exit)) (now (factors .exit)) (now (payments .exit)) (now (used .exit)) (now (unused .exit)) (now (reply .exit)) ⌝ }
 {
-    let holding = ready(tally, true, REPLY_WORDS <= reply.len());
-    match holding {
-        Held::Is(before) => {
-            let answered = answer::call::answer(
-                before,
-                part,
-                measures,
-                positive,
-                negative,
-                figures,
-                places,
-                raise,
-                lower,
-                defaults,
-                performances,
-                factors,
-                payments,
-                used,
-                unused,
-            );
-            tell_answer(answered, reply)
-        }
-        Held::Refused(refusal) => refusal_number(refusal),
+    let refusal = unready(tally, true, REPLY_WORDS <= reply.len());
+    if refusal != 0 {
+        return refusal;
     }
+    let answered = answer::call::answer(
+        tally_in(tally),
+        part,
+        measures,
+        positive,
+        negative,
+        figures,
+        places,
+        raise,
+        lower,
+        defaults,
+        performances,
+        factors,
+        payments,
+        used,
+        unused,
+    );
+    tell_answer(answered, reply)
 }
 
 // Who stands in a row, for a requirement of this direction and region set: three words. Refuses 12 for the tally's words, 11 out of turn or
@@ -198,21 +205,20 @@ pub extern "C" fn dullavane_member(
     ensures { λ r. ⌜ MemberCalled (now (tally .entry)) row direction set (now (figures .entry)) (now (numbers .entry)) (now (places .entry)) (now (words .entry)) r (now (words .exit)) ⌝ }
 {
     let fine = narrow_asked(row, direction, set);
-    let holding = ready(tally, fine, MEMBER_WORDS <= words.len());
-    match holding {
-        Held::Is(before) => {
-            let toward = direction_of(direction);
-            let found = member(
-                row as u16,
-                before.units,
-                toward,
-                set as u8,
-                figures,
-                numbers,
-                places,
-            );
-            tell_row(found, words)
-        }
-        Held::Refused(refusal) => refusal_number(refusal),
+    let refusal = unready(tally, fine, MEMBER_WORDS <= words.len());
+    if refusal != 0 {
+        return refusal;
     }
+    let before = tally_in(tally);
+    let toward = direction_of(direction);
+    let found = member(
+        row as u16,
+        before.units,
+        toward,
+        set as u8,
+        figures,
+        numbers,
+        places,
+    );
+    tell_row(found, words)
 }

@@ -4,84 +4,71 @@ ghost use mathlib.Core.Bool.{_&&_};
 ghost use Prim.Native.Nat.{_≤_};
 ghost use lib.Dec.{ltb};
 ghost use lib.ListN.{length};
-ghost use Rattle.dullavane.specs.Words.{held-as, held, with-words, told, words-after, words-narrow, started, reply-number};
-ghost use Rattle.interval.specs.Calls.{left};
-use interval::Opened;
+ghost use Rattle.dullavane.specs.Words.{held, with-words, told, words-after, words-fit, Held, reply-number};
+ghost use Rattle.rules.specs.Refusals.{taken};
 use interval::Step;
 use interval::Taking;
 use interval::Tally;
 use rules::Refusal;
 use rules::refusal_number;
 
-const TALLY_WORDS: usize = 8;
+pub(crate) const TALLY_WORDS: usize = 8;
 
-const OVER_16_BITS: u32 = 65_536;
+pub(crate) const OVER_16_BITS: u32 = 65_536;
 
-const OVER_8_BITS: u32 = 256;
+pub(crate) const OVER_8_BITS: u32 = 256;
 
-// The tally that words hold, or why they hold none.
-pub(crate) enum Held {
-    Is(Tally),
-    Refused(Refusal),
-}
-
-// Is each word within its field's width? The two that are not named have fields as wide as a word.
-fn narrow(
-    units: u32,
-    requirements: u32,
-    records: u32,
-    smoothing: u32,
-    limit: u32,
-    percent: u32,
-) -> bool
-    ensures { λ r. ⌜ r ≡ words-narrow units requirements records smoothing limit percent ⌝ }
+// Is each word within its field's width? Two fields are as wide as a word.
+fn narrow(words: &[u32]) -> bool
+    requires { ⌜ 8 ≤ length (now words) ⌝ }
+    ensures { λ r. ⌜ r ≡ words-fit (now (words .entry)) ⌝ }
 {
-    if OVER_16_BITS <= units {
+    if OVER_16_BITS <= words[0] {
         return false;
     }
-    if OVER_16_BITS <= requirements {
+    if OVER_16_BITS <= words[1] {
         return false;
     }
-    if OVER_16_BITS <= records {
+    if OVER_16_BITS <= words[2] {
         return false;
     }
-    if OVER_16_BITS <= smoothing {
+    if OVER_16_BITS <= words[4] {
         return false;
     }
-    if OVER_8_BITS <= limit {
+    if OVER_8_BITS <= words[5] {
         return false;
     }
-    percent < OVER_8_BITS
+    words[6] < OVER_8_BITS
 }
 
-// Refuses 12 for fewer than eight words, then 11 for a word over its field's width.
-pub(crate) fn tally_in(words: &[u32]) -> Held
-    ensures { λ r. ⌜ r ≡ held-as (held (now (words .entry))) ⌝ }
+// 0 where words hold a tally, else why they hold none: 12 for fewer than eight words, then 11 for a word over its field's width.
+pub(crate) fn unheld(words: &[u32]) -> u32
+    ensures { λ r. ⌜ r ≡ reply-number (held (now (words .entry))) ⌝ }
 {
     if words.len() < TALLY_WORDS {
-        return Held::Refused(Refusal::TooShort);
+        return refusal_number(Refusal::TooShort);
     }
-    let units = words[0];
-    let requirements = words[1];
-    let records = words[2];
-    let least = words[3];
-    let smoothing = words[4];
-    let limit = words[5];
-    let percent = words[6];
-    let interval = words[7];
-    if !narrow(units, requirements, records, smoothing, limit, percent) {
-        return Held::Refused(Refusal::OutOfTurn);
+    if !narrow(words) {
+        return refusal_number(Refusal::OutOfTurn);
     }
-    Held::Is(Tally {
-        units: units as u16,
-        requirements: requirements as u16,
-        records: records as u16,
-        least: least,
-        smoothing: smoothing as u16,
-        limit: limit as u8,
-        percent: percent as u8,
-        interval: interval,
-    })
+    0
+}
+
+// The tally that words hold.
+pub(crate) fn tally_in(words: &[u32]) -> Tally
+    requires { ⌜ Held (now words) ⌝ }
+    ensures { λ r. ⌜ held (now (words .entry)) ≡ taken r ⌝ }
+{
+    Tally {
+        units: words[0] as u16,
+        requirements: words[1] as u16,
+        records: words[2] as u16,
+        least: words[3],
+        smoothing: words[4] as u16,
+        limit: words[5] as u8,
+        percent: words[6] as u8,
+        interval: words[7],
+    }
 }
 
 // Words past the eight stay.
@@ -97,22 +84,6 @@ pub(crate) fn put_words(tally: Tally, words: &mut [u32])
     words[5] = tally.limit as u32;
     words[6] = tally.percent as u32;
     words[7] = tally.interval;
-}
-
-// The number of what the table of contents starts, with its tally in the words. Refuses 12 first.
-pub(crate) fn start(opened: Opened, words: &mut [u32]) -> u32
-    ensures { λ r. ⌜ (r ≡ reply-number (started opened (now (words .entry)))) × (now (words .exit) ≡ left with-words (started opened (now (words .entry))) (now (words .entry))) ⌝ }
-{
-    if words.len() < TALLY_WORDS {
-        return refusal_number(Refusal::TooShort);
-    }
-    match opened {
-        Opened::Taken(tally) => {
-            put_words(tally, words);
-            0
-        }
-        Opened::Refused(refusal) => refusal_number(refusal),
-    }
 }
 
 // The number of a step, with its tally in the words where the record was taken.

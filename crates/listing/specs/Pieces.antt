@@ -38,6 +38,9 @@ room-less h r = record { free = omega (arith, r .free); inside = r .inside }
 pub room-after : {k j at r : ℕ} {piece old new : List ℕ} → Room (j + k) at old → length piece ≤ j → Put piece at old r new → Room k r new
 room-after m h p = record { free = omega (arith, m .free, p .place); inside = omega (arith, m .inside, p .place, p .size) }
 
+pub put-inside : {k at r : ℕ} {piece old new : List ℕ} → Room k at old → Put piece at old r new → r ≤ length new
+put-inside m p = omega (arith, m .inside, p .place, p .size)
+
 -- a direction's word, and the longest numbers, after their space
 unfoldable pub direction-piece : Direction → List ℕ
 direction-piece direction = after-space (direction-word direction)

@@ -2,6 +2,8 @@
 // with it, and bytes past it stay.
 ghost use Prim.Native.Nat.{_≤_};
 ghost use lib.ListN.{length, drop};
+ghost use mathlib.Core.List.{[], _∷_};
+ghost use Rattle.rules.specs.Text.{natural, words};
 ghost use Rattle.rules.specs.Listing.{interval-line, refused-line, requirement-line, member-line};
 ghost use Rattle.listing.specs.Pieces.{Room, Put};
 ghost use Rattle.listing.specs.Lines.{LineWritten, answer-of, amounts-words, unit-of, residual-of};
@@ -36,22 +38,27 @@ fn hand_over(line: &[u8], at: usize, text: &mut [u8]) -> Written
     Written::Length(length)
 }
 
+// A word and a number.
+fn number_line(word: &[u8], number: u64, text: &mut [u8]) -> Written
+    requires { ⌜ length (now word) ≤ 143 ⌝ }
+    ensures { λ r. ⌜ LineWritten (words (now (word .entry) ∷ natural number ∷ [])) (now (text .entry)) r (now (text .exit)) ⌝ }
+{
+    let mut line = [b'\n'; ROOM];
+    let end = put_natural(number, END, &mut line);
+    let start = put(word, end, &mut line);
+    hand_over(&line, start, text)
+}
+
 pub fn interval_line(interval: u32, text: &mut [u8]) -> Written
     ensures { λ r. ⌜ LineWritten (interval-line interval) (now (text .entry)) r (now (text .exit)) ⌝ }
 {
-    let mut line = [b'\n'; ROOM];
-    let number = put_natural(interval as u64, END, &mut line);
-    let start = put(b"interval", number, &mut line);
-    hand_over(&line, start, text)
+    number_line(b"interval", interval as u64, text)
 }
 
 pub fn refused_line(refusal: Refusal, text: &mut [u8]) -> Written
     ensures { λ r. ⌜ LineWritten (refused-line refusal) (now (text .entry)) r (now (text .exit)) ⌝ }
 {
-    let mut line = [b'\n'; ROOM];
-    let number = put_natural(rules::refusal_number(refusal) as u64, END, &mut line);
-    let start = put(b"refused", number, &mut line);
-    hand_over(&line, start, text)
+    number_line(b"refused", rules::refusal_number(refusal) as u64, text)
 }
 
 pub fn requirement_line(figures: Figures, text: &mut [u8]) -> Written

@@ -1,90 +1,78 @@
 -- The tally is ready and the answer is told, or it is not and the refusal is.
-use mathlib.Core.Path.{_≡_, refl, sym, _∙_}
+use mathlib.Core.Path.{refl, _∙_}
 use mathlib.Core.Bool.{true}
 use lib.Dec.{leb}
 use lib.ListN.{length}
 use borrow.Author.Needs.{needs}
 use borrow.Author.Tests.{leb-true}
-use Rattle.rules.specs.Refusals.{taken, refused}
-use Rattle.dullavane.specs.Words.{held-is, unheld-is}
 use Rattle.dullavane.specs.Called.{was-held, was-unheld}
-use Rattle.dullavane.specs.Asked.{ready, ready-means}
+use Rattle.dullavane.specs.Asked.{Ready, ready-means}
 use Rattle.dullavane.specs.Answers.{reply-words}
 use Rattle.dullavane.proofs.dullavane_answer.Statement.{statement}
 use Rattle.dullavane.proofs.dullavane_answer.Tie as tie
 
-abbrev start : tie.After-ready → tie.Start
-start c = c .before .before .before .before .before
+abbrev called : tie.After-tell-answer-arg → tie.After-answer
+called c = c .before .before .before .before .before .before
 
-holds : (c : tie.After-holding) → let a = start (c .before .before) .args in ready (a .tally .now) true (leb reply-words (length (a .reply .now))) ≡ taken (c .holding .given .0 .0)
-holds c = held-is _ (sym (c .holding .given .1) ∙ c .before .before .ready .ensures)
+abbrev taken-in : tie.After-tell-answer-arg → tie.After-tally-in
+taken-in c = called c .before .before .before .before .before .before
 
-holds-none : (c : tie.After-holding2) → let a = start (c .before .before) .args in ready (a .tally .now) true (leb reply-words (length (a .reply .now))) ≡ refused (c .holding2 .given .0 .0)
-holds-none c = unheld-is _ (sym (c .holding2 .given .1) ∙ c .before .before .ready .ensures)
+means : (c : tie.Else1) → let a = c .before .before .before .before .before .before .args in Ready (a .tally .now) true (leb reply-words (length (a .reply .now)))
+means c = ready-means _ _ _ (c .before .unready .ensures) (c .if1 .left)
 
-ready-requires : tie.Need-ready-requires
-ready-requires c κs = search needs
+unready-requires : tie.Need-unready-requires
+unready-requires c κs = search needs
 
-enum-known-holding : tie.Need-enum-known-holding
-enum-known-holding c = search needs
+returns : tie.Need-returns
+returns c =
+    record { answer = was-unheld _ _ _ _ _ _ (c .before .unready .ensures) (c .if1 .taken) (refl, refl, refl, refl, refl) }
+
+tally-in-requires : tie.Need-tally-in-requires
+tally-in-requires c κs = means c .in-words
 
 answer-requires : tie.Need-answer-requires
 answer-requires c κs = search needs
 
 tell-answer-requires : tie.Need-tell-answer-requires
-tell-answer-requires c κs = leb-true _ _ (ready-means _ _ _ _ (holds (c .before .before .before .before .before .before .before .before .before .before .before .before .before)) .roomy)
-
-enum-known-holding-2 : tie.Need-enum-known-holding-2
-enum-known-holding-2 c = search needs
-
-refusal-number-requires : tie.Need-refusal-number-requires
-refusal-number-requires c κs = search needs
+tell-answer-requires c κs = leb-true _ _ (means (taken-in c .before) .roomy)
 
 same-length : tie.Need-same-length
-same-length c = search needs
+same-length c = c .before .before .before .before .before .before .before .before .performances .given
 
 same-length-2 : tie.Need-same-length-2
-same-length-2 c = search needs
+same-length-2 c = c .before .before .before .before .before .before .before .factors .given
 
 same-length-3 : tie.Need-same-length-3
-same-length-3 c = search needs
+same-length-3 c = c .before .before .before .before .before .before .payments .given
 
 same-length-4 : tie.Need-same-length-4
-same-length-4 c = search needs
+same-length-4 c = c .before .before .before .before .before .used .given
 
 same-length-5 : tie.Need-same-length-5
-same-length-5 c = search needs
+same-length-5 c = c .before .before .before .before .unused .given
 
 same-length-6 : tie.Need-same-length-6
-same-length-6 c = search needs
-
-returns : tie.Need-returns
-returns c =
-    let s = c .before .before in
-    let call = s .before .before .before .before .before .before .before in
-    let h = call .before .before .before .before .before .before .before in
-    record { answer = was-held _ _ _ _ (start (h .before .before) .args .reply .now) (holds h) (record { step = call .answer .result; call = call .answer .ensures; reply = s .tell-answer .ensures .0; words = s .tell-answer .ensures .1 }) }
+same-length-6 c = c .before .reply .given
 
 returns-2 : tie.Need-returns-2
 returns-2 c =
-    let h = c .before .before in
-    record { answer = was-unheld _ _ _ _ (start (h .before .before) .args .reply .now) (holds-none h) (record { reply = c .refusal-number .ensures; words = refl; kept = (refl, refl, refl, refl, refl) }) }
+    let s = c .before .before in
+    let t = taken-in (s .before) in
+    record { answer = was-held _ _ _ _ _ (means (t .before) .as-held ∙ t .tally-in .ensures) (called (s .before) .answer .ensures) (s .tell-answer .ensures) }
 
 pub dullavane-answer-spec : {M : Type 1} → statement M
 dullavane-answer-spec =
     tie.close
     (tie.spec
-    ready-requires
-    enum-known-holding
+    unready-requires
+    returns
+    tally-in-requires
     answer-requires
     tell-answer-requires
-    enum-known-holding-2
-    refusal-number-requires
     same-length
     same-length-2
     same-length-3
     same-length-4
     same-length-5
     same-length-6
-    returns
     returns-2)

@@ -1,67 +1,50 @@
 -- The words hold a tally and the call's step is told, or they hold none and their refusal is.
-use mathlib.Core.Path.{_≡_, refl, sym, _∙_}
+use mathlib.Core.Path.{refl}
 use borrow.Author.Needs.{needs}
-use Rattle.rules.specs.Refusals.{taken, refused}
-use Rattle.dullavane.specs.Words.{held, held-is, unheld-is, held-long}
+use Rattle.dullavane.specs.Words.{Held, held-means}
 use Rattle.dullavane.specs.Called.{was-held, was-unheld}
 use Rattle.dullavane.proofs.dullavane_settings.Statement.{statement}
 use Rattle.dullavane.proofs.dullavane_settings.Tie as tie
 
-holds : (c : tie.After-holding) → held (c .before .before .before .before .before .before .args .tally .now) ≡ taken (c .holding .given .0 .0)
-holds c = held-is _ (sym (c .holding .given .1) ∙ c .before .before .tally-in .ensures)
+in-words : (c : tie.Else1) → Held (c .before .before .before .before .before .args .tally .now)
+in-words c = held-means _ (c .before .unheld .ensures) (c .if1 .left)
 
-holds-none : (c : tie.After-holding2) → held (c .before .before .before .before .before .before .args .tally .now) ≡ refused (c .holding2 .given .0 .0)
-holds-none c = unheld-is _ (sym (c .holding2 .given .1) ∙ c .before .before .tally-in .ensures)
+unheld-requires : tie.Need-unheld-requires
+unheld-requires c κs = search needs
+
+same-length : tie.Need-same-length
+same-length c = refl
+
+returns : tie.Need-returns
+returns c = record { answer = was-unheld _ _ _ _ _ _ (c .before .unheld .ensures) (c .if1 .taken) tt }
 
 tally-in-requires : tie.Need-tally-in-requires
-tally-in-requires c κs = search needs
-
-enum-known-holding : tie.Need-enum-known-holding
-enum-known-holding c = search needs
+tally-in-requires c κs = in-words (c .before)
 
 settings-requires : tie.Need-settings-requires
 settings-requires c κs = search needs
 
 tell-requires : tie.Need-tell-requires
-tell-requires c κs = held-long _ _ (holds (c .before .before .before))
-
-enum-known-holding-2 : tie.Need-enum-known-holding-2
-enum-known-holding-2 c = search needs
-
-refusal-number-requires : tie.Need-refusal-number-requires
-refusal-number-requires c κs = search needs
-
-same-length : tie.Need-same-length
-same-length c = search needs
-
-returns : tie.Need-returns
-returns c =
-    let s = c .before .before in
-    let call = s .before .before in
-    let h = call .before .before in
-    let a = h .before .before .before .before .before .before .args in
-    record { answer = was-held _ _ _ _ (a .tally .now) (holds h) (record { step = call .settings .result; call = call .settings .ensures; reply = s .tell .ensures .0; words = s .tell .ensures .1 }) }
+tell-requires c κs = in-words (c .before .before .before .before) .long
 
 same-length-2 : tie.Need-same-length-2
-same-length-2 c = search needs
+same-length-2 c = c .before .tally .given
 
 returns-2 : tie.Need-returns-2
 returns-2 c =
-    let h = c .before .before in
-    let a = h .before .before .before .before .before .before .args in
-    record { answer = was-unheld _ _ _ _ (a .tally .now) (holds-none h) (record { reply = c .refusal-number .ensures; words = refl; kept = tt }) }
+    let s = c .before .before in
+    let call = s .before .before in
+    record { answer = was-held _ _ _ _ _ (call .before .tally-in .ensures) (call .settings .ensures) (s .tell .ensures) }
 
 pub dullavane-settings-spec : {M : Type 1} → statement M
 dullavane-settings-spec =
     tie.close
     (tie.spec
-    tally-in-requires
-    enum-known-holding
-    settings-requires
-    tell-requires
-    enum-known-holding-2
-    refusal-number-requires
+    unheld-requires
     same-length
     returns
+    tally-in-requires
+    settings-requires
+    tell-requires
     same-length-2
     returns-2)

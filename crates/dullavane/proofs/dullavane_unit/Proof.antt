@@ -1,92 +1,84 @@
 -- The words hold a tally and the call's step is told, or they hold none and their refusal is.
-use mathlib.Core.Path.{_≡_, refl, sym, _∙_}
+use mathlib.Core.Path.{refl}
 use borrow.Author.Needs.{needs}
-use Rattle.rules.specs.Refusals.{taken, refused}
-use Rattle.dullavane.specs.Words.{held, held-is, unheld-is, held-long}
+use Rattle.dullavane.specs.Words.{Held, held-means}
 use Rattle.dullavane.specs.Called.{was-held, was-unheld}
 use Rattle.dullavane.proofs.dullavane_unit.Statement.{statement}
 use Rattle.dullavane.proofs.dullavane_unit.Tie as tie
 
-holds : (c : tie.After-holding) → held (c .before .before .before .before .before .before .before .before .args .tally .now) ≡ taken (c .holding .given .0 .0)
-holds c = held-is _ (sym (c .holding .given .1) ∙ c .before .before .tally-in .ensures)
+abbrev called : tie.After-tell-arg → tie.After-unit
+called c = c .before .before .before .before .before .before .before .before .before .before .before .before
 
-holds-none : (c : tie.After-holding2) → held (c .before .before .before .before .before .before .before .before .args .tally .now) ≡ refused (c .holding2 .given .0 .0)
-holds-none c = unheld-is _ (sym (c .holding2 .given .1) ∙ c .before .before .tally-in .ensures)
+abbrev taken-in : tie.After-tell-arg → tie.After-tally-in
+taken-in c = called c .before .before .before .before .before .before .before .before .before .before
+
+in-words : (c : tie.Else1) → Held (c .before .before .before .before .before .before .before .args .tally .now)
+in-words c = held-means _ (c .before .unheld .ensures) (c .if1 .left)
+
+unheld-requires : tie.Need-unheld-requires
+unheld-requires c κs = search needs
+
+same-length : tie.Need-same-length
+same-length c = refl
+
+returns : tie.Need-returns
+returns c =
+    record { answer = was-unheld _ _ _ _ _ _ (c .before .unheld .ensures) (c .if1 .taken) (refl, refl, refl, refl, refl, refl, refl, refl, refl) }
 
 tally-in-requires : tie.Need-tally-in-requires
-tally-in-requires c κs = search needs
-
-enum-known-holding : tie.Need-enum-known-holding
-enum-known-holding c = search needs
+tally-in-requires c κs = in-words (c .before)
 
 unit-requires : tie.Need-unit-requires
 unit-requires c κs = search needs
 
 tell-requires : tie.Need-tell-requires
-tell-requires c κs = held-long _ _ (holds (c .before .before .before .before .before .before .before .before .before .before .before .before .before .before .before .before .before .before .before .before .before .before .before))
-
-enum-known-holding-2 : tie.Need-enum-known-holding-2
-enum-known-holding-2 c = search needs
-
-refusal-number-requires : tie.Need-refusal-number-requires
-refusal-number-requires c κs = search needs
-
-same-length : tie.Need-same-length
-same-length c = search needs
+tell-requires c κs = in-words (taken-in c .before .before) .long
 
 same-length-2 : tie.Need-same-length-2
-same-length-2 c = search needs
+same-length-2 c = c .before .tally .given
 
 same-length-3 : tie.Need-same-length-3
-same-length-3 c = search needs
+same-length-3 c = c .before .before .before .before .before .before .before .before .before .before .before .before .before .before .readings .given
 
 same-length-4 : tie.Need-same-length-4
-same-length-4 c = search needs
+same-length-4 c = c .before .before .before .before .before .before .before .before .before .before .before .before .before .deviations .given
 
 same-length-5 : tie.Need-same-length-5
-same-length-5 c = search needs
+same-length-5 c = c .before .before .before .before .before .before .before .before .before .before .before .before .positive .given
 
 same-length-6 : tie.Need-same-length-6
-same-length-6 c = search needs
+same-length-6 c = c .before .before .before .before .before .before .before .before .before .before .before .negative .given
 
 same-length-7 : tie.Need-same-length-7
-same-length-7 c = search needs
+same-length-7 c = c .before .before .before .before .before .before .before .before .before .before .numbers .given
 
 same-length-8 : tie.Need-same-length-8
-same-length-8 c = search needs
+same-length-8 c = c .before .before .before .before .before .before .before .before .places .given
 
 same-length-9 : tie.Need-same-length-9
-same-length-9 c = search needs
+same-length-9 c = c .before .before .before .before .before .before .raise .given
 
 same-length-10 : tie.Need-same-length-10
-same-length-10 c = search needs
-
-returns : tie.Need-returns
-returns c =
-    let s = c .before .before in
-    let call = s .before .before .before .before .before .before .before .before .before .before .before .before .before in
-    let h = call .before .before .before .before .before .before .before .before .before .before .before in
-    record { answer = was-held _ _ _ _ (h .before .before .before .before .before .before .before .before .args .tally .now) (holds h) (record { step = call .unit .result; call = call .unit .ensures; reply = s .tell .ensures .0; words = s .tell .ensures .1 }) }
+same-length-10 c = c .before .before .before .before .before .lower .given
 
 same-length-11 : tie.Need-same-length-11
-same-length-11 c = search needs
+same-length-11 c = c .before .before .before .before .defaults .given
 
 returns-2 : tie.Need-returns-2
 returns-2 c =
-    let h = c .before .before in
-    record { answer = was-unheld _ _ _ _ (h .before .before .before .before .before .before .before .before .args .tally .now) (holds-none h) (record { reply = c .refusal-number .ensures; words = refl; kept = (refl, refl, refl, refl, refl, refl, refl, refl, refl) }) }
+    let s = c .before .before in
+    record { answer = was-held _ _ _ _ _ (taken-in (s .before) .tally-in .ensures) (called (s .before) .unit .ensures) (s .tell .ensures) }
 
 pub dullavane-unit-spec : {M : Type 1} → statement M
 dullavane-unit-spec =
     tie.close
     (tie.spec
+    unheld-requires
+    same-length
+    returns
     tally-in-requires
-    enum-known-holding
     unit-requires
     tell-requires
-    enum-known-holding-2
-    refusal-number-requires
-    same-length
     same-length-2
     same-length-3
     same-length-4
@@ -96,6 +88,5 @@ dullavane-unit-spec =
     same-length-8
     same-length-9
     same-length-10
-    returns
     same-length-11
     returns-2)

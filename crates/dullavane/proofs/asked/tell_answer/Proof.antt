@@ -17,7 +17,7 @@ refusal-number-requires : tie.Need-refusal-number-requires
 refusal-number-requires c κs = search needs
 
 same-length : tie.Need-same-length
-same-length c = search needs
+same-length c = c .before .reply .given
 
 returns : tie.Need-returns
 returns c =

@@ -31,7 +31,7 @@ refusal-number-requires : tie.Need-refusal-number-requires
 refusal-number-requires c κs = search needs
 
 same-length : tie.Need-same-length
-same-length c = search needs
+same-length c = c .before .words .given
 
 returns : tie.Need-returns
 returns c =
@@ -42,7 +42,7 @@ returns c =
     rw (found .row .given .1) (refl, put .put-row .ensures ∙ ap (λ (s : ℕ). with-row 1 (found .row .given .0 .0) s ws) (numbered .standing-number .ensures))
 
 same-length-2 : tie.Need-same-length-2
-same-length-2 c = search needs
+same-length-2 c = c .before .words2 .given
 
 returns-2 : tie.Need-returns-2
 returns-2 c =

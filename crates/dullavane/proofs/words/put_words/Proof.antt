@@ -1,5 +1,6 @@
 -- Eight stores in a row are the eight words.
-use native.Mathlib.Omega.{arith}
+use native.Mathlib.Nat.{lt-of-lt-of-le}
+use lib.Dec.{lit<}
 use lib.ListN.{length-set}
 use borrow.Author.Needs.{needs}
 use Rattle.dullavane.specs.Words.{eight-stores}
@@ -16,46 +17,46 @@ cast-words-2 : tie.Need-cast-words-2
 cast-words-2 c = search needs
 
 slice-write-words-2 : tie.Need-slice-write-words-2
-slice-write-words-2 c = simp length-set (omega arith)
+slice-write-words-2 c = simp length-set (lt-of-lt-of-le (lit< tt) (c .before .before .pre))
 
 cast-words-3 : tie.Need-cast-words-3
 cast-words-3 c = search needs
 
 slice-write-words-3 : tie.Need-slice-write-words-3
-slice-write-words-3 c = simp length-set (omega arith)
+slice-write-words-3 c = simp length-set (lt-of-lt-of-le (lit< tt) (c .before .before .before .pre))
 
 slice-write-words-4 : tie.Need-slice-write-words-4
-slice-write-words-4 c = simp length-set (omega arith)
+slice-write-words-4 c = simp length-set (lt-of-lt-of-le (lit< tt) (c .before .before .before .pre))
 
 cast-words-4 : tie.Need-cast-words-4
 cast-words-4 c = search needs
 
 slice-write-words-5 : tie.Need-slice-write-words-5
-slice-write-words-5 c = simp length-set (omega arith)
+slice-write-words-5 c = simp length-set (lt-of-lt-of-le (lit< tt) (c .before .before .before .before .pre))
 
 cast-words-5 : tie.Need-cast-words-5
 cast-words-5 c = search needs
 
 slice-write-words-6 : tie.Need-slice-write-words-6
-slice-write-words-6 c = simp length-set (omega arith)
+slice-write-words-6 c = simp length-set (lt-of-lt-of-le (lit< tt) (c .before .before .before .before .before .pre))
 
 cast-words-6 : tie.Need-cast-words-6
 cast-words-6 c = search needs
 
 slice-write-words-7 : tie.Need-slice-write-words-7
-slice-write-words-7 c = simp length-set (omega arith)
+slice-write-words-7 c = simp length-set (lt-of-lt-of-le (lit< tt) (c .before .before .before .before .before .before .pre))
 
 slice-write-words-8 : tie.Need-slice-write-words-8
-slice-write-words-8 c = simp length-set (omega arith)
+slice-write-words-8 c = simp length-set (lt-of-lt-of-le (lit< tt) (c .before .before .before .before .before .before .pre))
 
 same-length : tie.Need-same-length
-same-length c = search needs
+same-length c = simp length-set
 
 returns : tie.Need-returns
 returns c =
-    let a = c .before .before .before .before .before .before .args in
-    let t = a .tally in
-    eight-stores (a .words .now) (t .units) (t .requirements) (t .records) (t .least) (t .smoothing) (t .limit) (t .percent) (t .interval) (search needs)
+    let s = c .before .before .before .before .before .before in
+    let t = s .args .tally in
+    eight-stores (s .args .words .now) (t .units) (t .requirements) (t .records) (t .least) (t .smoothing) (t .limit) (t .percent) (t .interval) (s .pre)
 
 pub put-words-spec : {M : Type 1} → statement M
 put-words-spec =

@@ -19,7 +19,7 @@ refusal-number-requires : tie.Need-refusal-number-requires
 refusal-number-requires c κs = search needs
 
 same-length : tie.Need-same-length
-same-length c = search needs
+same-length c = c .before .words .given
 
 returns : tie.Need-returns
 returns c =

@@ -1,53 +1,22 @@
--- The number, then the word before it; what stands from there on is the line.
-use native.Mathlib.Omega.{arith}
+-- A word and a number.
 use borrow.Author.Needs.{needs}
-use Rattle.rules.specs.Text.{text, words}
-use Rattle.listing.specs.Pieces.{Room, room-less, room-after, put-onto, natural-most}
-use Rattle.listing.specs.Lines.{line-room, line-end}
+use Rattle.rules.specs.Text.{text}
 use Rattle.listing.proofs.lines.interval_line.Statement.{statement}
 use Rattle.listing.proofs.lines.interval_line.Tie as tie
 
-numbered : (c : tie.After-put-natural) → Room 143 (c .put-natural .result) (c .put-natural .last .1 .1 .0)
-numbered c = room-after {k = 143} {j = 21} line-room (natural-most _) (c .put-natural .ensures)
+slice-aggregate-number-line : tie.Need-slice-aggregate-number-line
+slice-aggregate-number-line c = search needs
 
-slice-aggregate-put-natural : tie.Need-slice-aggregate-put-natural
-slice-aggregate-put-natural c = search needs
-
-put-natural-requires : tie.Need-put-natural-requires
-put-natural-requires c κs = search needs
-
-slice-aggregate-put : tie.Need-slice-aggregate-put
-slice-aggregate-put c = search needs
-
-slice-aggregate-put-2 : tie.Need-slice-aggregate-put-2
-slice-aggregate-put-2 c = search needs
-
-put-requires : tie.Need-put-requires
-put-requires c κs = room-less (omega arith) (numbered (c .before .before .before))
-
-slice-aggregate-hand-over : tie.Need-slice-aggregate-hand-over
-slice-aggregate-hand-over c = search needs
-
-hand-over-requires : tie.Need-hand-over-requires
-hand-over-requires c κs = search needs
+number-line-requires : tie.Need-number-line-requires
+number-line-requires c κs = search needs
 
 same-length : tie.Need-same-length
-same-length c = search needs
+same-length c = c .before .text .given
 
 returns : tie.Need-returns
-unfolding text words
-returns c = let h = c .before .before in let p = h .before .before .before .before in rw (put-onto (p .put .ensures) (put-onto (p .before .before .before .before .put-natural .ensures) line-end)) at (h .hand-over .ensures)
+unfolding text
+returns c = c .before .before .number-line .ensures
 
 pub interval-line-spec : {M : Type 1} → statement M
 interval-line-spec =
-    tie.close
-    (tie.spec
-    slice-aggregate-put-natural
-    put-natural-requires
-    slice-aggregate-put
-    slice-aggregate-put-2
-    put-requires
-    slice-aggregate-hand-over
-    hand-over-requires
-    same-length
-    returns)
+    tie.close (tie.spec slice-aggregate-number-line number-line-requires same-length returns)

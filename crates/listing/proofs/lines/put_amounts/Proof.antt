@@ -1,5 +1,5 @@
 -- From the last amount to the standing; every amount fits, so that it is its own bits' number.
-use native.Mathlib.Omega.{arith}
+use lib.Dec.{lit≤}
 use borrow.Author.Needs.{needs, sfits-of}
 use mir.Facts.{toZ-ofZ}
 use Rattle.rules.specs.Text.{integer}
@@ -45,19 +45,19 @@ put-integer-requires : tie.Need-put-integer-requires
 put-integer-requires c κs = search needs
 
 put-integer-requires-2 : tie.Need-put-integer-requires-2
-put-integer-requires-2 c κs = room-less (omega arith) (unused-room (c .before .before .before .before))
+put-integer-requires-2 c κs = room-less (lit≤ tt) (unused-room (c .before .before .before .before))
 
 put-integer-requires-3 : tie.Need-put-integer-requires-3
-put-integer-requires-3 c κs = room-less (omega arith) (used-room (c .before .before .before .before))
+put-integer-requires-3 c κs = room-less (lit≤ tt) (used-room (c .before .before .before .before))
 
 put-integer-requires-4 : tie.Need-put-integer-requires-4
-put-integer-requires-4 c κs = room-less (omega arith) (payment-room (c .before .before .before .before))
+put-integer-requires-4 c κs = room-less (lit≤ tt) (payment-room (c .before .before .before .before))
 
 put-integer-requires-5 : tie.Need-put-integer-requires-5
-put-integer-requires-5 c κs = room-less (omega arith) (factor-room (c .before .before .before .before))
+put-integer-requires-5 c κs = room-less (lit≤ tt) (factor-room (c .before .before .before .before))
 
 put-standing-requires : tie.Need-put-standing-requires
-put-standing-requires c κs = room-less (omega arith) (performance-room (c .before .before .before))
+put-standing-requires c κs = room-less (lit≤ tt) (performance-room (c .before .before .before))
 
 same-length : tie.Need-same-length
 same-length c = search needs

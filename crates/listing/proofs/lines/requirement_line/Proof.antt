@@ -1,8 +1,8 @@
 -- From the last number to the first word; what stands from there on is the line.
-use native.Mathlib.Omega.{arith}
+use lib.Dec.{lit≤}
 use borrow.Author.Needs.{needs}
 use Rattle.rules.specs.Text.{text, words}
-use Rattle.listing.specs.Pieces.{Room, room-less, room-after, put-onto, natural-most, direction-piece, direction-most}
+use Rattle.listing.specs.Pieces.{Room, room-less, room-after, put-inside, put-onto, natural-most, direction-piece, direction-most}
 use Rattle.listing.specs.Lines.{line-room, line-end}
 use Rattle.listing.proofs.lines.requirement_line.Statement.{statement}
 use Rattle.listing.proofs.lines.requirement_line.Tie as tie
@@ -41,37 +41,37 @@ slice-aggregate-put-natural-2 : tie.Need-slice-aggregate-put-natural-2
 slice-aggregate-put-natural-2 c = search needs
 
 put-natural-requires-2 : tie.Need-put-natural-requires-2
-put-natural-requires-2 c κs = room-less (omega arith) (unused-unplaced (c .before .before))
+put-natural-requires-2 c κs = room-less (lit≤ tt) (unused-unplaced (c .before .before))
 
 slice-aggregate-put-natural-3 : tie.Need-slice-aggregate-put-natural-3
 slice-aggregate-put-natural-3 c = search needs
 
 put-natural-requires-3 : tie.Need-put-natural-requires-3
-put-natural-requires-3 c κs = room-less (omega arith) (used-unplaced (c .before .before))
+put-natural-requires-3 c κs = room-less (lit≤ tt) (used-unplaced (c .before .before))
 
 slice-aggregate-put-natural-4 : tie.Need-slice-aggregate-put-natural-4
 slice-aggregate-put-natural-4 c = search needs
 
 put-natural-requires-4 : tie.Need-put-natural-requires-4
-put-natural-requires-4 c κs = room-less (omega arith) (unused-put (c .before .before))
+put-natural-requires-4 c κs = room-less (lit≤ tt) (unused-put (c .before .before))
 
 slice-aggregate-put-natural-5 : tie.Need-slice-aggregate-put-natural-5
 slice-aggregate-put-natural-5 c = search needs
 
 put-natural-requires-5 : tie.Need-put-natural-requires-5
-put-natural-requires-5 c κs = room-less (omega arith) (used-put (c .before .before))
+put-natural-requires-5 c κs = room-less (lit≤ tt) (used-put (c .before .before))
 
 slice-aggregate-put-natural-6 : tie.Need-slice-aggregate-put-natural-6
 slice-aggregate-put-natural-6 c = search needs
 
 put-natural-requires-6 : tie.Need-put-natural-requires-6
-put-natural-requires-6 c κs = room-less (omega arith) (pool-put (c .before .before))
+put-natural-requires-6 c κs = room-less (lit≤ tt) (pool-put (c .before .before))
 
 slice-aggregate-put-direction : tie.Need-slice-aggregate-put-direction
 slice-aggregate-put-direction c = search needs
 
 put-direction-requires : tie.Need-put-direction-requires
-put-direction-requires c κs = room-less (omega arith) (rcr-put (c .before .before))
+put-direction-requires c κs = room-less (lit≤ tt) (rcr-put (c .before .before))
 
 cast-put-natural : tie.Need-cast-put-natural
 cast-put-natural c = search needs
@@ -80,7 +80,7 @@ slice-aggregate-put-natural-7 : tie.Need-slice-aggregate-put-natural-7
 slice-aggregate-put-natural-7 c = search needs
 
 put-natural-requires-7 : tie.Need-put-natural-requires-7
-put-natural-requires-7 c κs = room-less (omega arith) (directed (c .before .before .before))
+put-natural-requires-7 c κs = room-less (lit≤ tt) (directed (c .before .before .before))
 
 slice-aggregate-put : tie.Need-slice-aggregate-put
 slice-aggregate-put c = search needs
@@ -89,16 +89,16 @@ slice-aggregate-put-2 : tie.Need-slice-aggregate-put-2
 slice-aggregate-put-2 c = search needs
 
 put-requires : tie.Need-put-requires
-put-requires c κs = room-less (omega arith) (numbered (c .before .before .before))
+put-requires c κs = room-less (lit≤ tt) (numbered (c .before .before .before))
 
 slice-aggregate-hand-over : tie.Need-slice-aggregate-hand-over
 slice-aggregate-hand-over c = search needs
 
 hand-over-requires : tie.Need-hand-over-requires
-hand-over-requires c κs = let p = c .before .before .before in omega (arith, numbered (p .before .before .before .before) .inside, p .put .ensures .place, p .put .ensures .size)
+hand-over-requires c κs = let p = c .before .before .before in put-inside (numbered (p .before .before .before .before)) (p .put .ensures)
 
 same-length : tie.Need-same-length
-same-length c = search needs
+same-length c = c .before .text .given
 
 returns : tie.Need-returns
 unfolding text words direction-piece

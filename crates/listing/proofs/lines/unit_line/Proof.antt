@@ -1,9 +1,9 @@
 -- The amounts, then the number and the name before them; what stands from there on is the line.
 use mathlib.Core.Path.{_∙_}
-use native.Mathlib.Omega.{arith}
+use lib.Dec.{lit≤}
 use borrow.Author.Needs.{needs}
 use Rattle.rules.specs.Text.{text, words}
-use Rattle.listing.specs.Pieces.{Room, room-less, room-after, put-onto, natural-most}
+use Rattle.listing.specs.Pieces.{Room, room-less, room-after, put-inside, put-onto, natural-most}
 use Rattle.listing.specs.Lines.{line-room, line-end, amounts-end, amounts-most}
 use Rattle.listing.proofs.lines.unit_line.Statement.{statement}
 use Rattle.listing.proofs.lines.unit_line.Tie as tie
@@ -24,7 +24,7 @@ slice-aggregate-put-natural : tie.Need-slice-aggregate-put-natural
 slice-aggregate-put-natural c = search needs
 
 put-natural-requires : tie.Need-put-natural-requires
-put-natural-requires c κs = room-less (omega arith) (weighed (c .before .before))
+put-natural-requires c κs = room-less (lit≤ tt) (weighed (c .before .before))
 
 slice-aggregate-put : tie.Need-slice-aggregate-put
 slice-aggregate-put c = search needs
@@ -33,16 +33,16 @@ slice-aggregate-put-2 : tie.Need-slice-aggregate-put-2
 slice-aggregate-put-2 c = search needs
 
 put-requires : tie.Need-put-requires
-put-requires c κs = room-less (omega arith) (numbered (c .before .before .before))
+put-requires c κs = room-less (lit≤ tt) (numbered (c .before .before .before))
 
 slice-aggregate-hand-over : tie.Need-slice-aggregate-hand-over
 slice-aggregate-hand-over c = search needs
 
 hand-over-requires : tie.Need-hand-over-requires
-hand-over-requires c κs = search needs
+hand-over-requires c κs = let p = c .before .before .before in put-inside (numbered (p .before .before .before .before)) (p .put .ensures)
 
 same-length : tie.Need-same-length
-same-length c = search needs
+same-length c = c .before .text .given
 
 returns : tie.Need-returns
 unfolding text words

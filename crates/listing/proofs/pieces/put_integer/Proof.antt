@@ -1,5 +1,5 @@
--- The digits of the number's size, and before them a space, with the sign of a number below zero.
-use native.Mathlib.Omega.{arith}
+-- The digits of the number's size, and before them a space, with the sign of a number below zero; the sign first.
+use lib.Dec.{lit≤}
 use borrow.Author.Needs.{needs}
 use lib.IntN.{natAbs}
 use mir.Facts.{toZ-ofZ}
@@ -23,24 +23,7 @@ size-requires : tie.Need-size-requires
 size-requires c κs = search needs
 
 put-digits-requires : tie.Need-put-digits-requires
-put-digits-requires c κs = room-less (omega arith) (c .before .before .before .pre)
-
-slice-aggregate-put : tie.Need-slice-aggregate-put
-slice-aggregate-put c = search needs
-
-put-requires : tie.Need-put-requires
-put-requires c κs = room-less (omega arith) (room-left (c .before .before .before .before .before))
-
-same-length : tie.Need-same-length
-same-length c = search needs
-
-returns : tie.Need-returns
-unfolding text
-returns c =
-    let p = c .before .before in
-    let t = p .before .before .before in
-    let d = t .before .before .before in
-    rw (integer-above (S d .args .x) (leZ-true (simp (toZ-ofZ, S d .fits .x) at (t .if1 .taken)))) (put-before (digits-put d) (p .put .ensures))
+put-digits-requires c κs = room-less (lit≤ tt) (c .before .before .before .pre)
 
 slice-aggregate-put-2 : tie.Need-slice-aggregate-put-2
 slice-aggregate-put-2 c = search needs
@@ -58,6 +41,23 @@ returns-2 c =
     let t = p .before .before .before in
     let d = t .before .before .before in
     rw (integer-below (S d .args .x) (leZ-false (simp (toZ-ofZ, S d .fits .x) at (t .if1 .left)))) (put-before (digits-put d) (p .put2 .ensures))
+
+slice-aggregate-put : tie.Need-slice-aggregate-put
+slice-aggregate-put c = search needs
+
+put-requires : tie.Need-put-requires
+put-requires c κs = room-less (lit≤ tt) (room-left (c .before .before .before .before .before))
+
+same-length : tie.Need-same-length
+same-length c = search needs
+
+returns : tie.Need-returns
+unfolding text
+returns c =
+    let p = c .before .before in
+    let t = p .before .before .before in
+    let d = t .before .before .before in
+    rw (integer-above (S d .args .x) (leZ-true (simp (toZ-ofZ, S d .fits .x) at (t .if1 .taken)))) (put-before (digits-put d) (p .put .ensures))
 
 pub put-integer-spec : {M : Type 1} → statement M
 put-integer-spec =
