@@ -2,4 +2,5 @@
 // sums of its region. The tally is that of `interval`, whose specs/ have the promise.
 mod lent;
 mod points;
+mod tested;
 pub mod unit;
