@@ -26,7 +26,7 @@ use Rattle.rules.specs.Text.{text, words}
 use Rattle.rules.specs.Listing.{refused-line, settle}
 use Rattle.rules.specs.Writing.{book-bytes}
 use Rattle.rules.specs.PaperBook.{zeros, first, second, paper-book}
-use Rattle.worked.specs.PaperListing.{paper-listing}
+use Rattle.paper.specs.PaperListing.{paper-listing}
 use Rattle.rules.specs.Computing.{computing}
 use Rattle.closing.specs.Parts.{Parts}
 use Rattle.closing.specs.Replacing.{with-roster}

@@ -1,3 +1,1 @@
-pub mod PaperListing
-pub mod RefusedBooks
 pub mod Listings

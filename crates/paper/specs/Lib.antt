@@ -1,0 +1,2 @@
+pub mod PaperListing
+pub mod RefusedBooks
