@@ -27,8 +27,8 @@ use Rattle.chain.specs.Honest.{Enough}
 use Rattle.chain.specs.BookRecords.{part-of}
 use Rattle.kept.specs.Kept.{Kept, region-of, row-standing, residual-row, kept-members, kept-answer}
 use Rattle.kept.specs.Range.{series-fine, figures-fine, rows-fine, kept-fine}
-use Rattle.kept.specs.BookAnswer.{kept-of}
-use Rattle.kept.specs.Ready.{requirement-at, KeptRoom, Ready, chain-ready, units-ready}
+use Rattle.chain.specs.BookAnswer.{kept-of}
+use Rattle.chain.specs.Ready.{requirement-at, KeptRoom, Ready, chain-ready, units-ready}
 use Rattle.members.specs.declared.Row.{Row}
 use Rattle.members.specs.Lists.{headed, gathered}
 use Rattle.members.specs.Roster.{Named, named, walk, row-of, member-reply, member-taken}

@@ -1,4 +1,4 @@
--- What a chain of calls leaves, from the table of contents to the end of a book
+-- What a chain of calls leaves, from the table of contents to the end of a book, and that it gives the rules' answer
 pub mod ChainLaws
 pub mod Taken
 pub mod Chain
@@ -12,3 +12,8 @@ pub mod BookWay
 pub mod BookRefused
 pub mod BookChain
 pub mod BookEnd
+pub mod Keeps
+pub mod Fine
+pub mod AnswerIs
+pub mod BookAnswer
+pub mod Ready

@@ -28,9 +28,9 @@ use Rattle.rules.specs.Performance.{wanted, units-of, unit-performance}
 use Rattle.rules.specs.PerformanceLaws.{wanted-within}
 use Rattle.rules.specs.MembersLaws.{measure-in-within, unit-performance-within}
 use Rattle.interval.specs.Lent.{series-start, figures-of, place-of, six}
 use Rattle.kept.specs.Kept.{Kept, figure}
-use Rattle.kept.specs.Keeps.{Keeps}
+use Rattle.chain.specs.Keeps.{Keeps}
 use Rattle.kept.specs.Range.{measures-fine, sums-fine, series-fine, from-0, figures-fine, rows-fine, kept-fine}
 
 -- ---- each element is in one class, so the sizes of the classes' totals together are at most a limit for each element
 module _ {A : Type 0} (P : A → Type 0) (k : ℕ) (f : A → ℤ) (fits : (x : A) → P x → natAbs (f x) ≤ k) (n : ℕ) (class : A → ℕ) where

@@ -14,14 +14,14 @@ use Rattle.rules.specs.LimitsLaws.{book-fits}
 use Rattle.rules.specs.Answer.{answer}
 use Rattle.interval.specs.declared.Tally.{Tally}
 use Rattle.interval.specs.Tally.{settings-of, before-units}
 use Rattle.chain.specs.Taken.{counts-in}
 use Rattle.chain.specs.Chain.{Lent, Chain}
 use Rattle.chain.specs.Honest.{Enough}
 use Rattle.chain.specs.BookRecords.{part-of}
 use Rattle.chain.specs.BookChain.{BookMeans, book-chain, book-means}
 use Rattle.kept.specs.Kept.{Kept, kept-answer}
-use Rattle.kept.specs.Keeps.{Keeps}
-use Rattle.kept.specs.AnswerIs.{answer-is}
+use Rattle.chain.specs.Keeps.{Keeps}
+use Rattle.chain.specs.AnswerIs.{answer-is}
 
 -- what tally and lent lists have kept
 abbrev pub kept-of : Tally → Lent → Kept

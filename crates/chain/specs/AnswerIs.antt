@@ -30,9 +30,9 @@ use Rattle.rules.specs.Rcr.{weighed-measure, response, all-reliable, few-bad, r
 use Rattle.rules.specs.RcrLaws.{response-is}
 use Rattle.rules.specs.Answer.{answered, answer}
 use Rattle.interval.specs.Lent.{series-start}
 use Rattle.chain.specs.ChainLaws.{listed-shift}
 use Rattle.kept.specs.Kept.{Kept, reliable-of, residual-default, region-of, good-of, performance-of, unit-default, row-standing, row-member, some-good-or-none-of, residual-of, residual-value, residual-row, rows, kept-members, kept-weighed, kept-response, kept-reliable, kept-few-bad, kept-rcr, kept-answer}
-use Rattle.kept.specs.Keeps.{Keeps}
+use Rattle.chain.specs.Keeps.{Keeps}
 
 -- ---- the images of those indexes that pass are the images of those elements that pass
 indexed-those : {A B : Type 0} (e : ℕ → ℕ) (p : ℕ → Bool) (f : ℕ → B) (q : A → Bool) (g : A → B) (xs : List A) → ((j : ℕ) (z : A) → j < length xs → p (e j) ≡ q (getD xs j z)) → ((j : ℕ) (z : A) → j < length xs → f (e j) ≡ g (getD xs j z)) → map f (those p (listed 0 (length xs) e)) ≡ map g (those q xs)

@@ -24,17 +24,17 @@ use Rattle.rules.specs.Answer.{answer}
 use Rattle.interval.specs.declared.Tally.{Tally}
 use Rattle.interval.specs.Tally.{before-units, units-end, in-range}
 use Rattle.interval.specs.Lent.{series-length, figures-length}
 use Rattle.chain.specs.ChainLaws.{listed-length}
 use Rattle.chain.specs.Taken.{counts-in}
 use Rattle.chain.specs.Chain.{Lent, Chain, Leaves, Means, regions-among, units-among}
 use Rattle.chain.specs.ChainTheorem.{chain}
 use Rattle.chain.specs.Honest.{Enough, chain-in-range}
 use Rattle.chain.specs.BookRecords.{part-of, part-bytes, requirement-part, requirements-each, book-read}
 use Rattle.chain.specs.BookChain.{book-chain, book-means}
 use Rattle.kept.specs.Kept.{Kept, kept-answer}
 use Rattle.kept.specs.Range.{kept-fine}
-use Rattle.kept.specs.Fine.{passes-both, kept-in-range}
-use Rattle.kept.specs.BookAnswer.{kept-of, book-keeps, chain-answers}
+use Rattle.chain.specs.Fine.{passes-both, kept-in-range}
+use Rattle.chain.specs.BookAnswer.{kept-of, book-keeps, chain-answers}
 
 -- ---- the requirements' records
 -- a record that was taken is taken again whatever its number and whatever follows
