@@ -400,7 +400,7 @@ fn every_field() -> Book {
     book.units = vec![
         with_bad_readings(
             with_defaults(
-                unit(258, 1, true, 70_000, -60_000, |t| 1_000 - 13 * t),
+                unit(258, 3, true, 70_000, -60_000, |t| 1_000 - 13 * t),
                 [1, 2, 3, 4, 5, 6].map(|place| -2_020_304_050_607 - place),
             ),
             9,
@@ -505,7 +505,7 @@ pub fn all() -> Vec<Worked> {
         Worked {
             name: "every_field",
             shows:
-                "Each field holds a value of its own; three good points to a region. Region 1 has no good\n\
+                "Each field holds a value of its own; three good points to a region. Region 3 has no good\n\
                     unit. Requirement 1027: used over enabled, one bad of one at percent 33.",
             book: every_field(),
         },

@@ -90,7 +90,8 @@ module _ {start size : ℕ} {next : List ℕ → Reply Book} (before : Next star
   abbrev as-long : Change → Bool
   as-long c = eqb (length (part-with c)) (size - start)
 
-  each-later : (cs : List Change) → all as-long cs ≡ true → map (λ c. refusal (front start size ++ part-with c)) cs ≡ map (λ c. number-of (next (part-with c))) cs
+  each-later : (cs : List Change) → all as-long cs ≡ true
+      → map (λ c. refusal (front start size ++ part-with c)) cs ≡ map (λ c. number-of (next (part-with c))) cs
   unfolding all
   each-later [] h = refl
   each-later (c ∷ cs) h =
@@ -100,5 +101,8 @@ module _ {start size : ℕ} {next : List ℕ → Reply Book} (before : Next star
   pub alone-later : {n : ℕ} {cs : List Change} → all as-long cs ≡ true → map (λ c. number-of (next (part-with c))) cs ≡ map (λ c. n) cs → Alone start size n cs
   alone-later {cs = cs} long same = record { numbers = each-later cs long ∙ same }
 
-  pub together-later : {n : ℕ} {cs : List Change} → length (all-changed start cs (part start size)) ≡ size - start → number-of (next (all-changed start cs (part start size))) ≡ n → Together start size n cs
-  together-later {cs = cs} long same = record { number = later (all-changed start cs (part start size)) long ∙ same }
+  abbrev part-with-all : List Change → List ℕ
+  part-with-all cs = all-changed start cs (part start size)
+
+  pub together-later : {n : ℕ} {cs : List Change} → length (part-with-all cs) ≡ size - start → number-of (next (part-with-all cs)) ≡ n → Together start size n cs
+  together-later {cs = cs} long same = record { number = later (part-with-all cs) long ∙ same }

@@ -22,6 +22,11 @@ units bs = do
   qs ← requirement-body 2 0 (drop 744 bs)
   taken (record { settings = every-field .settings; regions = every-field .regions; roster = us; requirements = qs })
 
-pub frequencies-taken : Next 1_904 2_276 units
+-- opens what is computed before the units
+unfoldable pub before-units : Unit {0}
 unfolding every little listed contents settings region-in frequency-record frequency-body book bytes concat bits regions-bytes book-bytes
+before-units = tt
+
+pub frequencies-taken : Next 1_904 2_276 units
+unfolding before-units
 frequencies-taken = record { is = λ f. refl }

@@ -2,6 +2,7 @@ pub mod Changed
 pub mod TableFields
 pub mod SettingsFields
 pub mod FrequencyFields
+pub mod LaterRegions
 pub mod FrequenciesTaken
 pub mod UnitFields
 pub mod UnitPoints

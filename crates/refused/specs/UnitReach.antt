@@ -1,4 +1,4 @@
--- What a unit can reach (01, Quantities; Numbers the box can say no with): the limits that a tally's sums have for each unit taken are what the largest unit has.
+-- What a unit can reach (01, Numbers the box can say no with): the limits that a tally's sums have for each unit taken are what the largest unit has.
 use mathlib.Core.Path.{_≡_, refl}
 use mathlib.Core.Bool.{true}
 use lib.IntN.{pos, negℤ}

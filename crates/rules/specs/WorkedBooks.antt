@@ -75,6 +75,11 @@ unit number r kind start end defaults quality reading = record { number = number
 abbrev steady : ℕ → ℕ → Kind → ℕ → ByDirection Defaults → List ℤ → Unit
 steady number r kind power defaults reading = unit number r kind (pos power) (pos power) defaults (flat true) reading
 
+-- the same, where the reading at a point is bad
+abbrev bad-at : ℕ → ℕ → ℕ → Kind → ℤ → ℤ → ByDirection Defaults → (ℕ → ℤ) → Unit
+bad-at point number r kind start end defaults reading =
+    unit number r kind start end defaults (series (λ t. not (eqb t point))) (series (λ t. cond (eqb t point) (pos 0) (reading t)))
+
 abbrev requirement : ℕ → ℕ → Direction → ℕ → ℕ → ℕ → ℕ → Requirement
 requirement number set direction price cost enabled used = record { number = number; set = set; direction = direction; price = price; cost = cost; enabled = enabled; used = used }
 
@@ -104,7 +109,7 @@ default-reasons =
     ∷ first-good 100_000 (minus 5_000 10_000 15_000 0 0 0) 49_990_000
     ∷ [])
     (steady 10 0 Generation 1_000 (minus 11 12 13 0 0 0) (flat (pos 1_010))
-    ∷ unit 20 0 Generation (pos 1_000) (pos 1_000) (minus 75_000_000 375_000_000 23 0 0 0) (series (λ t. not (eqb t 75))) (series (λ t. cond (eqb t 75) (pos 0) (pos 3_000)))
+    ∷ bad-at 75 20 0 Generation (pos 1_000) (pos 1_000) (minus 75_000_000 375_000_000 23 0 0 0) (λ t. pos 3_000)
     ∷ steady 30 1 Load 1_000 (minus 31 32 33 0 0 0) (flat (pos 900))
     ∷ unit 40 2 Load (pos 1_000) (pos 1_000) (minus 41 42 43 0 0 0) (flat false) (flat (pos 0))
     ∷ [])
@@ -144,7 +149,7 @@ unplaced =
     (first-good 1 zeros 49_980_000 ∷ quiet ∷ first-good 1 zeros 49_980_000 ∷ quiet ∷ quiet ∷ [])
     (unit 1 0 Generation (pos 0) (pos 75) zeros (flat true) (series (λ t. pos t))
     ∷ unit 2 0 Load (pos 75) (pos 0) zeros (flat true) (series (λ t. pos (75 - t)))
-    ∷ unit 3 2 Generation (pos 0) (pos 0) (minus 5 0 7 0 0 0) (series (λ t. not (eqb t 1))) (flat (pos 0))
+    ∷ bad-at 1 3 2 Generation (pos 0) (pos 0) (minus 5 0 7 0 0 0) (λ t. pos 0)
     ∷ [])
     (requirement 1 1 Raise 5_000 1_001 2 1 ∷ requirement 2 1 Raise 5_000 1_001 0 1 ∷ requirement 3 4 Raise 5_000 1_001 2 1 ∷ [])
 
@@ -184,9 +189,14 @@ no-units =
 abbrev pub one-side : Book
 one-side =
     book (settings 10_000 74 100 108)
-    (two-good 1 zeros 49_980_000 8 50_020_000 ∷ first-good 10 (minus 20 30 0 0 0 0) 49_980_000 ∷ first-good 10 (minus 20 30 0 0 0 0) 49_980_000 ∷ quiet ∷ quiet ∷ [])
+    (two-good 1 zeros 49_980_000 8 50_020_000
+    ∷ first-good 10 (minus 20 30 0 0 0 0) 49_980_000
+    ∷ first-good 10 (minus 20 30 0 0 0 0) 49_980_000
+    ∷ quiet
+    ∷ quiet
+    ∷ [])
     (steady 1 0 Generation 0 zeros (series (λ t. cond (leb t 7) (pos 0) (pos 100)))
-    ∷ unit 2 1 Generation (pos 0) (pos 0) (minus 5 10 1 0 0 0) (series (λ t. not (eqb t 8))) (series (λ t. cond (eqb t 8) (pos 0) (pos 50)))
+    ∷ bad-at 8 2 1 Generation (pos 0) (pos 0) (minus 5 10 1 0 0 0) (λ t. pos 50)
     ∷ [])
     (requirement 1 3 Raise 1_200 100 4 1 ∷ requirement 2 5 Raise 1_200 100 4 1 ∷ requirement 3 1 Raise 1_200 100 4 1 ∷ requirement 4 1 Lower 1_200 100 4 1 ∷ [])
 
@@ -202,7 +212,7 @@ lower-defaults =
     ∷ first-good 100 (minus-from 500) 50_010_000
     ∷ [])
     (steady 1 0 Generation 1_000 (minus-from 10) (flat (pos 900))
-    ∷ unit 2 0 Load (pos 2_000) (pos 2_000) (minus 21 22 23 4_000_000_000 7_000_000_000 26) (series (λ t. not (eqb t 40))) (series (λ t. cond (eqb t 40) (pos 0) (pos 2_500)))
+    ∷ bad-at 40 2 0 Load (pos 2_000) (pos 2_000) (minus 21 22 23 4_000_000_000 7_000_000_000 26) (λ t. pos 2_500)
     ∷ unit 3 3 Generation (pos 0) (pos 0) (minus 31 32 33 1_000_000_000 3_000_000_000 36) (flat false) (flat (pos 0))
     ∷ [])
     (lower 1 1 ∷ lower 2 9 ∷ lower 3 2 ∷ lower 4 4 ∷ lower 5 16 ∷ [])
@@ -235,7 +245,7 @@ abbrev pub every-field : Book
 every-field =
     book (settings 4_321 72 33 67_305_985)
     (below 1 ∷ above 2 ∷ below 3 ∷ above 4 ∷ separated (below 5) ∷ [])
-    (unit 258 1 Load (pos 70_000) (negℤ (pos 60_000)) (minus-from 2_020_304_050_607) (series (λ t. not (eqb t 9))) (series (λ t. cond (eqb t 9) (pos 0) (pos 1_000 -ℤ pos (13 * t))))
+    (bad-at 9 258 3 Load (pos 70_000) (negℤ (pos 60_000)) (minus-from 2_020_304_050_607) (λ t. pos 1_000 -ℤ pos (13 * t))
     ∷ unit 772 2 Generation (negℤ (pos 1_234)) (pos 5_678) (minus-from 3_030_405_060_708) (flat true) (series (λ t. pos (100 * t) -ℤ pos 3_000))
     ∷ [])
     (requirement 513 5 Raise 66_051 4_328_719_365 658_188 526_086 ∷ requirement 1_027 10 Lower 9_876_543 987_654_321_012 1_234_567 1_999_999 ∷ [])

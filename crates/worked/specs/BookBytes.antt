@@ -79,6 +79,6 @@ pub edges-of-reliability-bytes : Written edges-of-reliability 2_024 1_898_456_52
 unfolding computing
 edges-of-reliability-bytes = record { long = refl; same = refl }
 
-pub every-field-bytes : Written every-field 2_696 421_045_444_489_479_977
+pub every-field-bytes : Written every-field 2_696 1_573_966_949_096_326_953
 unfolding computing
 every-field-bytes = record { long = refl; same = refl }

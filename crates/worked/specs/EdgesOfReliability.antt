@@ -68,4 +68,5 @@ pub edges-of-reliability-listing : settle (book-bytes edges-of-reliability)
     ++ (text "requirement 4 raise 0 0 0 50 0 0\n"
     ++ text "residual default -51 -1000000000 0 0 -50\n")))))))))
 unfolding listing joined text digits words
-edges-of-reliability-listing = settled edges-of-reliability read ∙ rw (lower-seven-points, lower-six-points, lower-none-beyond, raise-seven-points, raise-six-points)
+edges-of-reliability-listing =
+    settled edges-of-reliability read ∙ rw (lower-seven-points, lower-six-points, lower-none-beyond, raise-seven-points, raise-six-points)

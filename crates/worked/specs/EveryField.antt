@@ -31,8 +31,8 @@ raise-in-two-regions = refl
 
 pub lower-in-two-regions : lines 1
     ≡ text "requirement 1027 lower 0 0 987654321012 0 0 0\n"
-    ++ (text "unit 258 default -2020304050611 -499987375 0 -493814691068 0\n"
-    ++ text "residual default -2020406081016 -500012625 0 -493839629944 0\n")
+    ++ (text "unit 258 default -2020304050611 -333322111 0 -329207023153 0\n"
+    ++ text "residual default -4040812162028 -666677889 0 -658447297859 0\n")
 unfolding computing
 lower-in-two-regions = refl
 
@@ -42,7 +42,7 @@ pub every-field-listing : settle (book-bytes every-field)
     ++ (text "unit 772 live -222497161410 -1000000000 -96774 -3459921262 -372327717\n"
     ++ (text "residual live 222497161410 1000000000 96774 0 -496470386\n"
     ++ (text "requirement 1027 lower 0 0 987654321012 0 0 0\n"
-    ++ (text "unit 258 default -2020304050611 -499987375 0 -493814691068 0\n"
-    ++ text "residual default -2020406081016 -500012625 0 -493839629944 0\n")))))
+    ++ (text "unit 258 default -2020304050611 -333322111 0 -329207023153 0\n"
+    ++ text "residual default -4040812162028 -666677889 0 -658447297859 0\n")))))
 unfolding listing joined text digits words
 every-field-listing = settled every-field read ∙ rw (raise-in-two-regions, lower-in-two-regions)
