@@ -1,0 +1,4 @@
+-- A chain of C calls, and that it is a chain of the calls below
+pub mod WordsLaws
+pub mod WordsCalls
+pub mod WordsChain

@@ -1,0 +1,156 @@
+-- The C calls that take a record, by what they promise: a call that answers a number has changed nothing, and on words that hold a tally a call is the call
+-- below on that tally, its step told as a number and as words.
+use mathlib.Core.Path.{_≡_, refl, ap}
+use mathlib.Core.List.{List}
+use Prim.Native.Nat.{ℕ, _+_, _<_}
+use Rattle.rules.specs.declared.Refusal.{Refusal}
+use Rattle.rules.specs.Refusals.{taken}
+use Rattle.interval.specs.declared.Tally.{Tally}
+use Rattle.interval.specs.declared.Taking.{Taking}
+use Rattle.interval.specs.declared.Step.{Step}
+use Rattle.interval.specs.Promises.{SettingsPromise, FrequencyPromise, UnitPromise, RequirementPromise}
+use Rattle.interval.specs.Calls.{settled, counted, settings-reply, requirement-reply}
+use Rattle.chain.specs.Taken.{step-refused}
+use Rattle.chain.specs.Chain.{Lent, FrequencyCall, UnitCall, Refused}
+use Rattle.chain.specs.ChainTheorem.{same-lent, frequency-kept, unit-kept}
+use Rattle.dullavane.specs.Words.{held, told, words-left, words-after}
+use Rattle.dullavane.specs.Called.{Stepped, Called, was-held}
+use Rattle.dullavane.specs.Promises.{SettingsCalled, FrequencyCalled, UnitCalled, RequirementCalled}
+use Rattle.demands.specs.WordsLaws.{told-refused, is-stepped, stepped-by, refused-keeps}
+
+-- ---- the lists that a call is not lent stay as they were
+pub record FrequencyApart (l l′ : Lent) : Type 0 where
+  pub readings : l′ .readings ≡ l .readings
+  pub deviations : l′ .deviations ≡ l .deviations
+  pub numbers : l′ .numbers ≡ l .numbers
+  pub places : l′ .places ≡ l .places
+  pub raise : l′ .raise ≡ l .raise
+  pub lower : l′ .lower ≡ l .lower
+  pub defaults : l′ .defaults ≡ l .defaults
+
+pub record UnitApart (l l′ : Lent) : Type 0 where
+  pub frequencies : l′ .frequencies ≡ l .frequencies
+  pub measures : l′ .measures ≡ l .measures
+  pub figures : l′ .figures ≡ l .figures
+
+-- ---- a C call that takes a record: it is handed the part p of a book, the tally's words and lent lists; it returns r
+module _ (p ws : List ℕ) (l : Lent) (r : ℕ) (ws′ : List ℕ) (l′ : Lent) where
+  abbrev pub FrequencyWords : Type 0
+  FrequencyWords =
+      FrequencyCalled ws p (l .frequencies) (l .measures) (l .positive) (l .negative) (l .figures) r
+      ws′ (l′ .frequencies) (l′ .measures) (l′ .positive) (l′ .negative) (l′ .figures)
+
+  abbrev pub UnitWords : Type 0
+  UnitWords =
+      UnitCalled ws p (l .readings) (l .deviations) (l .measures) (l .positive) (l .negative)
+      (l .numbers) (l .places) (l .raise) (l .lower) (l .defaults) r
+      ws′ (l′ .readings) (l′ .deviations) (l′ .positive) (l′ .negative) (l′ .numbers) (l′ .places) (l′ .raise) (l′ .lower) (l′ .defaults)
+
+  pub data WordsCall : Type 0 where
+    settings-called : SettingsCalled ws p r ws′ → l′ ≡ l → WordsCall
+    frequency-called : FrequencyWords → FrequencyApart l l′ → WordsCall
+    unit-called : UnitWords → UnitApart l l′ → WordsCall
+    requirement-called : RequirementCalled ws p r ws′ → l′ ≡ l → WordsCall
+
+-- ---- the call below it, on a tally
+module _ (p : List ℕ) (t : Tally) (l : Lent) (s : Step) (l′ : Lent) where
+  pub data StepCall : Type 0 where
+    settings-step : SettingsPromise t p s → l′ ≡ l → StepCall
+    frequency-step : FrequencyCall t p l s l′ → StepCall
+    unit-step : UnitCall t p l s l′ → StepCall
+    requirement-step : RequirementPromise t p s → l′ ≡ l → StepCall
+
+-- ---- laws
+-- a refused step leaves the words, and what else is lent if the call below does
+module _ (Call : Tally → Step → Type 0) (Kept Same : Type 0) {ws ws′ : List ℕ} {r : ℕ} where
+  refused-step :
+      ((t : Tally) (s : Step) (why : Refusal) → Call t s → Refused s why → Same) →
+      (Kept → Same) →
+      Called told words-after Call Kept (held ws) ws r ws′ →
+      0 < r →
+      (ws′ ≡ ws) × Same
+  refused-step by-call by-keeping c h = refused-keeps told words-after Call Kept Same ws stays by-keeping (held ws) c h
+    where
+      stays : (t : Tally) (s : Step) → Call t s → 0 < told s → (words-after s ws ≡ ws) × Same
+      stays t s call some =
+          let no = told-refused s some in
+          (ap (λ (x : Taking). words-left x (s .tally) ws) (no .1), by-call t s (no .0) call (no .1))
+
+-- with what a call is lent and what it is not, all lists are told of
+module _ {t : Tally} {p : List ℕ} {l : Lent} {s : Step} {l′ : Lent} where
+  frequency-whole :
+      FrequencyPromise t p (l .frequencies) (l .measures) (l .positive) (l .negative) (l .figures) s
+      (l′ .frequencies) (l′ .measures) (l′ .positive) (l′ .negative) (l′ .figures) →
+      FrequencyApart l l′ →
+      FrequencyCall t p l s l′
+  frequency-whole promise apart =
+      record {
+        promise = promise;
+        readings = apart .readings;
+        deviations = apart .deviations;
+        numbers = apart .numbers;
+        places = apart .places;
+        raise = apart .raise;
+        lower = apart .lower;
+        defaults = apart .defaults;
+      }
+
+  frequency-rest : FrequencyCall t p l s l′ → FrequencyApart l l′
+  frequency-rest c =
+      record {
+        readings = c .readings;
+        deviations = c .deviations;
+        numbers = c .numbers;
+        places = c .places;
+        raise = c .raise;
+        lower = c .lower;
+        defaults = c .defaults;
+      }
+
+  unit-whole :
+      UnitPromise t p (l .readings) (l .deviations) (l .measures) (l .positive) (l .negative)
+      (l .numbers) (l .places) (l .raise) (l .lower) (l .defaults) s
+      (l′ .readings) (l′ .deviations) (l′ .positive) (l′ .negative) (l′ .numbers) (l′ .places) (l′ .raise) (l′ .lower) (l′ .defaults) →
+      UnitApart l l′ →
+      UnitCall t p l s l′
+  unit-whole promise apart = record { promise = promise; frequencies = apart .frequencies; measures = apart .measures; figures = apart .figures }
+
+  unit-rest : UnitCall t p l s l′ → UnitApart l l′
+  unit-rest c = record { frequencies = c .frequencies; measures = c .measures; figures = c .figures }
+
+module _ {p ws : List ℕ} {l : Lent} {r : ℕ} {ws′ : List ℕ} {l′ : Lent} where
+  -- a call that answers a number leaves words and lists as they came, whatever the words hold
+  pub refused-call : WordsCall p ws l r ws′ l′ → 0 < r → (ws′ ≡ ws) × (l′ ≡ l)
+  refused-call (settings-called c e) h = (refused-step _ _ (Unit {0}) (λ t s why _ _. tt) (λ _. tt) (c .answer) h .0, e)
+  refused-call (frequency-called c a) h =
+      refused-step _ _ (l′ ≡ l) (λ t s why call no. frequency-kept (frequency-whole call a) no .1)
+      (λ k. same-lent l′ l (k .0) (k .1) (k .2) (k .3) (k .4) (a .readings) (a .deviations) (a .numbers) (a .places) (a .raise) (a .lower) (a .defaults))
+      (c .answer) h
+  refused-call (unit-called c a) h =
+      refused-step _ _ (l′ ≡ l) (λ t s why call no. unit-kept (unit-whole call a) no .1)
+      (λ k. same-lent l′ l (a .frequencies) (a .measures) (k .2) (k .3) (a .figures) (k .0) (k .1) (k .4) (k .5) (k .6) (k .7) (k .8))
+      (c .answer) h
+  refused-call (requirement-called c e) h = (refused-step _ _ (Unit {0}) (λ t s why _ _. tt) (λ _. tt) (c .answer) h .0, e)
+
+  -- a call on words that hold a tally is the call below on that tally, its step told as a number and as words
+  module _ {t : Tally} (h : held ws ≡ taken t) where
+    pub call-steps : WordsCall p ws l r ws′ l′ → Stepped told words-after (λ s. StepCall p t l s l′) ws r ws′
+    call-steps (settings-called c e) = stepped-by (λ s promise. settings-step promise e) (is-stepped _ _ _ _ h (c .answer))
+    call-steps (frequency-called c a) = stepped-by (λ s promise. frequency-step (frequency-whole promise a)) (is-stepped _ _ _ _ h (c .answer))
+    call-steps (unit-called c a) = stepped-by (λ s promise. unit-step (unit-whole promise a)) (is-stepped _ _ _ _ h (c .answer))
+    call-steps (requirement-called c e) = stepped-by (λ s promise. requirement-step promise e) (is-stepped _ _ _ _ h (c .answer))
+
+-- and the other way round: where the call below takes or refuses a record, so does the C call, with its number
+module _ {p : List ℕ} {t : Tally} {l : Lent} {s : Step} {l′ : Lent} {ws : List ℕ} (h : held ws ≡ taken t) where
+  pub step-calls : StepCall p t l s l′ → WordsCall p ws l (told s) (words-after s ws) l′
+  step-calls (settings-step c e) = settings-called (record { answer = was-held told words-after _ _ ws h c (refl, refl) }) e
+  step-calls (frequency-step c) = frequency-called (record { answer = was-held told words-after _ _ ws h (c .promise) (refl, refl) }) (frequency-rest c)
+  step-calls (unit-step c) = unit-called (record { answer = was-held told words-after _ _ ws h (c .promise) (refl, refl) }) (unit-rest c)
+  step-calls (requirement-step c e) = requirement-called (record { answer = was-held told words-after _ _ ws h c (refl, refl) }) e
+
+-- a refused step hands the tally back as it came
+pub refused-stays : {p : List ℕ} {t : Tally} {l : Lent} {s : Step} {l′ : Lent} {why : Refusal} → StepCall p t l s l′ → Refused s why → s .tally ≡ t
+refused-stays {p} {t} (settings-step c e) h = step-refused (settled t) t (settings-reply t p) (c .reply) h .1
+refused-stays (frequency-step c) h = frequency-kept c h .0
+refused-stays (unit-step c) h = unit-kept c h .0
+refused-stays {p} {t} (requirement-step c e) h = step-refused (λ q. counted (q .number + 1) t) t (requirement-reply t p) (c .reply) h .1
