@@ -1,5 +1,5 @@
--- READY: once a chain over the parts of a book that the format takes has all units in, all is there for the answers, and stays so to the book's end. The tally is
--- in range, the lent lists are long enough and in range, and each requirement's record, read again at its place, is that requirement of the book.
+-- READY: once a chain over the parts of a book that the format takes has all units in, all is there for the answers, and stays so to the book's end: the tally
+-- is in range, the lent lists are long enough and in range, and what is kept gives the rules' answer to any requirement.
 use mathlib.Core.Path.{_≡_, sym, _∙_, ap, subst}
 use mathlib.Core.Bool.{Bool, true, false, not, _&&_, _||_}
 use mathlib.Core.List.{List}
@@ -84,15 +84,13 @@ pub record KeptRoom (k : Kept) : Type 0 where
   pub lower : k .units ≤ length (k .lower)
   pub defaults : 6 * k .units ≤ length (k .defaults)
 
--- ---- what an answer asks of tally, lent lists and records
-pub record Ready (bs : List ℕ) (b : Book) (t : Tally) (l : Lent) : Type 0 where
+-- ---- what an answer asks of tally and lent lists
+pub record Ready (b : Book) (t : Tally) (l : Lent) : Type 0 where
   pub tally : in-range t ≡ true
   pub turn : units-end t ≤ t .records
   pub units : t .units ≡ length (b .roster)
-  pub requirements : t .requirements ≡ length (b .requirements)
   pub room : KeptRoom (kept-of t l)
   pub fine : kept-fine (kept-of t l) ≡ true
-  pub records : (i : ℕ) (z : Requirement) → i < length (b .requirements) → requirement-record 0 false (requirement-at bs i) ≡ taken (getD (b .requirements) i z)
   pub answers : (q : Requirement) → kept-answer (kept-of t l) q ≡ answer b q
 
 -- two chains over the same parts that have all units in keep the same
@@ -157,29 +155,27 @@ module _ (bs : List ℕ) (b : Book) (e : book bs ≡ taken b) (l₀ : Lent) (byt
         all = each (counts-in bs .units) (counts-in bs .requirements)
 
     -- at the chain's end
-    pub chain-ready : Ready bs b t l
+    pub chain-ready : Ready b t l
     chain-ready =
         let m = book-means bs b e l₀ d in
         record {
           tally = chain-in-range bs (part-of bs) l₀ d (λ m i _. part-bytes bs bytes m i);
           turn = omega (arith, w .records, w .units);
           units = m .units;
-          requirements = m .requirements;
           room = chain-room;
           fine = kept-in-range (kept-of t l) b (book-keeps b t l m) (book-fits bs b e);
-          records = requirement-read bs b e;
           answers = chain-answers bs b e l₀ d;
         }
 
   module _ (enough : Enough l₀ (counts-in bs .units)) where
     -- with room enough one comes there
-    pub book-ready : (t : Tally) × (l : Lent) × Chain bs (part-of bs) l₀ (before-units + counts-in bs .units + counts-in bs .requirements) t l × Ready bs b t l
+    pub book-ready : (t : Tally) × (l : Lent) × Chain bs (part-of bs) l₀ (before-units + counts-in bs .units + counts-in bs .requirements) t l × Ready b t l
     book-ready =
         let c = book-chain bs b e l₀ enough bytes in
         (c .0, c .1, c .2, chain-ready (c .2))
 
     -- and all is there as soon as the last unit is in: from then on what is kept stays as it is
-    pub units-ready : {n : ℕ} {t : Tally} {l : Lent} → before-units + counts-in bs .units ≤ n → Chain bs (part-of bs) l₀ n t l → Ready bs b t l
+    pub units-ready : {n : ℕ} {t : Tally} {l : Lent} → before-units + counts-in bs .units ≤ n → Chain bs (part-of bs) l₀ n t l → Ready b t l
     units-ready {n} {t} {l} h d =
         let r = book-ready in
         let w = chain bs (part-of bs) l₀ d in
@@ -189,9 +185,7 @@ module _ (bs : List ℕ) (b : Book) (e : book bs ≡ taken b) (l₀ : Lent) (byt
           tally = chain-in-range bs (part-of bs) l₀ d (λ m i _. part-bytes bs bytes m i);
           turn = omega (arith, w .records, w .units);
           units = ap (λ (k : Kept). k .units) same ∙ r .3 .units;
-          requirements = w .requirements ∙ sym (w′ .requirements) ∙ r .3 .requirements;
           room = subst KeptRoom (sym same) (r .3 .room);
           fine = ap (λ (k : Kept). kept-fine k) same ∙ r .3 .fine;
-          records = r .3 .records;
           answers = λ q. ap (λ (k : Kept). kept-answer k q) same ∙ r .3 .answers q;
         }
