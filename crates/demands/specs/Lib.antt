@@ -2,3 +2,5 @@
 pub mod WordsLaws
 pub mod WordsCalls
 pub mod WordsChain
+-- The rules' answer over words
+pub mod WordsAnswered
