@@ -2,5 +2,6 @@
 pub mod WordsLaws
 pub mod WordsCalls
 pub mod WordsChain
+pub mod SharedLists
 -- The rules' answer over words
 pub mod WordsAnswered

@@ -1,6 +1,6 @@
 -- The C calls that take a record, by what they promise: a call that answers a number has changed nothing, and on words that hold a tally a call is the call
 -- below on that tally, its step told as a number and as words.
-use mathlib.Core.Path.{_≡_, refl, ap}
+use mathlib.Core.Path.{_≡_, ap}
 use mathlib.Core.List.{List}
 use Prim.Native.Nat.{ℕ, _+_, _<_}
 use Rattle.rules.specs.declared.Refusal.{Refusal}
@@ -141,12 +141,12 @@ module _ {p ws : List ℕ} {l : Lent} {r : ℕ} {ws′ : List ℕ} {l′ : Lent}
     call-steps (requirement-called c e) = stepped-by (λ s promise. requirement-step promise e) (is-stepped _ _ _ _ h (c .answer))
 
 -- and the other way round: where the call below takes or refuses a record, so does the C call, with its number
-module _ {p : List ℕ} {t : Tally} {l : Lent} {s : Step} {l′ : Lent} {ws : List ℕ} (h : held ws ≡ taken t) where
-  pub step-calls : StepCall p t l s l′ → WordsCall p ws l (told s) (words-after s ws) l′
-  step-calls (settings-step c e) = settings-called (record { answer = was-held told words-after _ _ ws h c (refl, refl) }) e
-  step-calls (frequency-step c) = frequency-called (record { answer = was-held told words-after _ _ ws h (c .promise) (refl, refl) }) (frequency-rest c)
-  step-calls (unit-step c) = unit-called (record { answer = was-held told words-after _ _ ws h (c .promise) (refl, refl) }) (unit-rest c)
-  step-calls (requirement-step c e) = requirement-called (record { answer = was-held told words-after _ _ ws h c (refl, refl) }) e
+module _ {p : List ℕ} {t : Tally} {l : Lent} {s : Step} {l′ : Lent} {ws : List ℕ} {r : ℕ} {ws′ : List ℕ} (h : held ws ≡ taken t) where
+  pub step-calls : StepCall p t l s l′ → (r ≡ told s) × (ws′ ≡ words-after s ws) → WordsCall p ws l r ws′ l′
+  step-calls (settings-step c e) tells = settings-called (record { answer = was-held told words-after _ _ ws h c tells }) e
+  step-calls (frequency-step c) tells = frequency-called (record { answer = was-held told words-after _ _ ws h (c .promise) tells }) (frequency-rest c)
+  step-calls (unit-step c) tells = unit-called (record { answer = was-held told words-after _ _ ws h (c .promise) tells }) (unit-rest c)
+  step-calls (requirement-step c e) tells = requirement-called (record { answer = was-held told words-after _ _ ws h c tells }) e
 
 -- a refused step hands the tally back as it came
 pub refused-stays : {p : List ℕ} {t : Tally} {l : Lent} {s : Step} {l′ : Lent} {why : Refusal} → StepCall p t l s l′ → Refused s why → s .tally ≡ t

@@ -11,7 +11,7 @@ use lib.ListN.{length}
 use borrow.Author.Tests.{leb-true}
 use Rattle.rules.specs.declared.Refusal.{Refusal}
 use Rattle.rules.specs.declared.Refusal.the-variants.{TooShort}
-use Rattle.rules.specs.Refusals.{Reply, taken, refused, unless, number}
+use Rattle.rules.specs.Refusals.{Reply, taken, refused, unless}
 use Rattle.rules.specs.Quantities.{points}
 use Rattle.rules.specs.Book.{Settings}
 use Rattle.rules.specs.Contents.{Counts, contents}
@@ -27,7 +27,7 @@ use Rattle.chain.specs.Taken.{counts-in, contents-is}
 use Rattle.chain.specs.Chain as below
 use Rattle.chain.specs.Chain.{Lent, Taken, Refused, Chain, Means, the-settings}
 use Rattle.chain.specs.ChainTheorem.{chain}
-use Rattle.dullavane.specs.Words.{tally-words, with-words, held, Narrow, reply-number, taking-number, told, words-left, words-after}
+use Rattle.dullavane.specs.Words.{tally-words, with-words, held, Narrow, reply-number, taking-number, words-left}
 use Rattle.dullavane.specs.Promises.{contents-reply, ContentsCalled, contents-opened}
 use Rattle.demands.specs.WordsLaws.{refusal-numbered, told-taken, words-hold}
 use Rattle.demands.specs.WordsCalls.{WordsCall, StepCall, settings-step, frequency-step, unit-step, requirement-step}
@@ -148,18 +148,15 @@ module _ (head : List ℕ) (part : ℕ → List ℕ) (l₀ : Lent) (ws₀ : List
       {n : ℕ} {t : Tally} {l l′ : Lent} {s : Step} →
       Chain head part l₀ n t l → StepCall (part n) t l s l′ → Taken s → With n t l → With (suc n) (s .tally) l′
   goes-on {t = t} {s = s} d step h so-far =
-      let e : told s ≡ 0 = ap taking-number h in
-      let f : words-after s (with-words t ws₀) ≡ with-words (s .tally) ws₀ = ap (λ (k : Taking). words-left k (s .tally) (with-words t ws₀)) h in
-      took so-far (rw (e, f) at (step-calls (chain-held d ws₀) step))
+      let words = ap (λ (k : Taking). words-left k (s .tally) (with-words t ws₀)) h in
+      took so-far (step-calls (chain-held d ws₀) step (sym (ap taking-number h), sym words))
 
   stays :
       {n : ℕ} {t : Tally} {l l′ : Lent} {s : Step} {p : List ℕ} {why : Refusal} →
       Chain head part l₀ n t l → StepCall p t l s l′ → Refused s why → With n t l → With n (s .tally) l′
   stays {t = t} {s = s} {why = why} d step h so-far =
-      let e : told s ≡ number why = ap taking-number h in
-      let f : words-after s (with-words t ws₀) ≡ with-words t ws₀ = ap (λ (k : Taking). words-left k (s .tally) (with-words t ws₀)) h in
-      let g : s .tally ≡ t = refused-stays step h in
-      rw g (refused-record so-far (rw (e, f) at (step-calls (chain-held d ws₀) step)) (refusal-numbered why))
+      let words = ap (λ (k : Taking). words-left k (s .tally) (with-words t ws₀)) h in
+      rw (refused-stays step h) (refused-record so-far (step-calls (chain-held d ws₀) step (sym (ap taking-number h), sym words)) (refusal-numbered why))
 
   pub chain-words : {n : ℕ} {t : Tally} {l : Lent} → Chain head part l₀ n t l → WordsChain head part l₀ ws₀ n (with-words t ws₀) l
   chain-words (below.begun {t} p) = begun (contents-opened head ws₀ long (o.the-variants.Taken t) (p .reply) refl refl)
