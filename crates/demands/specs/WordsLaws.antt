@@ -1,7 +1,7 @@
 -- Laws of the tally's words and of the one form of promise that all C calls have (crates/dullavane, Words and Called).
 use mathlib.Core.Path.{_≡_, refl, sym, _∙_, subst}
 use mathlib.Core.List.{List}
-use Prim.Native.Nat.{ℕ, _<_}
+use Prim.Native.Nat.{ℕ, zero, suc, _<_}
 use native.Mathlib.Omega.{arith}
 use lib.ListN.{length}
 use borrow.Author.Tests.{le-leb, lt-ltb}
@@ -21,6 +21,9 @@ use Rattle.rules.specs.declared.Refusal.the-variants.{
   TooShort,
   LeftOvers,
 }
+use Rattle.rules.specs.declared.Reason.the-variants.{UnreliableRegion, BadUnit, NoGoodUnit}
+use Rattle.rules.specs.declared.Standing.{Standing}
+use Rattle.rules.specs.declared.Standing.the-variants.{Live, Default}
 use Rattle.rules.specs.Refusals.{Reply, taken, refused, number}
 use Rattle.interval.specs.declared.Tally.{Tally}
 use Rattle.interval.specs.declared.Taking as k
@@ -28,6 +31,7 @@ use Rattle.interval.specs.declared.Taking.{Taking}
 use Rattle.interval.specs.declared.Step.{Step}
 use Rattle.dullavane.specs.Words.{tally-words, with-words, held, held-by, Narrow, narrow-but, taking-number, told}
 use Rattle.dullavane.specs.Called.{Stepped, Called}
+use Rattle.dullavane.specs.Asked.{standing-number}
 
 -- ---- no refusal has the number 0, so 0 is told of a record taken alone
 pub refusal-numbered : (r : Refusal) → 0 < number r
@@ -90,3 +94,16 @@ pub stepped-by :
     {S : Type 0} {told : S → ℕ} {after : S → List ℕ → List ℕ} {Call Call₂ : S → Type 0} {ws ws′ : List ℕ} {r : ℕ} →
     ((s : S) → Call s → Call₂ s) → Stepped told after Call ws r ws′ → Stepped told after Call₂ ws r ws′
 stepped-by f c = record { step = c .step; call = f (c .step) (c .call); reply = c .reply; words = c .words }
+
+-- ---- a standing's number tells the standing
+abbrev pub standing-of : ℕ → Standing
+standing-of zero = Live
+standing-of (suc zero) = Default UnreliableRegion
+standing-of (suc (suc zero)) = Default BadUnit
+standing-of (suc (suc (suc n))) = Default NoGoodUnit
+
+pub standing-known : (s : Standing) → standing-of (standing-number s) ≡ s
+standing-known Live = refl
+standing-known (Default UnreliableRegion) = refl
+standing-known (Default BadUnit) = refl
+standing-known (Default NoGoodUnit) = refl
