@@ -26,11 +26,12 @@ use Rattle.rules.specs.RequirementRecord as r
 use Rattle.rules.specs.Members.{Name, unit, residual}
 use Rattle.rules.specs.Answer.{Line, answer, Answer as Full}
 use Rattle.interval.specs.declared.Tally.{Tally}
-use Rattle.interval.specs.Tally.{in-range, answer-turn}
+use Rattle.interval.specs.Tally.{units-end, in-range, answer-turn}
 use Rattle.interval.specs.TallyLaws.{ranged}
 use Rattle.chain.specs.Taken.{requirement-is}
 use Rattle.chain.specs.Chain.{Lent}
 use Rattle.chain.specs.BookAnswer.{kept-of}
+use Rattle.chain.specs.Ready.{Ready}
 use Rattle.kept.specs.Kept.{Kept, region-of, row-standing, rows}
 use Rattle.members.specs.declared.Row.{Row}
 use Rattle.members.specs.declared.Row.the-variants as row
@@ -39,7 +40,7 @@ use Rattle.members.specs.Roster.{Named, row-of, MemberPromise}
 use Rattle.answer.specs.declared.Answered.{Answered}
 use Rattle.answer.specs.Promises.{last-standing}
 use Rattle.answer.specs.Call.{record-fine}
-use Rattle.answer.specs.BookAnswered.{Columns, ColumnsLong, line-named, RulesAnswer}
+use Rattle.answer.specs.BookAnswered.{Columns, ColumnsLong, line-named, RulesAnswer, book-answered}
 use Rattle.dullavane.specs.Words.{held}
 use Rattle.dullavane.specs.Asked.{ready, in-turn, asked-narrow, direction-of, standing-number, member-words, row-number, row-after, MemberCalled}
 use Rattle.dullavane.specs.Answers.{reply-words, answered-number, answered-after, AnswerCalled}
@@ -255,3 +256,10 @@ module _
 
   pub words-answered : WordsAnswer b t ws l part q
   words-answered = record { answered = answer-told; rows = row-told; lines = walk-told }
+
+-- so it is where a chain of the calls below has left tally and lists ready for a book
+pub ready-answered :
+    {b : Book} {t : Tally} (ws : List ℕ) {l : Lent} → Ready b t l → held ws ≡ taken t →
+    (part : List ℕ) (q : Requirement) → requirement-record 0 false part ≡ taken q → WordsAnswer b t ws l part q
+ready-answered {t = t} ws h e part q asked =
+    words-answered ws e (rw (h .tally, le-leb (units-end t) (t .records) (h .turn))) asked (book-answered h part q asked)

@@ -27,7 +27,8 @@ use Rattle.chain.specs.Taken.{counts-in, contents-is}
 use Rattle.chain.specs.Chain as below
 use Rattle.chain.specs.Chain.{Lent, Taken, Refused, Chain, Means, the-settings}
 use Rattle.chain.specs.ChainTheorem.{chain}
-use Rattle.dullavane.specs.Words.{tally-words, with-words, held, Narrow, reply-number, taking-number, words-left}
+use Rattle.dullavane.specs.Words.{tally-words, with-words, held, Narrow, reply-number, taking-number, told, words-left, words-after}
+use Rattle.dullavane.specs.Called.{Stepped}
 use Rattle.dullavane.specs.Promises.{contents-reply, ContentsCalled, contents-opened}
 use Rattle.demands.specs.WordsLaws.{refusal-numbered, told-taken, words-hold}
 use Rattle.demands.specs.WordsCalls.{WordsCall, StepCall, settings-step, frequency-step, unit-step, requirement-step}
@@ -138,6 +139,15 @@ module _ {head : List ℕ} {part : ℕ → List ℕ} {l₀ : Lent} where
     words-chain (took d c) = next (words-chain d) c
     words-chain (refused-record d c h) = let e = refused-call c h in rw (e .0, e .1) (words-chain d)
     words-chain (refused-contents d c h) = rw (contents-kept c h) (words-chain d)
+
+-- ---- the next call in a chain, of any bytes: it is the call below on the chain's tally, and that one is it; its number is 0 or the refusal's
+module _ {head : List ℕ} {part : ℕ → List ℕ} {l₀ : Lent} {ws₀ : List ℕ} {n : ℕ} {ws : List ℕ} {l : Lent} (d : WordsChain head part l₀ ws₀ n ws l) where
+  pub next-steps :
+      {p ws′ : List ℕ} {r : ℕ} {l′ : Lent} → WordsCall p ws l r ws′ l′ → Stepped told words-after (λ s. StepCall p (words-chain d .tally) l s l′) ws r ws′
+  next-steps c = call-steps (words-chain d .held) c
+
+  pub next-calls : {p : List ℕ} {s : Step} {l′ : Lent} → StepCall p (words-chain d .tally) l s l′ → WordsCall p ws l (told s) (words-after s ws) l′
+  next-calls c = step-calls (words-chain d .held) c (refl, refl)
 
 -- ---- and the other way round: wherever the calls below come, the C calls come with eight words or more; a refused call is refused with its number
 module _ (head : List ℕ) (part : ℕ → List ℕ) (l₀ : Lent) (ws₀ : List ℕ) (long : tally-words ≤ length ws₀) where
