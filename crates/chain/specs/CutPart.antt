@@ -11,7 +11,7 @@ use lib.Seq.{getD-take, take-all}
 use borrow.Author.Tests.{le-leb, lt-leb, leb-true, leb-false, eq-eqb, ne-eqb, eqb-true, eqb-false}
 use Rattle.rules.specs.declared.Refusal.{Refusal}
 use Rattle.rules.specs.declared.Refusal.the-variants.{EndsEarly, WrongMark, WrongTable}
-use Rattle.rules.specs.Quantities.{points}
+use Rattle.rules.specs.Quantities.{points, regions}
 use Rattle.rules.specs.Bytes.{number-at, signed, integer-at}
 use Rattle.rules.specs.BytesLaws.{number-step, number-none}
 use Rattle.rules.specs.Refusals.{Reply, taken, unless}
@@ -25,6 +25,7 @@ use Rattle.interval.specs.declared.Tally.{Tally}
 use Rattle.interval.specs.declared.Opened.{Opened}
 use Rattle.interval.specs.declared.Step.{Step}
 use Rattle.interval.specs.Tally.{next-region, book-end}
+use Rattle.interval.specs.Lent.{named-region}
 use Rattle.interval.specs.Calls.{settings-reply, frequency-reply, unit-reply, requirement-reply}
 use Rattle.interval.specs.Promises.{ContentsPromise, SettingsPromise, RequirementPromise}
 use Rattle.chain.specs.ChainLaws.{listed-ext}
@@ -115,6 +116,10 @@ module _ (k : ℕ) (xs : List ℕ) where
   unfolding frequency-record
   frequency-cut position h = rw (whole-cut frequency-size h, number-cut 1 0 (omega arith), number-cut 1 1 (omega arith), number-cut 1 11 (omega arith), region-cut h)
 
+  -- the region that a unit's part names
+  named-cut : 3 ≤ k → named-region (take k xs) ≡ named-region xs
+  named-cut h = ap₂ (λ (s : Bool) (r : ℕ). cond s r regions) (whole-cut 3 h) (number-cut 1 2 (omega arith))
+
   unit-in-cut : unit-size ≤ k → unit-in (take k xs) ≡ unit-in xs
   unfolding unit-in
   unit-in-cut h =
@@ -183,7 +188,7 @@ module _ (t : Tally) {rest p : List ℕ} where
 
   unit-same : (l : Lent) → Cut unit-size rest p → unit-reply t p (l .readings) (l .deviations) (l .measures) (l .positive) (l .negative) (l .numbers) (l .places) (l .raise) (l .lower) (l .defaults) ≡ unit-reply t rest (l .readings) (l .deviations) (l .measures) (l .positive) (l .negative) (l .numbers) (l .places) (l .raise) (l .lower) (l .defaults)
   unfolding unit-reply
-  unit-same l c = rw (c .is, number-cut (c .bytes) rest 1 2 (omega (arith, c .behind)), unit-cut (c .bytes) rest (t .least) (c .behind))
+  unit-same l c = rw (c .is, named-cut (c .bytes) rest (omega (arith, c .behind)), unit-cut (c .bytes) rest (t .least) (c .behind))
 
   pub unit-uncut : {l l′ : Lent} {r : Step} → Cut unit-size rest p → UnitCall t p l r l′ → UnitCall t rest l r l′
   unit-uncut {l} c w =
