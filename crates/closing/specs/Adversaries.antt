@@ -29,8 +29,8 @@ use Rattle.rules.specs.PaperBook.{zeros, first, second, paper-book}
 use Rattle.paper.specs.PaperListing.{paper-listing}
 use Rattle.rules.specs.Computing.{computing}
 use Rattle.closing.specs.Parts.{Parts}
-use Rattle.closing.specs.Replacing.{with-roster}
-use Rattle.closing.specs.PaperCloses.{drawn, drawn-parts}
+use Rattle.closing.specs.Drawn.{with-roster}
+use Rattle.closing.specs.PaperCloses.{generator, generator-parts}
 
 -- ---- what is printed of the bytes of a book; demand 2 says that it is what `settle` prints
 abbrev pub Calculator : Type 0
@@ -136,11 +136,11 @@ rounded u t = turned (u .kind) (pos 75 *ℤ (getD (u .reading) t (pos 0) -ℤ ne
 pub rounds-the-trajectory : ((u x y : Unit) → Parts u x y → (t : ℕ) → t < points → rounded x t +ℤ rounded y t ≡ rounded u t) → ⊥
 unfolding computing
 rounds-the-trajectory h =
-    let e : pos 0 ≡ negℤ (pos 75) = h (climbs 2) (climbs 1) (climbs 1) (drawn-parts 1 1 1 0 0 1 1 (pos 0) (pos 0) 0 0) 29 (omega arith) in
+    let e : pos 0 ≡ negℤ (pos 75) = h (climbs 2) (climbs 1) (climbs 1) (generator-parts 1 1 1 0 0 1 1 (pos 0) (pos 0) 0 0) 29 (omega arith) in
     omega (arith, eq-in e)
   where
     climbs : ℕ → Unit
-    climbs n = drawn 1 0 n (pos 0) 0
+    climbs n = generator 1 0 n (pos 0) 0
 
 -- rounds each payment alone: the cents do not meet (demand 3), at 10 over 1, 1, 1
 pub rounds-each-payment : ((T : ℕ) (ws : List ℕ) → 0 < totalℕ (λ k. k) ws → totalℕ (λ w. nearestℕ (T * w) (totalℕ (λ k. k) ws)) ws ≡ T) → ⊥

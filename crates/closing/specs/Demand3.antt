@@ -2,7 +2,7 @@
 -- keeps all of this with them. Unless a condition is named it holds of any book at all, also of one past the limits; `books-close` gathers it for a book's bytes.
 use mathlib.Core.Path.{_≡_, sym, _∙_, subst}
 use mathlib.Core.Bool.{true, false}
-use mathlib.Core.List.{List, _∷_, _++_}
+use mathlib.Core.List.{List}
 use Prim.Native.Nat.{ℕ, _<_}
 use native.Mathlib.Omega.{arith}
 use lib.IntN.{pos, _+ℤ_}
@@ -21,24 +21,23 @@ use Rattle.rules.specs.Members.{unit-member, residual-or, members}
 use Rattle.rules.specs.Cents.{priced}
 use Rattle.rules.specs.CentsLaws.{credits-are-the-pool, debits-are-the-pool}
 use Rattle.rules.specs.Answer.{answered, answer}
-use Rattle.closing.specs.Parties.{some-helpful, some-unhelpful, no-default, helpful-weighs, unhelpful-weighs}
-use Rattle.closing.specs.Balance.{Placed, taken-placed, interval-closes, live-closes, both-or-neither}
-use Rattle.closing.specs.Parts.{Parts}
+use Rattle.closing.specs.Parties.{some-helpful, some-unhelpful, no-default, Placed}
+use Rattle.closing.specs.PartiesLaws.{helpful-weighs, unhelpful-weighs}
+use Rattle.closing.specs.Balance.{taken-placed, interval-closes, live-closes, both-or-neither}
+use Rattle.closing.specs.Drawn.{Drawn, MembersAddUp, MembersRedrawn}
 use Rattle.closing.specs.Replacing.{
-  with-roster,
-  MembersAddUp,
-  TwoForOne,
   unit-performance-stays,
   unit-standing-stays,
   used-pool-stays,
   unused-pool-stays,
   performances-add-up,
+  members-add-up,
   residual-deviation-stays,
   residual-performance-stays,
   residual-standing-stays,
-  members-add-up,
-  members-replaced,
+  members-redrawn,
   members-stay,
+  answer-stays,
 }
 
 -- 'In each region whose residual is live for a direction, the good units and the residual add up to zero, at every point in deviation and over the interval
@@ -54,9 +53,9 @@ unfolding unit-member
 region-closes b d r l =
     record {
       point = deviation-closes (units-of b r);
-      interval = interval-closes b d r;
-      payment = live-closes b d r (λ f. f .payment) l;
-      used = live-closes b d r (λ f. f .used) l;
+      interval = interval-closes b r d;
+      payment = live-closes b r d (λ f. f .payment) l;
+      used = live-closes b r d (λ f. f .used) l;
     }
 
 -- 'A requirement in which no default stands has a helpful party exactly when it has an unhelpful one'; each unit is of one of the five regions.
@@ -78,13 +77,15 @@ cents-meet b q helps harms =
     record {
       credits = credits;
       debits = debits;
-      pool = rw (sym (helpful-weighs b q) ∙ helps, sym (unhelpful-weighs b q) ∙ harms);
+      pool = rw (helpful-weighs b q ∙ helps, unhelpful-weighs b q ∙ harms);
       payments = eq-out (omega (arith, credits, debits, total-parts (λ l. l .payment) (answer b q .lines)));
     }
 
 -- 'Replace one good unit by two good ones of its region and kind, all within the limits, whose start, end, defaults and every reading add up to its own: their
--- performances add up exactly to the old one, and all other performances stay.' So do the residuals, and how each stands; a requirement has the two members in
--- the place of the one, every number that their shares go by adds up, and the pools for use stay. RCR need not: see PaperCloses, response-grows.
+-- performances add up exactly to the old one, and all other performances stay.' `Drawn` says the first half: what the three units are, and that the two may
+-- stand anywhere in the new roster, by any numbers; no limit is asked for. The residuals stay too, and how each stands. A requirement of the region has the two
+-- members for the one, and every number that their shares go by adds up; in any other nothing changes. The pools for use stay; RCR need not: see PaperCloses,
+-- response-grows.
 pub record Redrawn (b c : Book) (u x y : Unit) : Type 0 where
   pub sum : (d : Direction) → unit-performance c d x +ℤ unit-performance c d y ≡ unit-performance b d u
   pub others : (d : Direction) (w : Unit) → unit-performance c d w ≡ unit-performance b d w
@@ -93,36 +94,38 @@ pub record Redrawn (b c : Book) (u x y : Unit) : Type 0 where
   pub standings : (d : Direction) (w : Unit) → unit-standing c d w ≡ unit-standing b d w
   pub residual-standings : (d : Direction) (r : ℕ) → residual-standing c d r ≡ residual-standing b d r
   pub values : (d : Direction) → MembersAddUp (unit-member b d u) (unit-member c d x) (unit-member c d y)
-  pub in-place : (q : Requirement) → covers q (u .region) ≡ true → TwoForOne (members b q) (members c q) (unit-member b (q .direction) u) (unit-member c (q .direction) x) (unit-member c (q .direction) y)
+  pub in-place : (q : Requirement) → covers q (u .region) ≡ true → MembersRedrawn b c q u x y
   pub elsewhere : (q : Requirement) → covers q (u .region) ≡ false → members c q ≡ members b q
+  pub untouched : (q : Requirement) → covers q (u .region) ≡ false → answer c q ≡ answer b q
   pub used-pool : (q : Requirement) → answer c q .used-pool ≡ answer b q .used-pool
   pub unused-pool : (q : Requirement) → answer c q .unused-pool ≡ answer b q .unused-pool
 
--- at any place of the roster; no limit is asked for, and the numbers of the two are free
-pub however-drawn : (b c : Book) (xs ys : List Unit) (u x y : Unit) → Parts u x y → b .roster ≡ xs ++ (u ∷ ys) → c ≡ with-roster b (xs ++ (x ∷ y ∷ ys)) → Redrawn b c u x y
-however-drawn b c xs ys u x y h before after =
-    subst (λ (k : Book). Redrawn b k u x y) (sym after)
-    (subst (λ (us : List Unit). Redrawn (with-roster b us) (with-roster b (xs ++ (x ∷ y ∷ ys))) u x y) (sym before)
+pub however-drawn : (b c : Book) (u x y : Unit) → Drawn b c u x y → Redrawn b c u x y
+however-drawn b c u x y k =
+    let h = k .parts in
+    let us = c .roster in
+    subst (λ (c : Book). Redrawn b c u x y) (sym (k .all-else))
     (record {
-      sum = performances-add-up b xs ys u x y h;
-      others = unit-performance-stays b xs ys u x y;
-      residuals = residual-performance-stays b xs ys u x y h;
-      residual-points = residual-deviation-stays b xs ys u x y h;
-      standings = unit-standing-stays b xs ys u x y;
-      residual-standings = residual-standing-stays b xs ys u x y h;
-      values = members-add-up b xs ys u x y h;
-      in-place = members-replaced b xs ys u x y h;
-      elsewhere = members-stay b xs ys u x y h;
-      used-pool = used-pool-stays b xs ys u x y;
-      unused-pool = unused-pool-stays b xs ys u x y;
-    }))
+      sum = performances-add-up h b us;
+      others = unit-performance-stays b us;
+      residuals = residual-performance-stays h b (k .places);
+      residual-points = residual-deviation-stays h b (k .places);
+      standings = unit-standing-stays b us;
+      residual-standings = residual-standing-stays h b (k .places);
+      values = members-add-up h b us;
+      in-place = members-redrawn h b (k .places);
+      elsewhere = members-stay h b (k .places);
+      untouched = answer-stays h b (k .places);
+      used-pool = used-pool-stays b us;
+      unused-pool = unused-pool-stays b us;
+    })
 
 -- all of it, of every book that the format takes
 pub record BooksClose (b : Book) : Type 0 where
   pub region : (d : Direction) (r : ℕ) → is-live (residual-standing b d r) ≡ true → RegionCloses b d r
   pub parties : (q : Requirement) → no-default b q ≡ true → some-helpful b q ≡ some-unhelpful b q
   pub cents : (q : Requirement) → some-helpful b q ≡ true → some-unhelpful b q ≡ true → CentsMeet b q
-  pub drawn : (c : Book) (xs ys : List Unit) (u x y : Unit) → Parts u x y → b .roster ≡ xs ++ (u ∷ ys) → c ≡ with-roster b (xs ++ (x ∷ y ∷ ys)) → Redrawn b c u x y
+  pub drawn : (c : Book) (u x y : Unit) → Drawn b c u x y → Redrawn b c u x y
 
 pub books-close : (bs : List ℕ) (b : Book) → book bs ≡ taken b → BooksClose b
 books-close bs b e = record { region = region-closes b; parties = parties-meet b (taken-placed bs b e); cents = cents-meet b; drawn = however-drawn b }
