@@ -1,5 +1,5 @@
--- The conditions of demand 3 are met: at the paper's book (01, One listing in full), whose residual is live and whose requirement has no default and both parties;
--- and at that book with the roster 1, 2, 3, whose unit 2 may be drawn as units 2 and 9, which then stand apart.
+-- The conditions of demand 3 are met: at the paper's book (01, One listing in full), whose residual is live and whose requirement has no default and both
+-- parties; and at that book with the roster 1, 2, 3, whose unit 2 is drawn as units 2 and 9, which stand apart.
 use mathlib.Core.Path.{_≡_, refl, sym, _∙_, ap₂}
 use mathlib.Core.Bool.{true}
 use mathlib.Core.List.{[], _∷_}
@@ -13,7 +13,7 @@ use Rattle.rules.specs.declared.Kind.the-variants.{Generation}
 use Rattle.rules.specs.Quantities.{points}
 use Rattle.rules.specs.Refusals.{taken}
 use Rattle.rules.specs.BytesLaws.{listed-from-zero}
-use Rattle.rules.specs.Book.{by, Unit, Book}
+use Rattle.rules.specs.Book.{ByDirection, by, Defaults, Unit, Book}
 use Rattle.rules.specs.WholeBook.{book}
 use Rattle.rules.specs.Performance.{unit-performance}
 use Rattle.rules.specs.Standings.{residual-standing, is-live}
@@ -48,6 +48,9 @@ paper-closes =
     }
 
 -- ---- units in two parts
+abbrev unused-alone : ℕ → ByDirection Defaults
+unused-alone unused = record { raise = record { payment = pos 0; used = pos 0; unused = negℤ (pos unused) }; lower = none }
+
 -- a good generating unit of region 0, by its number, start, end, one reading throughout and its unused default for raise
 abbrev pub generator : ℕ → ℕ → ℕ → ℤ → ℕ → Unit
 generator number start end reading unused =
@@ -57,7 +60,7 @@ generator number start end reading unused =
       kind = Generation;
       start = pos start;
       end = pos end;
-      defaults = record { raise = record { payment = pos 0; used = pos 0; unused = negℤ (pos unused) }; lower = none };
+      defaults = unused-alone unused;
       quality = flat true;
       reading = flat reading;
     }
@@ -78,13 +81,16 @@ generator-parts k m n s c e g r p f h =
     at : (z : ℤ) (t : ℕ) → t < points → getD (flat z) t (pos 0) ≡ z
     at z t l = listed-from-zero points (λ i. z) t (pos 0) l
 
-    sides : (d : Direction)
-        → DefaultsAddUp (by d (generator k (s + c) (e + g) (r +ℤ p) (f + h) .defaults)) (by d (generator m s e r f .defaults)) (by d (generator n c g p h .defaults))
+    sides : (d : Direction) → DefaultsAddUp (by d (unused-alone (f + h))) (by d (unused-alone f)) (by d (unused-alone h))
     sides Raise = record { payment = refl; used = refl; unused = sym (negℤ-+ℤ (pos f) (pos h)) }
     sides Lower = record { payment = refl; used = refl; unused = refl }
 
+-- a unit that should stand still and moves
+abbrev moving : ℤ → Unit
+moving reading = generator 1 0 0 reading 0
+
 -- RCR need not stay: where a unit that does not move is drawn as two that move against each other, both count
-pub response-grows : (response Raise (generator 1 0 0 (pos 0) 0 ∷ []) 0 ≡ 0) × (response Raise (generator 0 0 0 (pos 1) 0 ∷ generator 1 0 0 (negℤ (pos 1)) 0 ∷ []) 0 ≡ 75)
+pub response-grows : (response Raise (moving (pos 0) ∷ []) 0 ≡ 0) × (response Raise (moving (pos 1) ∷ moving (negℤ (pos 1)) ∷ []) 0 ≡ 75)
 unfolding computing
 response-grows = (refl, refl)
 

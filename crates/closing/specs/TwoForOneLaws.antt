@@ -1,5 +1,5 @@
--- Laws of two for one. A total in which the two weigh what the one did stays, and so do those that pass a test which fails for all three; where all three pass a
--- test, there are two for one among those that pass it; and there are two for one among images.
+-- Laws of two for one. A total in which the two weigh what the one did stays, and so do those that pass a test which all three fail; among those that pass a
+-- test which all three pass there are two for one, and so there are among the images of all.
 use mathlib.Core.Path.{_≡_, refl, sym, _∙_, ap}
 use mathlib.Core.Bool.{Bool, true, false, cond}
 use mathlib.Core.List.{List, _∷_, map}
