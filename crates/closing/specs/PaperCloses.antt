@@ -48,6 +48,7 @@ paper-closes =
     }
 
 -- ---- units in two parts
+-- no default but the unused one for raise
 abbrev unused-alone : ℕ → ByDirection Defaults
 unused-alone unused = record { raise = record { payment = pos 0; used = pos 0; unused = negℤ (pos unused) }; lower = none }
 
@@ -65,6 +66,7 @@ generator number start end reading unused =
       reading = flat reading;
     }
 
+-- two of them are the parts of the one with the sums of their numbers
 pub generator-parts : (k m n s c e g : ℕ) (r p : ℤ) (f h : ℕ) → Parts (generator k (s + c) (e + g) (r +ℤ p) (f + h)) (generator m s e r f) (generator n c g p h)
 unfolding computing
 generator-parts k m n s c e g r p f h =
@@ -90,9 +92,14 @@ abbrev moving : ℤ → Unit
 moving reading = generator 1 0 0 reading 0
 
 -- RCR need not stay: where a unit that does not move is drawn as two that move against each other, both count
-pub response-grows : (response Raise (moving (pos 0) ∷ []) 0 ≡ 0) × (response Raise (moving (pos 1) ∷ moving (negℤ (pos 1)) ∷ []) 0 ≡ 75)
+pub record ResponseGrows : Type 0 where
+  pub parts : Parts (moving (pos 0)) (moving (pos 1)) (moving (negℤ (pos 1)))
+  pub one : response Raise (moving (pos 0) ∷ []) 0 ≡ 0
+  pub two : response Raise (moving (pos 1) ∷ moving (negℤ (pos 1)) ∷ []) 0 ≡ 75
+
+pub response-grows : ResponseGrows
 unfolding computing
-response-grows = (refl, refl)
+response-grows = record { parts = generator-parts 1 1 1 0 0 0 0 (pos 1) (negℤ (pos 1)) 0 0; one = refl; two = refl }
 
 -- ---- the roster 1, 2, 3 becomes 1, 2, 3, 9: unit 2 is drawn as a smaller unit 2 and a larger unit 9
 abbrev pub before : Unit
