@@ -11,7 +11,7 @@ use lib.Seq.{getD-take, take-take}
 use borrow.Author.Tests.{le-leb, lt-leb, leb-true, leb-false, eq-eqb, ne-eqb, eqb-true, eqb-false}
 use Rattle.rules.specs.declared.Refusal.{Refusal}
 use Rattle.rules.specs.declared.Refusal.the-variants.{EndsEarly, WrongMark, WrongTable}
-use Rattle.rules.specs.Quantities.{points}
+use Rattle.rules.specs.Quantities.{points, regions}
 use Rattle.rules.specs.Bytes.{number-at, signed, integer-at}
 use Rattle.rules.specs.BytesLaws.{number-step, number-none}
 use Rattle.rules.specs.Refusals.{Reply, taken, unless}
@@ -35,6 +35,7 @@ use Rattle.interval.specs.declared.Tally.{Tally}
 use Rattle.interval.specs.declared.Opened.{Opened}
 use Rattle.interval.specs.declared.Step.{Step}
 use Rattle.interval.specs.Tally.{next-region, book-end}
+use Rattle.interval.specs.Lent.{named-region}
 use Rattle.interval.specs.Calls.{settings-reply, frequency-reply, unit-reply, requirement-reply}
 use Rattle.interval.specs.Promises.{ContentsPromise, SettingsPromise, RequirementPromise}
 use Rattle.chain.specs.ChainLaws.{listed-ext}
@@ -167,6 +168,10 @@ module _ {k : ℕ} {p q : List ℕ} (a : Alike k p q) where
   frequency-same position h =
       rw (whole-same frequency-size h, number-same 1 0 (omega arith), number-same 1 1 (omega arith), number-same 1 11 (omega arith), region-same h)
 
+  -- the region that a unit's part names
+  named-same : 3 ≤ k → named-region p ≡ named-region q
+  named-same h = ap₂ (λ (s : Bool) (r : ℕ). cond s r regions) (whole-same 3 h) (number-same 1 2 (omega arith))
+
   unit-in-same : unit-size ≤ k → unit-in p ≡ unit-in q
   unfolding unit-in
   unit-in-same h =
@@ -253,10 +258,9 @@ module _ {k : ℕ} {p q : List ℕ} (a : Alike k p q) where
           defaults = w .defaults;
         }
 
-    -- what a unit call reads of its part are its record and, before that, the byte that names a region
     unit-read-same : (l : Lent) → unit-size ≤ k → unit-read t p l ≡ unit-read t q l
     unfolding unit-reply
-    unit-read-same l h = rw (number-same 1 2 (omega arith), unit-same (t .least) h)
+    unit-read-same l h = rw (named-same (omega arith), unit-same (t .least) h)
 
     pub unit-alike : {l l′ : Lent} {r : Step} → unit-size ≤ k → UnitCall t p l r l′ → UnitCall t q l r l′
     unit-alike {l} h w =
