@@ -11,7 +11,7 @@ const LIBRARY: &str = "target/bin/settle";
 const LONGEST: Duration = Duration::from_secs(60);
 
 /// The command that runs the library's `settle`: SETTLE, split at spaces, or what
-/// tests/program says of the program at its place under the top of the repository, on
+/// tests/tools/program says of the program at its place under the top of the repository, on
 /// whatever processor; None where there is none.
 pub fn library_command() -> Option<Vec<String>> {
     let words = |line: &str| line.split_whitespace().map(str::to_string).collect();
@@ -19,7 +19,7 @@ pub fn library_command() -> Option<Vec<String>> {
         Ok(line) => Some(words(&line)),
         Err(_) if Path::new(LIBRARY).exists() => {
             let said =
-                Command::new("tests/program").args(["--line", "settle"]).output().expect("tests/program");
+                Command::new("tests/tools/program").args(["--line", "settle"]).output().expect("tests/tools/program");
             Some(words(&String::from_utf8_lossy(&said.stdout)))
         }
         Err(_) => None,

@@ -1,6 +1,6 @@
--- DEMAND 2, WHOLE: from a tally and lent lists that are ready for a book, `answer` over any part that a requirement's record starts, cut or not, gives exactly
--- the rules' answer to it: its figures, and in the columns each number of its lines; and `member` over the rows gives each line's name and standing. Nothing is
--- refused. A chain of calls leaves them ready once it has all units in.
+-- DEMAND 2, WHOLE: once a chain of calls has all units in, `answer` over any part that a requirement's record starts gives exactly the rules' answer about the
+-- book that was taken: its figures, and in the columns each number of its lines; and `member` over the rows gives each line's name and standing. Nothing is
+-- refused.
 use mathlib.Core.Path.{_≡_, refl, sym, _∙_, ap, ap₂}
 use mathlib.Core.Bool.{true, false, _&&_}
 use mathlib.Core.List.{List, [], _∷_, _++_, map}
@@ -20,14 +20,17 @@ use Rattle.rules.specs.Answer.{Line, lines-of, answered, answer, Answer as Full
 use Rattle.interval.specs.declared.Tally.{Tally}
 use Rattle.interval.specs.Tally.{before-units, units-end, in-range, answer-turn}
 use Rattle.interval.specs.TallyLaws.{ranged}
+use Rattle.kept.specs.Kept.{Kept, region-of, row-standing, residual-row, kept-members, kept-answer}
+use Rattle.kept.specs.Range.{series-fine, figures-fine, rows-fine}
 use Rattle.chain.specs.Taken.{counts-in}
 use Rattle.chain.specs.Chain.{Lent, Chain}
 use Rattle.chain.specs.Honest.{Enough}
-use Rattle.chain.specs.BookRecords.{part-of}
-use Rattle.kept.specs.Kept.{Kept, region-of, row-standing, residual-row, kept-members, kept-answer}
-use Rattle.kept.specs.Range.{series-fine, figures-fine, rows-fine}
-use Rattle.chain.specs.BookAnswer.{kept-of}
-use Rattle.chain.specs.Ready.{Ready, chain-ready, units-ready}
+use Rattle.chain.specs.BookWay.{records-in, Hands, Takes}
+use Rattle.chain.specs.BookRefused.{book-way}
+use Rattle.chain.specs.Keeps.{kept-of, BookMeans}
+use Rattle.chain.specs.BookChain.{book-of}
+use Rattle.chain.specs.Spelled.{spelled, chain-book}
+use Rattle.chain.specs.Ready.{Ready, chain-ready, units-ready, ended-ready, requirement-read}
 use Rattle.members.specs.declared.Row.{Row}
 use Rattle.members.specs.Lists.{headed, gathered}
 use Rattle.members.specs.Roster.{Named, named, walk, row-of, row-answer, MemberPromise, member-of-kept, member-taken}
@@ -86,6 +89,10 @@ pub record RulesAnswer (b : Book) (t : Tally) (l : Lent) (part : List ℕ) (q : 
       gathered (λ j. covers q (region-of (kept-of t l) j))
       (λ j. record { name = unit (getD (l .numbers) j 0); standing = row-standing (kept-of t l) (q .direction) j }) (t .units)
       ++ (record { name = residual; standing = residual-row (kept-of t l) q .standing } ∷ [])
+
+-- to every requirement, asked for with any part that its record starts, cut or not, of the book or any other
+abbrev pub RulesAnswers : Book → Tally → Lent → Type 0
+RulesAnswers b t l = (part : List ℕ) (q : Requirement) → requirement-record 0 false part ≡ taken q → RulesAnswer b t l part q
 
 names-of : (h : ℕ → Member → Line) → ((i : ℕ) (m : Member) → line-named (h i m) ≡ named m) → (ms : List Member) → map line-named (numbered h ms) ≡ map named ms
 unfolding numbered
@@ -167,17 +174,47 @@ module _ {b : Book} {t : Tally} {l : Lent} (h : Ready b t l) (part : List ℕ) (
       ++ (record { name = residual; standing = residual-row k q .standing } ∷ [])
   lines-named = ap (λ (a : Full). map line-named (a .lines)) (sym (h .answers q)) ∙ kept-names k q ∙ walk k q
 
-  pub book-answered : RulesAnswer b t l part q
-  book-answered = record { answered = figures-answered; rows = row-answered; lines = lines-named }
+  pub rules-answer : RulesAnswer b t l part q
+  rules-answer = record { answered = figures-answered; rows = row-answered; lines = lines-named }
 
--- ---- from the bytes: wherever a chain over the book's parts has all units in, and at its end
-module _ (bs : List ℕ) (b : Book) (e : book bs ≡ taken b) (l₀ : Lent) (bytes : (i : ℕ) → getD bs i 0 < 256) where
+-- ---- OF WHATEVER WAS HANDED IN: the book is the one that the parts spell which were taken, whatever was refused in between
+-- once all units are in, for any requirements
+pub taken-answered :
+    {head : List ℕ} {part : ℕ → List ℕ} {l₀ : Lent} {n : ℕ} {t : Tally} {l : Lent} → Chain head part l₀ n t l → before-units + counts-in head .units ≤ n →
+    ((m i : ℕ) → m < n → getD (part m) i 0 < 256) → (qs : List Requirement) → RulesAnswers (book-of (counts-in head .units) part qs) t l
+taken-answered d all bytes qs = rules-answer (chain-ready d all bytes qs)
+
+-- at the chain's end
+pub record SpelledAnswered (head : List ℕ) (part : ℕ → List ℕ) (t : Tally) (l : Lent) : Type 0 where
+  pub the-book : Book
+  pub spells : book (spelled head part) ≡ taken the-book
+  pub means : BookMeans the-book t l
+  pub answers : RulesAnswers the-book t l
+
+pub chain-answered :
+    {head : List ℕ} {part : ℕ → List ℕ} {l₀ : Lent} {t : Tally} {l : Lent} → Chain head part l₀ (records-in head) t l →
+    ((m i : ℕ) → m < records-in head → getD (part m) i 0 < 256) → SpelledAnswered head part t l
+chain-answered d bytes =
+    let w = chain-book d in
+    record { the-book = w .0; spells = w .1; means = w .2; answers = rules-answer (ended-ready d bytes) }
+
+-- ---- OF A BOOK that the format takes, handed on whole or cut, with lists that are long enough
+pub record BookAnswered (bs : List ℕ) (b : Book) (head : List ℕ) (part : ℕ → List ℕ) (l₀ : Lent) : Type 0 where
+  -- whatever is refused in between, the calls take every record
+  pub takes : Takes head part l₀ (records-in head)
+  -- from the last unit on they give the rules' answers about the book
+  pub answers : {n : ℕ} {t : Tally} {l : Lent} → Chain head part l₀ n t l → before-units + counts-in head .units ≤ n → RulesAnswers b t l
+  -- and the part of each of its requirements asks for this one; z stands where a book has no requirement
+  pub asks :
+      (i : ℕ) (z : Requirement) → i < length (b .requirements) →
+      requirement-record 0 false (part (before-units + counts-in bs .units + i)) ≡ taken (getD (b .requirements) i z)
+
+module _
+    {bs head : List ℕ} {part : ℕ → List ℕ} (hands : Hands bs head part) (b : Book) (e : book bs ≡ taken b) (bytes : (i : ℕ) → getD bs i 0 < 256) where
   pub units-answered :
-      Enough l₀ (counts-in bs .units) → {n : ℕ} {t : Tally} {l : Lent} → before-units + counts-in bs .units ≤ n → Chain bs (part-of bs) l₀ n t l →
-      (part : List ℕ) (q : Requirement) → requirement-record 0 false part ≡ taken q → RulesAnswer b t l part q
-  units-answered enough m d = book-answered (units-ready bs b e l₀ bytes enough m d)
+      {l₀ : Lent} {n : ℕ} {t : Tally} {l : Lent} → Chain head part l₀ n t l → before-units + counts-in head .units ≤ n → RulesAnswers b t l
+  units-answered d all = rules-answer (units-ready hands b e d all bytes)
 
-  pub chain-answered :
-      {t : Tally} {l : Lent} → Chain bs (part-of bs) l₀ (before-units + counts-in bs .units + counts-in bs .requirements) t l →
-      (part : List ℕ) (q : Requirement) → requirement-record 0 false part ≡ taken q → RulesAnswer b t l part q
-  chain-answered d = book-answered (chain-ready bs b e l₀ bytes d)
+  pub book-answered : (l₀ : Lent) → Enough l₀ (counts-in bs .units) → BookAnswered bs b head part l₀
+  book-answered l₀ enough =
+      record { takes = book-way l₀ hands (λ _. enough) bytes b e; answers = units-answered; asks = requirement-read hands b e }
