@@ -5,3 +5,4 @@ pub mod WordsChain
 pub mod SharedLists
 -- The rules' answer over words
 pub mod WordsAnswered
+pub mod WordsBook

@@ -28,7 +28,7 @@ use Rattle.chain.specs.Taken.{step-taken}
 use Rattle.chain.specs.Chain.{Lent, FrequencyCall, UnitCall, Taken}
 use Rattle.dullavane.specs.Promises.{ContentsCalled}
 use Rattle.demands.specs.WordsLaws.{told-taken}
-use Rattle.demands.specs.WordsCalls.{WordsCall, StepCall, settings-step, frequency-step, unit-step, requirement-step}
+use Rattle.demands.specs.WordsCalls.{Turn, of-frequency, of-unit, WordsCall, StepCall, settings-step, frequency-step, unit-step, requirement-step}
 use Rattle.demands.specs.WordsCalls.{refused-call, call-steps, step-calls}
 use Rattle.demands.specs.WordsChain as c
 use Rattle.demands.specs.WordsChain.{WordsChain, words-chain}
@@ -55,8 +55,9 @@ lend l fs rs ds =
 module _ (head : List ℕ) (part : ℕ → List ℕ) (l₀ : Lent) (ws₀ : List ℕ) where
   pub data SharedChain : ℕ → List ℕ → Lent → Type 0 where
     begun : {ws : List ℕ} → ContentsCalled head ws₀ 0 ws → SharedChain 0 ws l₀
-    took : {n : ℕ} {ws ws′ : List ℕ} {l l′ : Lent} → SharedChain n ws l → WordsCall (part n) ws l 0 ws′ l′ → SharedChain (suc n) ws′ l′
-    refused-record : {n r : ℕ} {p ws ws′ : List ℕ} {l l′ : Lent} → SharedChain n ws l → WordsCall p ws l r ws′ l′ → 0 < r → SharedChain n ws′ l′
+    took : {n : ℕ} {ws ws′ : List ℕ} {l l′ : Lent} {turn : Turn} → SharedChain n ws l → WordsCall (part n) ws l 0 ws′ l′ turn → SharedChain (suc n) ws′ l′
+    refused-record :
+        {n r : ℕ} {p ws ws′ : List ℕ} {l l′ : Lent} {turn : Turn} → SharedChain n ws l → WordsCall p ws l r ws′ l′ turn → 0 < r → SharedChain n ws′ l′
     refused-contents : {n r : ℕ} {p ws ws′ : List ℕ} {l : Lent} → SharedChain n ws l → ContentsCalled p ws r ws′ → 0 < r → SharedChain n ws′ l
     lent-anew : {n : ℕ} {ws : List ℕ} {l : Lent} → SharedChain n ws l → (fs : List ℕ) (rs ds : List ℤ) → SharedChain n ws (lend l fs rs ds)
 
@@ -109,13 +110,12 @@ module _ (p : List ℕ) (t : Tally) (l : Lent) where
       let series = both (leb points (length ds)) _ (both (leb points (length rs)) _ (rest .0) .1) .1 in
       rw (turn .0, le-leb points (length rs₂) long, le-leb points (length ds₂) long₂, series) (rest .1)
 
-  module _ (o : Own) (s : Step) (l′ : Lent) where
-    record Alike : Type 0 where
-      own : Own
-      call : StepCall p t (with-own l o) s (with-own l′ own)
+  record Alike (o : Own) (s : Step) (l′ : Lent) (turn : Turn) : Type 0 where
+    own : Own
+    call : StepCall p t (with-own l o) s (with-own l′ own) turn
 
 module _ {p : List ℕ} {t : Tally} {l : Lent} (o : Own) {s : Step} {l′ : Lent} (h : Taken s) where
-  frequency-alike : FrequencyCall t p l s l′ → Alike p t l o s l′
+  frequency-alike : FrequencyCall t p l s l′ → Alike p t l o s l′ of-frequency
   frequency-alike c =
       let a = step-taken (λ _. counted 0 t) t (frequency-of p t l (l .frequencies)) (c .promise .reply) h in
       let y = frequency-of p t l (o .frequencies) in
@@ -150,7 +150,7 @@ module _ {p : List ℕ} {t : Tally} {l : Lent} (o : Own) {s : Step} {l′ : Lent
             });
       }
 
-  unit-alike : UnitCall t p l s l′ → Alike p t l o s l′
+  unit-alike : UnitCall t p l s l′ → Alike p t l o s l′ of-unit
   unit-alike c =
       let a = step-taken (unit-counted t) t (unit-of p t l (l .readings) (l .deviations)) (c .promise .reply) h in
       let y = unit-of p t l (o .readings) (o .deviations) in
@@ -186,7 +186,7 @@ module _ {p : List ℕ} {t : Tally} {l : Lent} (o : Own) {s : Step} {l′ : Lent
             });
       }
 
-  alike : StepCall p t l s l′ → Alike p t l o s l′
+  alike : {turn : Turn} → StepCall p t l s l′ turn → Alike p t l o s l′ turn
   alike (settings-step c e) = record { own = o; call = settings-step c (ap (λ (l : Lent). with-own l o) e) }
   alike (frequency-step c) = frequency-alike c
   alike (unit-step c) = unit-alike c
@@ -198,7 +198,7 @@ module _ (head : List ℕ) (part : ℕ → List ℕ) (l₀ : Lent) (ws₀ : List
     pub own : Own
     pub chain : WordsChain head part (with-own l₀ first-own) ws₀ n ws (with-own l own)
 
-  one-more : {n : ℕ} {ws ws′ : List ℕ} {l l′ : Lent} → Unshared n ws l → WordsCall (part n) ws l 0 ws′ l′ → Unshared (suc n) ws′ l′
+  one-more : {n : ℕ} {ws ws′ : List ℕ} {l l′ : Lent} {turn : Turn} → Unshared n ws l → WordsCall (part n) ws l 0 ws′ l′ turn → Unshared (suc n) ws′ l′
   one-more u call =
       let x = words-chain (u .chain) in
       let s = call-steps (x .held) call in

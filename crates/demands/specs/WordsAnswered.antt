@@ -30,7 +30,7 @@ use Rattle.interval.specs.Tally.{units-end, in-range, answer-turn}
 use Rattle.interval.specs.TallyLaws.{ranged}
 use Rattle.chain.specs.Taken.{requirement-is}
 use Rattle.chain.specs.Chain.{Lent}
-use Rattle.chain.specs.BookAnswer.{kept-of}
+use Rattle.chain.specs.Keeps.{kept-of}
 use Rattle.chain.specs.Ready.{Ready}
 use Rattle.kept.specs.Kept.{Kept, region-of, row-standing, rows}
 use Rattle.members.specs.declared.Row.{Row}
@@ -40,7 +40,7 @@ use Rattle.members.specs.Roster.{Named, row-of, MemberPromise}
 use Rattle.answer.specs.declared.Answered.{Answered}
 use Rattle.answer.specs.Promises.{last-standing}
 use Rattle.answer.specs.Call.{record-fine}
-use Rattle.answer.specs.BookAnswered.{Columns, ColumnsLong, line-named, RulesAnswer, book-answered}
+use Rattle.answer.specs.BookAnswered.{Columns, ColumnsLong, line-named, RulesAnswer, rules-answer}
 use Rattle.dullavane.specs.Words.{held}
 use Rattle.dullavane.specs.Asked.{ready, in-turn, asked-narrow, direction-of, standing-number, member-words, row-number, row-after, MemberCalled}
 use Rattle.dullavane.specs.Answers.{reply-words, answered-number, answered-after, AnswerCalled}
@@ -112,6 +112,10 @@ pub record WordsAnswer (b : Book) (t : Tally) (ws : List ℕ) (l : Lent) (part :
       (r ≡ 0) × (us′ ≡ row-after (row-of (kept-of t l) q j) us)
   -- and a walk over the rows finds the names and standings of its lines
   pub lines : {row : ℕ → List ℕ} → Walk ws part l (t .units) row → map line-told (answer b q .lines) ≡ found row (t .units) (figures-told (answer b q))
+
+-- to every requirement, asked for with any part that its record starts, cut or not, of the book or any other
+abbrev pub WordsAnswers : Book → Tally → List ℕ → Lent → Type 0
+WordsAnswers b t ws l = (part : List ℕ) (q : Requirement) → requirement-record 0 false part ≡ taken q → WordsAnswer b t ws l part q
 
 -- ---- laws
 -- the words are ready for what is asked
@@ -258,8 +262,6 @@ module _
   words-answered = record { answered = answer-told; rows = row-told; lines = walk-told }
 
 -- so it is where a chain of the calls below has left tally and lists ready for a book
-pub ready-answered :
-    {b : Book} {t : Tally} (ws : List ℕ) {l : Lent} → Ready b t l → held ws ≡ taken t →
-    (part : List ℕ) (q : Requirement) → requirement-record 0 false part ≡ taken q → WordsAnswer b t ws l part q
+pub ready-answered : {b : Book} {t : Tally} (ws : List ℕ) {l : Lent} → Ready b t l → held ws ≡ taken t → WordsAnswers b t ws l
 ready-answered {t = t} ws h e part q asked =
-    words-answered ws e (rw (h .tally, le-leb (units-end t) (t .records) (h .turn))) asked (book-answered h part q asked)
+    words-answered ws e (rw (h .tally, le-leb (units-end t) (t .records) (h .turn))) asked (rules-answer h part q asked)

@@ -31,15 +31,16 @@ use Rattle.dullavane.specs.Words.{tally-words, with-words, held, Narrow, reply-
 use Rattle.dullavane.specs.Called.{Stepped}
 use Rattle.dullavane.specs.Promises.{contents-reply, ContentsCalled, contents-opened}
 use Rattle.demands.specs.WordsLaws.{refusal-numbered, told-taken, words-hold}
-use Rattle.demands.specs.WordsCalls.{WordsCall, StepCall, settings-step, frequency-step, unit-step, requirement-step}
+use Rattle.demands.specs.WordsCalls.{Turn, WordsCall, StepCall, settings-step, frequency-step, unit-step, requirement-step}
 use Rattle.demands.specs.WordsCalls.{refused-call, call-steps, step-calls, refused-stays}
 
 -- ---- n records were taken, `part m` is what the call that took record m was handed
 module _ (head : List ℕ) (part : ℕ → List ℕ) (l₀ : Lent) (ws₀ : List ℕ) where
   pub data WordsChain : ℕ → List ℕ → Lent → Type 0 where
     begun : {ws : List ℕ} → ContentsCalled head ws₀ 0 ws → WordsChain 0 ws l₀
-    took : {n : ℕ} {ws ws′ : List ℕ} {l l′ : Lent} → WordsChain n ws l → WordsCall (part n) ws l 0 ws′ l′ → WordsChain (suc n) ws′ l′
-    refused-record : {n r : ℕ} {p ws ws′ : List ℕ} {l l′ : Lent} → WordsChain n ws l → WordsCall p ws l r ws′ l′ → 0 < r → WordsChain n ws′ l′
+    took : {n : ℕ} {ws ws′ : List ℕ} {l l′ : Lent} {turn : Turn} → WordsChain n ws l → WordsCall (part n) ws l 0 ws′ l′ turn → WordsChain (suc n) ws′ l′
+    refused-record :
+        {n r : ℕ} {p ws ws′ : List ℕ} {l l′ : Lent} {turn : Turn} → WordsChain n ws l → WordsCall p ws l r ws′ l′ turn → 0 < r → WordsChain n ws′ l′
     refused-contents : {n r : ℕ} {p ws ws′ : List ℕ} {l : Lent} → WordsChain n ws l → ContentsCalled p ws r ws′ → 0 < r → WordsChain n ws′ l
 
 -- ---- the tally of a chain is within its widths, so its words hold it
@@ -111,8 +112,8 @@ module _ (head : List ℕ) (part : ℕ → List ℕ) (l₀ : Lent) (ws₀ : List
 
 module _ {head : List ℕ} {part : ℕ → List ℕ} {l₀ : Lent} where
   one-more :
-      {n : ℕ} {t : Tally} {l l′ : Lent} {s : Step} →
-      Chain head part l₀ n t l → StepCall (part n) t l s l′ → Taken s → Chain head part l₀ (suc n) (s .tally) l′
+      {n : ℕ} {t : Tally} {l l′ : Lent} {s : Step} {turn : Turn} →
+      Chain head part l₀ n t l → StepCall (part n) t l s l′ turn → Taken s → Chain head part l₀ (suc n) (s .tally) l′
   one-more d (settings-step p e) h = rw e (below.took-settings d p h)
   one-more d (frequency-step p) h = below.took-frequency d p h
   one-more d (unit-step p) h = below.took-unit d p h
@@ -125,8 +126,8 @@ module _ {head : List ℕ} {part : ℕ → List ℕ} {l₀ : Lent} where
     tallied {t = t} d e room = record { tally = t; chain = d; words = e; held = ap held e ∙ chain-held d ws₀; room = room }
 
     next :
-        {n : ℕ} {ws ws′ : List ℕ} {l l′ : Lent} →
-        Tallied head part l₀ ws₀ n ws l → WordsCall (part n) ws l 0 ws′ l′ → Tallied head part l₀ ws₀ (suc n) ws′ l′
+        {n : ℕ} {ws ws′ : List ℕ} {l l′ : Lent} {turn : Turn} →
+        Tallied head part l₀ ws₀ n ws l → WordsCall (part n) ws l 0 ws′ l′ turn → Tallied head part l₀ ws₀ (suc n) ws′ l′
     next {ws = ws} x call =
         let s = call-steps (x .held) call in
         let took = told-taken (s .step) (sym (s .reply)) in
@@ -143,10 +144,13 @@ module _ {head : List ℕ} {part : ℕ → List ℕ} {l₀ : Lent} where
 -- ---- the next call in a chain, of any bytes: it is the call below on the chain's tally, and that one is it; its number is 0 or the refusal's
 module _ {head : List ℕ} {part : ℕ → List ℕ} {l₀ : Lent} {ws₀ : List ℕ} {n : ℕ} {ws : List ℕ} {l : Lent} (d : WordsChain head part l₀ ws₀ n ws l) where
   pub next-steps :
-      {p ws′ : List ℕ} {r : ℕ} {l′ : Lent} → WordsCall p ws l r ws′ l′ → Stepped told words-after (λ s. StepCall p (words-chain d .tally) l s l′) ws r ws′
+      {p ws′ : List ℕ} {r : ℕ} {l′ : Lent} {turn : Turn} → WordsCall p ws l r ws′ l′ turn →
+      Stepped told words-after (λ s. StepCall p (words-chain d .tally) l s l′ turn) ws r ws′
   next-steps c = call-steps (words-chain d .held) c
 
-  pub next-calls : {p : List ℕ} {s : Step} {l′ : Lent} → StepCall p (words-chain d .tally) l s l′ → WordsCall p ws l (told s) (words-after s ws) l′
+  pub next-calls :
+      {p : List ℕ} {s : Step} {l′ : Lent} {turn : Turn} → StepCall p (words-chain d .tally) l s l′ turn →
+      WordsCall p ws l (told s) (words-after s ws) l′ turn
   next-calls c = step-calls (words-chain d .held) c (refl, refl)
 
 -- ---- and the other way round: wherever the calls below come, the C calls come with eight words or more; a refused call is refused with its number
@@ -155,15 +159,15 @@ module _ (head : List ℕ) (part : ℕ → List ℕ) (l₀ : Lent) (ws₀ : List
   With n t l = WordsChain head part l₀ ws₀ n (with-words t ws₀) l
 
   goes-on :
-      {n : ℕ} {t : Tally} {l l′ : Lent} {s : Step} →
-      Chain head part l₀ n t l → StepCall (part n) t l s l′ → Taken s → With n t l → With (suc n) (s .tally) l′
+      {n : ℕ} {t : Tally} {l l′ : Lent} {s : Step} {turn : Turn} →
+      Chain head part l₀ n t l → StepCall (part n) t l s l′ turn → Taken s → With n t l → With (suc n) (s .tally) l′
   goes-on {t = t} {s = s} d step h so-far =
       let words = ap (λ (k : Taking). words-left k (s .tally) (with-words t ws₀)) h in
       took so-far (step-calls (chain-held d ws₀) step (sym (ap taking-number h), sym words))
 
   stays :
-      {n : ℕ} {t : Tally} {l l′ : Lent} {s : Step} {p : List ℕ} {why : Refusal} →
-      Chain head part l₀ n t l → StepCall p t l s l′ → Refused s why → With n t l → With n (s .tally) l′
+      {n : ℕ} {t : Tally} {l l′ : Lent} {s : Step} {turn : Turn} {p : List ℕ} {why : Refusal} →
+      Chain head part l₀ n t l → StepCall p t l s l′ turn → Refused s why → With n t l → With n (s .tally) l′
   stays {t = t} {s = s} {why = why} d step h so-far =
       let words = ap (λ (k : Taking). words-left k (s .tally) (with-words t ws₀)) h in
       rw (refused-stays step h) (refused-record so-far (step-calls (chain-held d ws₀) step (sym (ap taking-number h), sym words)) (refusal-numbered why))
