@@ -28,11 +28,14 @@ use Rattle.chain.specs.Spelled.{spelled, chain-book}
 use Rattle.chain.specs.Ready.{Ready, chain-ready, units-ready, ended-ready, requirement-read}
 use Rattle.dullavane.specs.Words.{tally-words, with-words, taking-number, words-after}
 use Rattle.dullavane.specs.Promises.{ContentsCalled, contents-opened}
+use Rattle.demands.specs.WordsChain.{Turn, Due, WordsCall, WordsChain}
+use Rattle.demands.specs.SharedChain.{SharedChain}
 use Rattle.demands.specs.WordsLaws.{told-refused}
-use Rattle.demands.specs.WordsCalls.{Turn, Due, WordsCall, call-steps, due-call}
-use Rattle.demands.specs.WordsChain.{WordsChain, words-chain, chain-words}
-use Rattle.demands.specs.SharedLists.{Own, with-own, SharedChain, shared-chain}
-use Rattle.demands.specs.WordsAnswered.{WordsAnswers, ready-answered}
+use Rattle.demands.specs.WordsCalls.{call-steps, due-call}
+use Rattle.demands.specs.WordsTheorem.{words-chain, chain-words}
+use Rattle.demands.specs.SharedLists.{Own, with-own, shared-chain}
+use Rattle.demands.specs.WordsAnswer.{WordsAnswers}
+use Rattle.demands.specs.WordsAnswered.{ready-answered}
 
 -- ---- how far the C calls go, and which number they meet, on every chain, whatever was refused before
 module _ (head : List ℕ) (part : ℕ → List ℕ) (l₀ : Lent) (ws₀ : List ℕ) where

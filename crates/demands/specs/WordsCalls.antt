@@ -1,72 +1,38 @@
--- The C calls that take a record, by what they promise: a call that answers a number has changed nothing, and on words that hold a tally a call is the call
--- below on that tally, its step told as a number and as words.
+-- Laws of the C calls that take a record: a call that answers a number has changed nothing, and on words that hold a tally a call is the call below on that
+-- tally, its step told as a number and as words.
 use mathlib.Core.Path.{_≡_, ap}
 use mathlib.Core.List.{List}
-use Prim.Native.Nat.{ℕ, _+_, _≤_, _<_}
+use Prim.Native.Nat.{ℕ, _+_, _<_}
 use Rattle.rules.specs.declared.Refusal.{Refusal}
 use Rattle.rules.specs.Refusals.{taken}
 use Rattle.rules.specs.Contents.{Counts}
 use Rattle.interval.specs.declared.Tally.{Tally}
 use Rattle.interval.specs.declared.Taking.{Taking}
 use Rattle.interval.specs.declared.Step.{Step}
-use Rattle.interval.specs.Promises.{SettingsPromise, FrequencyPromise, UnitPromise, RequirementPromise}
-use Rattle.interval.specs.Tally.{before-units}
 use Rattle.interval.specs.Calls.{settled, counted, settings-reply, requirement-reply}
+use Rattle.interval.specs.Promises.{SettingsPromise, FrequencyPromise, UnitPromise, RequirementPromise}
 use Rattle.chain.specs.Taken.{step-refused}
 use Rattle.chain.specs.Chain.{Lent, FrequencyCall, UnitCall, Refused}
 use Rattle.chain.specs.ChainTheorem.{same-lent, frequency-kept, unit-kept}
-use Rattle.chain.specs.Way.{records-of, Call, for-settings, for-frequency, for-unit, for-requirement}
+use Rattle.chain.specs.Way.{Call, for-settings, for-frequency, for-unit, for-requirement}
 use Rattle.dullavane.specs.Words.{held, told, words-left, words-after}
 use Rattle.dullavane.specs.Called.{Stepped, Called, was-held}
-use Rattle.dullavane.specs.Promises.{SettingsCalled, FrequencyCalled, UnitCalled, RequirementCalled}
+use Rattle.demands.specs.WordsChain.{
+  FrequencyApart,
+  UnitApart,
+  Turn,
+  of-settings,
+  of-frequency,
+  of-unit,
+  of-requirement,
+  Due,
+  WordsCall,
+  settings-called,
+  frequency-called,
+  unit-called,
+  requirement-called,
+}
 use Rattle.demands.specs.WordsLaws.{told-refused, is-stepped, stepped-by, refused-keeps}
-
--- ---- the lists that a call is not lent stay as they were
-pub record FrequencyApart (l l′ : Lent) : Type 0 where
-  pub readings : l′ .readings ≡ l .readings
-  pub deviations : l′ .deviations ≡ l .deviations
-  pub numbers : l′ .numbers ≡ l .numbers
-  pub places : l′ .places ≡ l .places
-  pub raise : l′ .raise ≡ l .raise
-  pub lower : l′ .lower ≡ l .lower
-  pub defaults : l′ .defaults ≡ l .defaults
-
-pub record UnitApart (l l′ : Lent) : Type 0 where
-  pub frequencies : l′ .frequencies ≡ l .frequencies
-  pub measures : l′ .measures ≡ l .measures
-  pub figures : l′ .figures ≡ l .figures
-
--- ---- the four calls that take a record, and whose turn it is at record n
-pub data Turn : Type 0 where
-  of-settings : Turn
-  of-frequency : Turn
-  of-unit : Turn
-  of-requirement : Turn
-
-pub Due : Counts → ℕ → Turn → Type 0
-Due c n of-settings = n ≡ 0
-Due c n of-frequency = (1 ≤ n) × (n < before-units)
-Due c n of-unit = (before-units ≤ n) × (n < before-units + c .units)
-Due c n of-requirement = (before-units + c .units ≤ n) × (n < records-of c)
-
--- ---- a C call that takes a record: it is handed the part p of a book, the tally's words and lent lists; it returns r
-module _ (p ws : List ℕ) (l : Lent) (r : ℕ) (ws′ : List ℕ) (l′ : Lent) where
-  abbrev pub FrequencyWords : Type 0
-  FrequencyWords =
-      FrequencyCalled ws p (l .frequencies) (l .measures) (l .positive) (l .negative) (l .figures) r
-      ws′ (l′ .frequencies) (l′ .measures) (l′ .positive) (l′ .negative) (l′ .figures)
-
-  abbrev pub UnitWords : Type 0
-  UnitWords =
-      UnitCalled ws p (l .readings) (l .deviations) (l .measures) (l .positive) (l .negative)
-      (l .numbers) (l .places) (l .raise) (l .lower) (l .defaults) r
-      ws′ (l′ .readings) (l′ .deviations) (l′ .positive) (l′ .negative) (l′ .numbers) (l′ .places) (l′ .raise) (l′ .lower) (l′ .defaults)
-
-  pub data WordsCall : Turn → Type 0 where
-    settings-called : SettingsCalled ws p r ws′ → l′ ≡ l → WordsCall of-settings
-    frequency-called : FrequencyWords → FrequencyApart l l′ → WordsCall of-frequency
-    unit-called : UnitWords → UnitApart l l′ → WordsCall of-unit
-    requirement-called : RequirementCalled ws p r ws′ → l′ ≡ l → WordsCall of-requirement
 
 -- ---- the call below it, on a tally
 module _ (p : List ℕ) (t : Tally) (l : Lent) (s : Step) (l′ : Lent) where
@@ -175,15 +141,7 @@ refused-stays {p} {t} (requirement-step c e) h = step-refused (λ q. counted (q 
 -- ---- the call whose turn it is, as a chain's way knows it (crates/chain, Way)
 module _ {c : Counts} {p : List ℕ} {n : ℕ} {t : Tally} {l : Lent} {s : Step} {l′ : Lent} where
   pub due-call : {turn : Turn} → Due c n turn → StepCall p t l s l′ turn → Call c p n t l s l′
-  unfolding Due
   due-call h (settings-step w e) = for-settings h w e
   due-call h (frequency-step w) = for-frequency (h .0) (h .1) w
   due-call h (unit-step w) = for-unit (h .0) (h .1) w
   due-call h (requirement-step w e) = for-requirement (h .0) (h .1) w e
-
-  pub call-due : Call c p n t l s l′ → (turn : Turn) × Due c n turn × StepCall p t l s l′ turn
-  unfolding Due
-  call-due (for-settings z w e) = (of-settings, z, settings-step w e)
-  call-due (for-frequency first last w) = (of-frequency, (first, last), frequency-step w)
-  call-due (for-unit first last w) = (of-unit, (first, last), unit-step w)
-  call-due (for-requirement first last w e) = (of-requirement, (first, last), requirement-step w e)
