@@ -29,7 +29,7 @@ use Rattle.chain.specs.BookWay.{records-in, Hands, Takes}
 use Rattle.chain.specs.BookRefused.{book-way}
 use Rattle.chain.specs.Keeps.{kept-of, BookMeans}
 use Rattle.chain.specs.BookChain.{book-of}
-use Rattle.chain.specs.Spelled.{spelled, chain-book}
+use Rattle.chain.specs.Spelled.{spelled, book-means, spelled-hands, chain-book}
 use Rattle.chain.specs.Ready.{Ready, chain-ready, units-ready, ended-ready, requirement-read}
 use Rattle.members.specs.declared.Row.{Row}
 use Rattle.members.specs.Lists.{headed, gathered}
@@ -79,11 +79,11 @@ line-named l = record { name = l .name; standing = l .standing }
 pub record RulesAnswer (b : Book) (t : Tally) (l : Lent) (part : List ℕ) (q : Requirement) : Type 0 where
   -- `answer` gives its figures and its lines' numbers, and refuses nothing
   pub answered : {old new : Columns} {r : Answered} → ColumnsLong (t .units) old → AnswerCall t part l old r new → Answers (answer b q) old r new
-  -- `member` gives of each row a unit of the requirement's regions with its number and standing, or another's
+  -- `member` tells of each row: a unit of the requirement's regions, with its number and standing, or one of another region
   pub rows :
       (j : ℕ) → j < t .units → {r : Row} → MemberPromise j (t .units) (q .direction) (q .set) (l .figures) (l .numbers) (l .places) r →
       r ≡ row-of (kept-of t l) q j
-  -- and those units in their order, then the residual, are the names and standings of its lines
+  -- and those units in their order, then the residual, have the names and standings of its lines
   pub lines :
       map line-named (answer b q .lines) ≡
       gathered (λ j. covers q (region-of (kept-of t l) j))
@@ -177,8 +177,14 @@ module _ {b : Book} {t : Tally} {l : Lent} (h : Ready b t l) (part : List ℕ) (
   pub rules-answer : RulesAnswer b t l part q
   rules-answer = record { answered = figures-answered; rows = row-answered; lines = lines-named }
 
+-- the book's requirements are asked for by their own parts; z stands where a book has none
+abbrev pub Asks : List ℕ → (ℕ → List ℕ) → Book → Type 0
+Asks head part b =
+    (i : ℕ) (z : Requirement) → i < length (b .requirements) →
+    requirement-record 0 false (part (before-units + counts-in head .units + i)) ≡ taken (getD (b .requirements) i z)
+
 -- ---- OF WHATEVER WAS HANDED IN: the book is the one that the parts spell which were taken, whatever was refused in between
--- once all units are in, for any requirements
+-- once all units are in: its settings, regions and roster are the records taken, and its requirements make no difference
 pub taken-answered :
     {head : List ℕ} {part : ℕ → List ℕ} {l₀ : Lent} {n : ℕ} {t : Tally} {l : Lent} → Chain head part l₀ n t l → before-units + counts-in head .units ≤ n →
     ((m i : ℕ) → m < n → getD (part m) i 0 < 256) → (qs : List Requirement) → RulesAnswers (book-of (counts-in head .units) part qs) t l
@@ -190,24 +196,29 @@ pub record SpelledAnswered (head : List ℕ) (part : ℕ → List ℕ) (t : Tall
   pub spells : book (spelled head part) ≡ taken the-book
   pub means : BookMeans the-book t l
   pub answers : RulesAnswers the-book t l
+  pub asks : Asks head part the-book
 
 pub chain-answered :
     {head : List ℕ} {part : ℕ → List ℕ} {l₀ : Lent} {t : Tally} {l : Lent} → Chain head part l₀ (records-in head) t l →
     ((m i : ℕ) → m < records-in head → getD (part m) i 0 < 256) → SpelledAnswered head part t l
 chain-answered d bytes =
     let w = chain-book d in
-    record { the-book = w .0; spells = w .1; means = w .2; answers = rules-answer (ended-ready d bytes) }
+    record {
+      the-book = w .0;
+      spells = w .1;
+      means = w .2;
+      answers = rules-answer (ended-ready d bytes);
+      asks = requirement-read (spelled-hands d) (w .0) (w .1);
+    }
 
 -- ---- OF A BOOK that the format takes, handed on whole or cut, with lists that are long enough
-pub record BookAnswered (bs : List ℕ) (b : Book) (head : List ℕ) (part : ℕ → List ℕ) (l₀ : Lent) : Type 0 where
+pub record BookAnswered (b : Book) (head : List ℕ) (part : ℕ → List ℕ) (l₀ : Lent) : Type 0 where
   -- whatever is refused in between, the calls take every record
   pub takes : Takes head part l₀ (records-in head)
-  -- from the last unit on they give the rules' answers about the book
+  pub means : {t : Tally} {l : Lent} → Chain head part l₀ (records-in head) t l → BookMeans b t l
+  -- and give the rules' answers from the last unit on
   pub answers : {n : ℕ} {t : Tally} {l : Lent} → Chain head part l₀ n t l → before-units + counts-in head .units ≤ n → RulesAnswers b t l
-  -- and the part of each of its requirements asks for this one; z stands where a book has no requirement
-  pub asks :
-      (i : ℕ) (z : Requirement) → i < length (b .requirements) →
-      requirement-record 0 false (part (before-units + counts-in bs .units + i)) ≡ taken (getD (b .requirements) i z)
+  pub asks : Asks head part b
 
 module _
     {bs head : List ℕ} {part : ℕ → List ℕ} (hands : Hands bs head part) (b : Book) (e : book bs ≡ taken b) (bytes : (i : ℕ) → getD bs i 0 < 256) where
@@ -215,6 +226,11 @@ module _
       {l₀ : Lent} {n : ℕ} {t : Tally} {l : Lent} → Chain head part l₀ n t l → before-units + counts-in head .units ≤ n → RulesAnswers b t l
   units-answered d all = rules-answer (units-ready hands b e d all bytes)
 
-  pub book-answered : (l₀ : Lent) → Enough l₀ (counts-in bs .units) → BookAnswered bs b head part l₀
+  pub book-answered : (l₀ : Lent) → Enough l₀ (counts-in bs .units) → BookAnswered b head part l₀
   book-answered l₀ enough =
-      record { takes = book-way l₀ hands (λ _. enough) bytes b e; answers = units-answered; asks = requirement-read hands b e }
+      record {
+        takes = book-way l₀ hands (λ _. enough) bytes b e;
+        means = λ d. book-means hands d b e;
+        answers = units-answered;
+        asks = requirement-read hands b e;
+      }

@@ -16,7 +16,18 @@ use Rattle.rules.specs.Bytes.{number-at, listed}
 use Rattle.rules.specs.declared.Refusal.{Refusal}
 use Rattle.rules.specs.Refusals.{Reply, taken, refused, _>>=_}
 use Rattle.rules.specs.Book.{Region, Unit, Requirement, Book}
-use Rattle.rules.specs.Contents.{Counts, contents, contents-size, settings-size, frequency-start, frequency-size, unit-start, unit-size, requirement-start, requirement-size}
+use Rattle.rules.specs.Contents.{
+  Counts,
+  contents,
+  contents-size,
+  settings-size,
+  frequency-start,
+  frequency-size,
+  unit-start,
+  unit-size,
+  requirement-start,
+  requirement-size,
+}
 use Rattle.rules.specs.SettingsRecord.{settings}
 use Rattle.rules.specs.FrequencyRecord.{region-in, frequency-record}
 use Rattle.rules.specs.UnitRecord.{unit-in, unit-record}
@@ -82,24 +93,26 @@ module _ (units : ℕ) where
       ap (record-start units) next ∙ omega (arith, requirement-starts j, requirement-sized units (before-units + units + j) (omega arith))
 
 module _ (bs : List ℕ) where
-  part-at : (m place k : ℕ) → record-start (counts-in bs .units) m ≡ place + k → part-of bs m ≡ drop k (drop place bs)
+  abbrev many : ℕ
+  many = counts-in bs .units
+
+  part-at : (m n place k : ℕ) → m ≡ n → record-start many n ≡ place + k → part-of bs m ≡ drop k (drop place bs)
   unfolding part-of
-  part-at m place k e = ap (λ (n : ℕ). drop n bs) e ∙ sym (drop-drop k place bs)
+  part-at m n place k e f = ap (λ (i : ℕ). drop i bs) (ap (record-start many) e ∙ f) ∙ sym (drop-drop k place bs)
 
   pub settings-part : part-of bs 0 ≡ drop contents-size bs
   unfolding part-of record-start
   settings-part = refl
 
   pub frequency-place : (m i : ℕ) → m ≡ suc i → i < regions → part-of bs m ≡ drop (frequency-size * i) (drop frequency-start bs)
-  frequency-place m i e h = part-at m frequency-start (frequency-size * i) (ap (record-start (counts-in bs .units)) e ∙ frequency-starts (counts-in bs .units) i (omega arith))
+  frequency-place m i e h = part-at m (suc i) frequency-start (frequency-size * i) e (frequency-starts many i (omega arith))
 
   pub unit-place : (m i : ℕ) → m ≡ before-units + i → i < counts-in bs .units → part-of bs m ≡ drop (unit-size * i) (drop unit-start bs)
-  unit-place m i e h = part-at m unit-start (unit-size * i) (ap (record-start (counts-in bs .units)) e ∙ unit-starts (counts-in bs .units) i (omega arith))
+  unit-place m i e h = part-at m (before-units + i) unit-start (unit-size * i) e (unit-starts many i (omega arith))
 
   pub requirement-place :
       (m j : ℕ) → m ≡ before-units + counts-in bs .units + j → part-of bs m ≡ drop (requirement-size * j) (drop (requirement-start (counts-in bs .units)) bs)
-  requirement-place m j e =
-      part-at m (requirement-start (counts-in bs .units)) (requirement-size * j) (ap (record-start (counts-in bs .units)) e ∙ requirement-starts (counts-in bs .units) j)
+  requirement-place m j e = part-at m (before-units + many + j) (requirement-start many) (requirement-size * j) e (requirement-starts many j)
 
   -- the bytes of a part are bytes of the book
   pub part-bytes : ((i : ℕ) → getD bs i 0 < 256) → (m i : ℕ) → getD (part-of bs m) i 0 < 256

@@ -26,7 +26,23 @@ use Rattle.chain.specs.Taken.{counts-in, step-refused}
 use Rattle.chain.specs.Chain.{Lent, Refused, Chain, Means, frequency-read, unit-read}
 use Rattle.chain.specs.ChainTheorem.{chain}
 use Rattle.chain.specs.Honest.{Enough, honest-settings, honest-frequency, honest-unit, honest-requirement}
-use Rattle.chain.specs.BookRecords.{part-of, settings-part, part-bytes, body-all, body-stops, frequency-body-is, unit-body-is, requirement-body-is, least-from, frequency-place, frequency-at, unit-place, unit-at, requirement-place, requirement-at}
+use Rattle.chain.specs.BookRecords.{
+  part-of,
+  settings-part,
+  part-bytes,
+  body-all,
+  body-stops,
+  frequency-body-is,
+  unit-body-is,
+  requirement-body-is,
+  least-from,
+  frequency-place,
+  frequency-at,
+  unit-place,
+  unit-at,
+  requirement-place,
+  requirement-at,
+}
 use Rattle.chain.specs.Alike.{contents-alike}
 use Rattle.chain.specs.Way.{records-of, Call, for-settings, for-frequency, for-unit, for-requirement, way-chain, any-call}
 use Rattle.chain.specs.BookWay.{
@@ -68,7 +84,11 @@ module _ (bs : List ℕ) where
   abbrev requirement-bytes : ℕ → List ℕ
   requirement-bytes i = drop (requirement-size * i) (drop (requirement-start (counts-in bs .units)) bs)
 
-  book-is : contents bs ≡ taken (counts-in bs) → book bs ≡ assembled (settings settings-bytes) (frequency-body regions 0 (drop frequency-start bs)) (unit-body (counts-in bs .units) 0 (drop unit-start bs)) (requirement-body (counts-in bs .requirements) 0 (drop (requirement-start (counts-in bs .units)) bs))
+  book-is :
+      contents bs ≡ taken (counts-in bs) →
+      book bs ≡
+      assembled (settings settings-bytes) (frequency-body regions 0 (drop frequency-start bs)) (unit-body (counts-in bs .units) 0 (drop unit-start bs))
+      (requirement-body (counts-in bs .requirements) 0 (drop (requirement-start (counts-in bs .units)) bs))
   unfolding book
   book-is table = rw table
 
@@ -92,13 +112,22 @@ module _ (bs : List ℕ) (l₀ : Lent) {n : ℕ} {t : Tally} {l : Lent} (d : Cha
 
   frequency-there : (i : ℕ) → suc i < n → i < regions → frequency-record (0 + i) (frequency-bytes bs i) ≡ taken (region-in (frequency-bytes bs i))
   frequency-there i m h =
-      sym (frequency-at bs (suc i) i refl h) ∙ w .taken-each (suc i) m .as-frequency (omega arith) (omega arith) ∙ ap (λ (p : List ℕ). taken (region-in p)) (frequency-place bs (suc i) i refl h)
+      sym (frequency-at bs (suc i) i refl h)
+      ∙ w .taken-each (suc i) m .as-frequency (omega arith) (omega arith)
+      ∙ ap (λ (p : List ℕ). taken (region-in p)) (frequency-place bs (suc i) i refl h)
 
-  unit-there : (i : ℕ) → before-units + i < n → i < counts-in bs .units → unit-record (least-from unit-size 0 (drop unit-start bs) i) (unit-bytes bs i) ≡ taken (unit-in (unit-bytes bs i))
+  unit-there :
+      (i : ℕ) → before-units + i < n → i < counts-in bs .units →
+      unit-record (least-from unit-size 0 (drop unit-start bs) i) (unit-bytes bs i) ≡ taken (unit-in (unit-bytes bs i))
   unit-there i m h =
-      sym (unit-at bs (before-units + i) i refl h) ∙ w .taken-each (before-units + i) m .as-unit (omega arith) (omega arith) ∙ ap (λ (p : List ℕ). taken (unit-in p)) (unit-place bs (before-units + i) i refl h)
+      sym (unit-at bs (before-units + i) i refl h)
+      ∙ w .taken-each (before-units + i) m .as-unit (omega arith) (omega arith)
+      ∙ ap (λ (p : List ℕ). taken (unit-in p)) (unit-place bs (before-units + i) i refl h)
 
-  requirement-there : (j : ℕ) → before-units + counts-in bs .units + j < n → j < counts-in bs .requirements → requirement-record (least-from requirement-size 0 (drop (requirement-start (counts-in bs .units)) bs) j) (eqb (counts-in bs .requirements - suc j) 0) (requirement-bytes bs j) ≡ taken (requirement-in (requirement-bytes bs j))
+  requirement-there :
+      (j : ℕ) → before-units + counts-in bs .units + j < n → j < counts-in bs .requirements →
+      requirement-record (least-from requirement-size 0 (drop (requirement-start (counts-in bs .units)) bs) j) (eqb (counts-in bs .requirements - suc j) 0)
+      (requirement-bytes bs j) ≡ taken (requirement-in (requirement-bytes bs j))
   requirement-there j m h =
       sym (requirement-at bs (before-units + counts-in bs .units + j) j refl h)
       ∙ w .taken-each (before-units + counts-in bs .units + j) m .as-requirement (omega arith)
@@ -110,13 +139,16 @@ module _ (bs : List ℕ) (l₀ : Lent) {n : ℕ} {t : Tally} {l : Lent} (d : Cha
 
   units-there : before-units + counts-in bs .units ≤ n → unit-body (counts-in bs .units) 0 (drop unit-start bs) ≡ taken (book-in bs .roster)
   unfolding book-in
-  units-there m = unit-body-is (counts-in bs .units) 0 _ ∙ body-all (λ i. unit-in (unit-bytes bs i)) (counts-in bs .units) _ (λ i h. unit-there i (omega arith) h)
+  units-there m =
+      unit-body-is (counts-in bs .units) 0 _ ∙ body-all (λ i. unit-in (unit-bytes bs i)) (counts-in bs .units) _ (λ i h. unit-there i (omega arith) h)
 
   -- at the end of the book the format has taken it
   pub book-ended : n ≡ records-in bs → book bs ≡ taken (book-in bs)
   unfolding book-in
   book-ended e =
-      let requirements-there = requirement-body-is (counts-in bs .requirements) 0 _ ∙ body-all (λ i. requirement-in (requirement-bytes bs i)) (counts-in bs .requirements) _ (λ i h. requirement-there i (omega arith) h) in
+      let many = counts-in bs .requirements in
+      let requirements-there =
+      requirement-body-is many 0 _ ∙ body-all (λ i. requirement-in (requirement-bytes bs i)) many _ (λ i h. requirement-there i (omega arith) h) in
       book-is bs (w .table) ∙ rw (settings-there (omega arith), frequencies-there (omega arith), units-there (omega arith), requirements-there)
 
   -- where the next call refuses, the format has refused the book with the same number

@@ -1,6 +1,6 @@
 -- READY: once a chain has all units in, all is there for the answers, and stays so: the tally is in range, the lent lists are long enough and in range, and
 -- what is kept gives the rules' answer to any requirement.
-use mathlib.Core.Path.{_≡_, refl, sym, _∙_, ap, subst}
+use mathlib.Core.Path.{_≡_, sym, _∙_, ap, subst}
 use mathlib.Core.Bool.{Bool, true, false, not, _&&_, _||_}
 use mathlib.Core.List.{List}
 use Prim.Native.Nat.{ℕ, _+_, _*_, _-_, _≤_, _<_}
@@ -15,7 +15,7 @@ use Rattle.rules.specs.Bytes.{number-at}
 use Rattle.rules.specs.BytesLaws.{listed-from-zero}
 use Rattle.rules.specs.Refusals.{taken}
 use Rattle.rules.specs.Book.{Requirement, Book}
-use Rattle.rules.specs.Contents.{Counts, requirement-start, requirement-size}
+use Rattle.rules.specs.Contents.{Counts, requirement-size}
 use Rattle.rules.specs.RequirementRecord.{requirement-in, requirement-fine, requirement-record}
 use Rattle.rules.specs.WholeBook.{requirement-body, book}
 use Rattle.rules.specs.LimitsLaws.{passed}
@@ -146,12 +146,11 @@ read-in-body n bs qs e i z h =
 module _ {bs head : List ℕ} {part : ℕ → List ℕ} (hands : Hands bs head part) (b : Book) (e : book bs ≡ taken b) where
   pub requirement-read :
       (i : ℕ) (z : Requirement) → i < length (b .requirements) →
-      requirement-record 0 false (part (before-units + counts-in bs .units + i)) ≡ taken (getD (b .requirements) i z)
+      requirement-record 0 false (part (before-units + counts-in head .units + i)) ≡ taken (getD (b .requirements) i z)
   requirement-read i z h =
-      let units = counts-in bs .units in
-      let body = drop (requirement-start units) bs in
-      let few : i < counts-in bs .requirements = omega (arith, requirements-many bs b e) in
-      let alike = hands .records (before-units + units + i) (omega arith) in
-      requirement-same alike 0 false (omega (arith, requirement-sized units (before-units + units + i) (omega arith)))
-      ∙ ap (requirement-record 0 false) (requirement-place bs (before-units + units + i) i refl)
-      ∙ read-in-body (counts-in bs .requirements) body (b .requirements) (book-read bs b e .requirements) i z h
+      let m = before-units + counts-in head .units + i in
+      let same = hands-counts hands in
+      let few : m < records-in head = omega (arith, requirements-many bs b e, ap (λ (c : Counts). c .requirements) same) in
+      requirement-same (hands .records m few) 0 false (omega (arith, requirement-sized (counts-in head .units) m (omega arith)))
+      ∙ ap (requirement-record 0 false) (requirement-place bs m i (ap (λ (c : Counts). before-units + c .units + i) same))
+      ∙ read-in-body (counts-in bs .requirements) _ (b .requirements) (book-read bs b e .requirements) i z h

@@ -34,7 +34,7 @@ use Rattle.chain.specs.BookRefused.{book-in, book-ended}
 use Rattle.chain.specs.Keeps.{kept-of, Keeps, BookMeans}
 use Rattle.chain.specs.BookChain.{chain-keeps, book-records, requirements-many}
 
--- ---- what the parts spell: the table of contents, then of each part the bytes of its record
+-- ---- what the parts spell (01, The book; a step may be tried again with other bytes): the table of contents, then of each part the bytes of its record
 unfoldable pub spelled-from : ℕ → (ℕ → List ℕ) → ℕ → ℕ → List ℕ
 spelled-from units part m zero = []
 spelled-from units part m (suc n) = take (record-size units m) (part m) ++ spelled-from units part (suc m) n
@@ -42,35 +42,30 @@ spelled-from units part m (suc n) = take (record-size units m) (part m) ++ spell
 unfoldable pub spelled : List ℕ → (ℕ → List ℕ) → List ℕ
 spelled head part = take contents-size head ++ spelled-from (counts-in head .units) part 0 (records-in head)
 
--- ---- where a chain over what is handed on of a book has ended, the format takes the book
-module _ {bs head : List ℕ} {part : ℕ → List ℕ} (hands : Hands bs head part) where
-  pub handed-book : {l₀ : Lent} {t : Tally} {l : Lent} → Chain head part l₀ (records-in head) t l → (b : Book) × (book bs ≡ taken b) × BookMeans b t l
-  handed-book {l₀} {t} {l} d = (b, e, means)
-    where
-      d′ : Chain bs (part-of bs) l₀ (records-in head) t l
-      d′ = hands-chain hands d
+-- ---- where a chain over what is handed on of a book has ended, the format takes the book, and the chain leaves what the rules say of it
+module _
+    {bs head : List ℕ} {part : ℕ → List ℕ} (hands : Hands bs head part) {l₀ : Lent} {t : Tally} {l : Lent} (d : Chain head part l₀ (records-in head) t l) where
+  same-records : records-in head ≡ records-in bs
+  same-records = ap records-of (hands-counts hands)
 
-      same : records-in head ≡ records-in bs
-      same = ap records-of (hands-counts hands)
+  pub book-means : (b : Book) → book bs ≡ taken b → BookMeans b t l
+  book-means b e =
+      let d′ = hands-chain hands d in
+      let m = chain bs (part-of bs) l₀ d′ in
+      let is = sym (book-records bs b e) in
+      let keeps = subst (λ (b : Book). Keeps (kept-of t l) b) is (chain-keeps d′ (omega (arith, same-records)) (b .requirements)) in
+      record {
+        settings = m .kept (omega arith) ∙ ap (λ (b : Book). b .settings) is;
+        units = keeps .units;
+        requirements = m .requirements ∙ sym (requirements-many bs b e);
+        ended = m .records ∙ same-records ∙ ap₂ (λ (u q : ℕ). before-units + u + q) (sym (m .units)) (sym (m .requirements));
+        keeps = keeps;
+      }
 
-      b : Book
-      b = book-in bs
-
-      e : book bs ≡ taken b
-      e = book-ended bs l₀ d′ same
-
-      means : BookMeans b t l
-      means =
-          let m = chain bs (part-of bs) l₀ d′ in
-          let is = sym (book-records bs b e) in
-          let keeps = subst (λ (b : Book). Keeps (kept-of t l) b) is (chain-keeps d′ (omega (arith, same)) (b .requirements)) in
-          record {
-            settings = m .kept (omega arith) ∙ ap (λ (b : Book). b .settings) is;
-            units = keeps .units;
-            requirements = m .requirements ∙ sym (requirements-many bs b e);
-            ended = m .records ∙ same ∙ ap₂ (λ (u q : ℕ). before-units + u + q) (sym (m .units)) (sym (m .requirements));
-            keeps = keeps;
-          }
+  pub handed-book : (b : Book) × (book bs ≡ taken b) × BookMeans b t l
+  handed-book =
+      let e = book-ended bs l₀ (hands-chain hands d) same-records in
+      (book-in bs, e, book-means (book-in bs) e)
 
 -- ---- what the parts spell is handed on by them
 -- each record that was taken is as long as it has to be, and nothing follows the last
@@ -141,16 +136,7 @@ module _
         record { starts = rw (spelled-part m (suc k) e, last) (sym (stands ∙ take-take (size + 0) size (part m) (omega arith))) }
 
     spelled-handed : Hands (spelled head part) head part
-    spelled-handed =
-        let same = counts-same spelled-contents (omega arith) in
-        record {
-          contents = spelled-contents;
-          records =
-              λ n h.
-              let inside = subst (λ (c : Counts). n < records-of c) (sym same) h in
-              let alike = spelled-record n (records-in head - suc n) (omega arith) in
-              subst (λ (c : Counts). Alike (reads c n) (part n) (part-of (spelled head part) n)) same alike;
-        }
+    spelled-handed = record { contents = spelled-contents; records = λ n h. spelled-record n (records-in head - suc n) (omega arith) }
 
 module _ {head : List ℕ} {part : ℕ → List ℕ} {l₀ : Lent} {t : Tally} {l : Lent} (d : Chain head part l₀ (records-in head) t l) where
   -- so a chain that has ended has handed on the book that its parts spell
