@@ -1,7 +1,12 @@
--- A chain of C calls, and that it is a chain of the calls below
+-- A chain of C calls
+pub mod WordsChain
+pub mod SharedChain
+-- It is a chain of the calls below
 pub mod WordsLaws
 pub mod WordsCalls
-pub mod WordsChain
+pub mod WordsTheorem
 pub mod SharedLists
--- The rules' answer over words
+-- The rules' answer over words, from a chain and from a book's bytes
+pub mod WordsAnswer
 pub mod WordsAnswered
+pub mod WordsBook

@@ -1,10 +1,9 @@
--- LISTS THAT SHARE MEMORY: what frequencies, readings and deviations hold is of no use once their record is taken, so between two calls they may hold anything,
--- as where a caller lends one place for two of them, or the columns of an answer. A chain of such calls is a chain of C calls with lists of its own there: its
--- words and all lists that are kept are the same.
+-- LISTS THAT SHARE MEMORY: a chain of C calls between which frequencies, readings and deviations are lent anew is a chain of C calls with lists of its own
+-- there: its words and all lists that are kept are the same.
 use mathlib.Core.Path.{_≡_, refl, sym, _∙_, ap}
 use mathlib.Core.Bool.{_&&_}
 use mathlib.Core.List.{List}
-use Prim.Native.Nat.{ℕ, suc, _≤_, _<_}
+use Prim.Native.Nat.{ℕ, suc, _≤_}
 use native.Mathlib.Omega.{arith}
 use lib.Dec.{leb}
 use lib.IntN.{ℤ, pos}
@@ -16,8 +15,8 @@ use Rattle.rules.specs.declared.Refusal.the-variants.{OutOfTurn, TooShort}
 use Rattle.rules.specs.Quantities.{points}
 use Rattle.rules.specs.Bytes.{listed}
 use Rattle.rules.specs.Refusals.{Reply, taken, refused}
-use Rattle.rules.specs.LimitsLaws.{passed}
 use Rattle.rules.specs.Book.{Region, Unit}
+use Rattle.rules.specs.LimitsLaws.{passed}
 use Rattle.rules.specs.Deviation.{deviation}
 use Rattle.interval.specs.declared.Tally.{Tally}
 use Rattle.interval.specs.declared.Step.{Step}
@@ -26,39 +25,12 @@ use Rattle.interval.specs.Calls.{left, counted, unit-counted, frequency-reply, 
 use Rattle.chain.specs.ChainLaws.{listed-length}
 use Rattle.chain.specs.Taken.{step-taken}
 use Rattle.chain.specs.Chain.{Lent, FrequencyCall, UnitCall, Taken}
-use Rattle.dullavane.specs.Promises.{ContentsCalled}
-use Rattle.demands.specs.WordsLaws.{told-taken}
-use Rattle.demands.specs.WordsCalls.{WordsCall, StepCall, settings-step, frequency-step, unit-step, requirement-step}
-use Rattle.demands.specs.WordsCalls.{refused-call, call-steps, step-calls}
 use Rattle.demands.specs.WordsChain as c
-use Rattle.demands.specs.WordsChain.{WordsChain, words-chain}
-
--- the lists with other frequencies, readings and deviations
-abbrev pub lend : Lent → List ℕ → List ℤ → List ℤ → Lent
-lend l fs rs ds =
-    record {
-      frequencies = fs;
-      measures = l .measures;
-      positive = l .positive;
-      negative = l .negative;
-      figures = l .figures;
-      readings = rs;
-      deviations = ds;
-      numbers = l .numbers;
-      places = l .places;
-      raise = l .raise;
-      lower = l .lower;
-      defaults = l .defaults;
-    }
-
--- ---- a chain of C calls, between which these three may be lent anew
-module _ (head : List ℕ) (part : ℕ → List ℕ) (l₀ : Lent) (ws₀ : List ℕ) where
-  pub data SharedChain : ℕ → List ℕ → Lent → Type 0 where
-    begun : {ws : List ℕ} → ContentsCalled head ws₀ 0 ws → SharedChain 0 ws l₀
-    took : {n : ℕ} {ws ws′ : List ℕ} {l l′ : Lent} → SharedChain n ws l → WordsCall (part n) ws l 0 ws′ l′ → SharedChain (suc n) ws′ l′
-    refused-record : {n r : ℕ} {p ws ws′ : List ℕ} {l l′ : Lent} → SharedChain n ws l → WordsCall p ws l r ws′ l′ → 0 < r → SharedChain n ws′ l′
-    refused-contents : {n r : ℕ} {p ws ws′ : List ℕ} {l : Lent} → SharedChain n ws l → ContentsCalled p ws r ws′ → 0 < r → SharedChain n ws′ l
-    lent-anew : {n : ℕ} {ws : List ℕ} {l : Lent} → SharedChain n ws l → (fs : List ℕ) (rs ds : List ℤ) → SharedChain n ws (lend l fs rs ds)
+use Rattle.demands.specs.WordsChain.{Turn, of-frequency, of-unit, WordsCall, WordsChain}
+use Rattle.demands.specs.SharedChain.{lend, SharedChain, begun, took, refused-record, refused-contents, lent-anew}
+use Rattle.demands.specs.WordsLaws.{told-taken}
+use Rattle.demands.specs.WordsCalls.{StepCall, settings-step, frequency-step, unit-step, requirement-step, refused-call, call-steps, step-calls}
+use Rattle.demands.specs.WordsTheorem.{words-chain}
 
 -- ---- the chain with lists of its own there
 pub record Own : Type 0 where
@@ -109,13 +81,12 @@ module _ (p : List ℕ) (t : Tally) (l : Lent) where
       let series = both (leb points (length ds)) _ (both (leb points (length rs)) _ (rest .0) .1) .1 in
       rw (turn .0, le-leb points (length rs₂) long, le-leb points (length ds₂) long₂, series) (rest .1)
 
-  module _ (o : Own) (s : Step) (l′ : Lent) where
-    record Alike : Type 0 where
-      own : Own
-      call : StepCall p t (with-own l o) s (with-own l′ own)
+  record Alike (o : Own) (s : Step) (l′ : Lent) (turn : Turn) : Type 0 where
+    own : Own
+    call : StepCall p t (with-own l o) s (with-own l′ own) turn
 
 module _ {p : List ℕ} {t : Tally} {l : Lent} (o : Own) {s : Step} {l′ : Lent} (h : Taken s) where
-  frequency-alike : FrequencyCall t p l s l′ → Alike p t l o s l′
+  frequency-alike : FrequencyCall t p l s l′ → Alike p t l o s l′ of-frequency
   frequency-alike c =
       let a = step-taken (λ _. counted 0 t) t (frequency-of p t l (l .frequencies)) (c .promise .reply) h in
       let y = frequency-of p t l (o .frequencies) in
@@ -150,7 +121,7 @@ module _ {p : List ℕ} {t : Tally} {l : Lent} (o : Own) {s : Step} {l′ : Lent
             });
       }
 
-  unit-alike : UnitCall t p l s l′ → Alike p t l o s l′
+  unit-alike : UnitCall t p l s l′ → Alike p t l o s l′ of-unit
   unit-alike c =
       let a = step-taken (unit-counted t) t (unit-of p t l (l .readings) (l .deviations)) (c .promise .reply) h in
       let y = unit-of p t l (o .readings) (o .deviations) in
@@ -186,7 +157,7 @@ module _ {p : List ℕ} {t : Tally} {l : Lent} (o : Own) {s : Step} {l′ : Lent
             });
       }
 
-  alike : StepCall p t l s l′ → Alike p t l o s l′
+  alike : {turn : Turn} → StepCall p t l s l′ turn → Alike p t l o s l′ turn
   alike (settings-step c e) = record { own = o; call = settings-step c (ap (λ (l : Lent). with-own l o) e) }
   alike (frequency-step c) = frequency-alike c
   alike (unit-step c) = unit-alike c
@@ -198,7 +169,7 @@ module _ (head : List ℕ) (part : ℕ → List ℕ) (l₀ : Lent) (ws₀ : List
     pub own : Own
     pub chain : WordsChain head part (with-own l₀ first-own) ws₀ n ws (with-own l own)
 
-  one-more : {n : ℕ} {ws ws′ : List ℕ} {l l′ : Lent} → Unshared n ws l → WordsCall (part n) ws l 0 ws′ l′ → Unshared (suc n) ws′ l′
+  one-more : {n : ℕ} {ws ws′ : List ℕ} {l l′ : Lent} {turn : Turn} → Unshared n ws l → WordsCall (part n) ws l 0 ws′ l′ turn → Unshared (suc n) ws′ l′
   one-more u call =
       let x = words-chain (u .chain) in
       let s = call-steps (x .held) call in
@@ -211,3 +182,10 @@ module _ (head : List ℕ) (part : ℕ → List ℕ) (l₀ : Lent) (ws₀ : List
   shared-chain (refused-record d call h) = let e = refused-call call h in rw (e .0, e .1) (shared-chain d)
   shared-chain (refused-contents d call h) = let u = shared-chain d in record { own = u .own; chain = c.refused-contents (u .chain) call h }
   shared-chain (lent-anew d fs rs ds) = let u = shared-chain d in record { own = u .own; chain = u .chain }
+
+  -- where nothing is lent anew it is a chain of C calls as it stands
+  pub chain-shared : {n : ℕ} {ws : List ℕ} {l : Lent} → WordsChain head part l₀ ws₀ n ws l → SharedChain head part l₀ ws₀ n ws l
+  chain-shared (c.begun call) = begun call
+  chain-shared (c.took d call) = took (chain-shared d) call
+  chain-shared (c.refused-record d call h) = refused-record (chain-shared d) call h
+  chain-shared (c.refused-contents d call h) = refused-contents (chain-shared d) call h

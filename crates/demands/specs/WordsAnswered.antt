@@ -1,117 +1,62 @@
--- THE ANSWER OVER WORDS: where the calls below give the rules' answer (crates/answer, RulesAnswer) and the words hold their tally, dullavane_answer returns 0
--- and tells the answer's figures in eight words and its lines' numbers in the columns; dullavane_member returns 0 for every row, and a walk over the rows
--- finds each line's name and standing. Words and numbers past those named stay.
+-- THE ANSWER OVER WORDS: where the calls below give the rules' answer (crates/answer, RulesAnswer) and the words hold their tally, the C calls give it too.
 use mathlib.Core.Path.{_≡_, refl, sym, _∙_, ap, ap₂, subst₂}
 use mathlib.Core.Bool.{Bool, true, false, cond, _&&_}
 use mathlib.Core.List.{List, [], _∷_, _++_, map, map-append, map-map}
 use Prim.Native.Nat.{ℕ, zero, suc, _≤_, _<_}
 use native.Mathlib.Omega.{arith}
 use native.Mathlib.Numerals.{add-one}
-use lib.Dec.{eqb, leb, ltb}
-use lib.ListN.{length, getD, drop}
+use lib.Dec.{leb, ltb}
+use lib.ListN.{length, getD}
 use borrow.Author.Tests.{le-leb, leb-true, lt-ltb}
 use Rattle.integers.specs.Sums.{both}
 use Rattle.rules.specs.declared.Direction.{Direction}
 use Rattle.rules.specs.declared.Standing.{Standing}
 use Rattle.rules.specs.declared.Standing.the-variants.{Live}
 use Rattle.rules.specs.declared.Refusal.the-variants.{EndsEarly, RequirementField}
-use Rattle.rules.specs.Refusals.{taken}
 use Rattle.rules.specs.Bytes.{number-at}
 use Rattle.rules.specs.BytesLaws.{byte-is}
-use Rattle.rules.specs.LimitsLaws.{passed}
+use Rattle.rules.specs.Refusals.{taken}
 use Rattle.rules.specs.Book.{Requirement, covers, Book}
 use Rattle.rules.specs.Contents.{requirement-size}
-use Rattle.rules.specs.RequirementRecord.{requirement-in, requirement-fine, requirement-record}
 use Rattle.rules.specs.RequirementRecord as r
-use Rattle.rules.specs.Members.{Name, unit, residual}
-use Rattle.rules.specs.Answer.{Line, answer, Answer as Full}
+use Rattle.rules.specs.RequirementRecord.{requirement-in, requirement-fine, requirement-record}
+use Rattle.rules.specs.LimitsLaws.{passed}
+use Rattle.rules.specs.Members.{unit, residual}
+use Rattle.rules.specs.Answer.{Line, answer}
 use Rattle.interval.specs.declared.Tally.{Tally}
 use Rattle.interval.specs.Tally.{units-end, in-range, answer-turn}
 use Rattle.interval.specs.TallyLaws.{ranged}
+use Rattle.kept.specs.Kept.{Kept, region-of, row-standing, rows}
 use Rattle.chain.specs.Taken.{requirement-is}
 use Rattle.chain.specs.Chain.{Lent}
-use Rattle.chain.specs.BookAnswer.{kept-of}
+use Rattle.chain.specs.Keeps.{kept-of}
 use Rattle.chain.specs.Ready.{Ready}
-use Rattle.kept.specs.Kept.{Kept, region-of, row-standing, rows}
 use Rattle.members.specs.declared.Row.{Row}
 use Rattle.members.specs.declared.Row.the-variants as row
-use Rattle.members.specs.Lists.{headed, gathered, gathered-none, gathered-more}
+use Rattle.members.specs.Lists.{gathered, gathered-none, gathered-more}
 use Rattle.members.specs.Roster.{Named, row-of, MemberPromise}
 use Rattle.answer.specs.declared.Answered.{Answered}
 use Rattle.answer.specs.Promises.{last-standing}
 use Rattle.answer.specs.Call.{record-fine}
-use Rattle.answer.specs.BookAnswered.{Columns, ColumnsLong, line-named, RulesAnswer, book-answered}
+use Rattle.answer.specs.BookAnswered.{Columns, ColumnsLong, line-named, RulesAnswer, rules-answer}
 use Rattle.dullavane.specs.Words.{held}
-use Rattle.dullavane.specs.Asked.{ready, in-turn, asked-narrow, direction-of, standing-number, member-words, row-number, row-after, MemberCalled}
-use Rattle.dullavane.specs.Answers.{reply-words, answered-number, answered-after, AnswerCalled}
+use Rattle.dullavane.specs.Asked.{ready, in-turn, asked-narrow, direction-of, standing-number, member-words, row-number, row-after}
+use Rattle.dullavane.specs.Answers.{reply-words, answered-number, answered-after}
 use Rattle.demands.specs.WordsLaws.{is-stepped}
-
--- ---- dullavane_answer, lent the lists of a chain, five columns and the reply's words; it returns r
-pub record AnswerWords (ws part : List ℕ) (l : Lent) (old : Columns) (reply : List ℕ) (r : ℕ) (new : Columns) (reply′ : List ℕ) : Type 0 where
-  pub called :
-      AnswerCalled ws part (l .measures) (l .positive) (l .negative) (l .figures) (l .places) (l .raise) (l .lower) (l .defaults)
-      (old .performances) (old .factors) (old .payments) (old .used) (old .unused) reply r
-      (new .performances) (new .factors) (new .payments) (new .used) (new .unused) reply′
-
--- an answer's eight words: members, RCR, pool, used pool, unused pool, unplaced of used and of unused, and how the residual stands
-abbrev pub figures-told : Full → List ℕ
-figures-told a =
-    length (a .lines) ∷ a .rcr ∷ a .pool ∷ a .used-pool ∷ a .unused-pool ∷ a .unplaced-used ∷ a .unplaced-unused
-    ∷ standing-number (last-standing (a .lines))
-    ∷ []
-
--- what it gives of an answer: 0, the eight words, and from the front of each column on a number of each line
-pub record Tells (a : Full) (old : Columns) (reply : List ℕ) (r : ℕ) (new : Columns) (reply′ : List ℕ) : Type 0 where
-  pub number : r ≡ 0
-  pub words : reply′ ≡ figures-told a ++ drop reply-words reply
-  pub performances : new .performances ≡ headed (map (λ l. l .performance) (a .lines)) (old .performances)
-  pub factors : new .factors ≡ headed (map (λ l. l .factor) (a .lines)) (old .factors)
-  pub payments : new .payments ≡ headed (map (λ l. l .payment) (a .lines)) (old .payments)
-  pub used : new .used ≡ headed (map (λ l. l .used) (a .lines)) (old .used)
-  pub unused : new .unused ≡ headed (map (λ l. l .unused) (a .lines)) (old .unused)
-
--- ---- dullavane_member for row j, lent three words, and asked with the direction and the region set that stand in bytes 3 and 2 of the part; it returns r
-abbrev pub MemberWords : List ℕ → List ℕ → Lent → ℕ → List ℕ → ℕ → List ℕ → Type 0
-MemberWords ws part l j us r us′ = MemberCalled ws j (getD part 3 0) (getD part 2 0) (l .figures) (l .numbers) (l .places) us r us′
-
--- a walk over the rows: a call for each, which leaves its words in `row`
-pub record Walk (ws part : List ℕ) (l : Lent) (units : ℕ) (row : ℕ → List ℕ) : Type 0 where
-  pub lent : ℕ → List ℕ
-  pub room : (j : ℕ) → j < units → member-words ≤ length (lent j)
-  pub number : ℕ → ℕ
-  pub called : (j : ℕ) → j < units → MemberWords ws part l j (lent j) (number j) (row j)
-
--- what three words tell: whether the row is a member, and its number and standing
-pub record Told : Type 0 where
-  pub name : Name
-  pub standing : ℕ
-
-abbrev pub is-member : List ℕ → Bool
-is-member us = eqb (getD us 0 0) 1
-
-abbrev pub member-told : List ℕ → Told
-member-told us = record { name = unit (getD us 1 0); standing = getD us 2 0 }
-
--- who is found on the walk: the members among the rows, and then the residual, whose standing is the last word of the answer's reply
-abbrev pub found : (ℕ → List ℕ) → ℕ → List ℕ → List Told
-found row units reply = gathered (λ j. is-member (row j)) (λ j. member-told (row j)) units ++ (record { name = residual; standing = getD reply 7 0 } ∷ [])
-
--- what a line tells of its member
-abbrev pub line-told : Line → Told
-line-told l = record { name = l .name; standing = standing-number (l .standing) }
-
--- ---- THE RULES' ANSWER OVER WORDS, to a requirement whose record starts a part
-pub record WordsAnswer (b : Book) (t : Tally) (ws : List ℕ) (l : Lent) (part : List ℕ) (q : Requirement) : Type 0 where
-  -- dullavane_answer gives its figures and its lines' numbers
-  pub answered :
-      {old new : Columns} {reply reply′ : List ℕ} {r : ℕ} →
-      ColumnsLong (t .units) old → reply-words ≤ length reply → AnswerWords ws part l old reply r new reply′ → Tells (answer b q) old reply r new reply′
-  -- dullavane_member gives of each row a unit of the requirement's regions with its number and standing, or another's
-  pub rows :
-      (j : ℕ) → j < t .units → {us us′ : List ℕ} {r : ℕ} → member-words ≤ length us → MemberWords ws part l j us r us′ →
-      (r ≡ 0) × (us′ ≡ row-after (row-of (kept-of t l) q j) us)
-  -- and a walk over the rows finds the names and standings of its lines
-  pub lines : {row : ℕ → List ℕ} → Walk ws part l (t .units) row → map line-told (answer b q .lines) ≡ found row (t .units) (figures-told (answer b q))
+use Rattle.demands.specs.WordsAnswer.{
+  AnswerWords,
+  figures-told,
+  Tells,
+  MemberWords,
+  Walk,
+  Told,
+  is-member,
+  member-told,
+  found,
+  line-told,
+  WordsAnswer,
+  WordsAnswers,
+}
 
 -- ---- laws
 -- the words are ready for what is asked
@@ -258,8 +203,6 @@ module _
   words-answered = record { answered = answer-told; rows = row-told; lines = walk-told }
 
 -- so it is where a chain of the calls below has left tally and lists ready for a book
-pub ready-answered :
-    {b : Book} {t : Tally} (ws : List ℕ) {l : Lent} → Ready b t l → held ws ≡ taken t →
-    (part : List ℕ) (q : Requirement) → requirement-record 0 false part ≡ taken q → WordsAnswer b t ws l part q
+pub ready-answered : {b : Book} {t : Tally} (ws : List ℕ) {l : Lent} → Ready b t l → held ws ≡ taken t → WordsAnswers b t ws l
 ready-answered {t = t} ws h e part q asked =
-    words-answered ws e (rw (h .tally, le-leb (units-end t) (t .records) (h .turn))) asked (book-answered h part q asked)
+    words-answered ws e (rw (h .tally, le-leb (units-end t) (t .records) (h .turn))) asked (rules-answer h part q asked)
