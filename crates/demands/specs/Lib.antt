@@ -10,3 +10,5 @@ pub mod SharedLists
 pub mod WordsAnswer
 pub mod WordsAnswered
 pub mod WordsBook
+-- Demand by demand, as a caller meets it
+pub mod Demand1
