@@ -1,7 +1,6 @@
 -- DEMAND 2 OVER WORDS: once a chain of C calls has all units in, dullavane_answer and dullavane_member give the rules' answer about the book that was taken, to
 -- the cent, with names and standings. Of a book that the format takes the C calls take every record; of one that it refuses they meet its number.
 use mathlib.Core.Path.{_≡_, refl, _∙_, ap}
-use mathlib.Core.Bool.{false}
 use mathlib.Core.List.{List}
 use Prim.Native.Nat.{ℕ, _+_, _≤_, _<_}
 use native.Mathlib.Omega.{arith}
@@ -10,22 +9,22 @@ use Rattle.rules.specs.declared.Refusal.{Refusal}
 use Rattle.rules.specs.Refusals.{taken, refused, number}
 use Rattle.rules.specs.Book.{Requirement, Book}
 use Rattle.rules.specs.Contents.{contents}
-use Rattle.rules.specs.RequirementRecord.{requirement-record}
 use Rattle.rules.specs.WholeBook.{book}
 use Rattle.interval.specs.declared.Tally.{Tally}
 use Rattle.interval.specs.declared.Opened as o
 use Rattle.interval.specs.declared.Step.{Step}
 use Rattle.interval.specs.Tally.{before-units}
 use Rattle.chain.specs.Taken.{counts-in}
-use Rattle.chain.specs.Chain.{Lent, Chain}
+use Rattle.chain.specs.Chain.{Lent, Chain, RecordTaken}
 use Rattle.chain.specs.Honest.{Enough}
 use Rattle.chain.specs.BookWay as below
 use Rattle.chain.specs.BookWay.{records-in, Hands, Takes, Stops, Meets}
 use Rattle.chain.specs.BookRefused.{refused-here, book-refused, book-way}
 use Rattle.chain.specs.Keeps.{BookMeans}
 use Rattle.chain.specs.BookChain.{book-of}
-use Rattle.chain.specs.Spelled.{spelled, chain-book}
+use Rattle.chain.specs.Spelled.{spelled, book-means, spelled-hands, chain-book}
 use Rattle.chain.specs.Ready.{Ready, chain-ready, units-ready, ended-ready, requirement-read}
+use Rattle.answer.specs.BookAnswered.{Asks}
 use Rattle.dullavane.specs.Words.{tally-words, with-words, taking-number, words-after}
 use Rattle.dullavane.specs.Promises.{ContentsCalled, contents-opened}
 use Rattle.demands.specs.WordsChain.{Turn, Due, WordsCall, WordsChain}
@@ -46,14 +45,16 @@ module _ (head : List ℕ) (part : ℕ → List ℕ) (l₀ : Lent) (ws₀ : List
         WordsCall (part n) ws l r ws′ l′ turn → r ≡ 0
     pub there : (ws : List ℕ) × (l : Lent) × WordsChain head part l₀ ws₀ m ws l
 
-  -- and refuse that one with its number, leaving words and lists as they came
+  -- and refuse that one with its number, leaving words and lists as they came; so no chain comes further
   pub record WordsStops (why : Refusal) (m : ℕ) : Type 0 where
     pub inside : m < records-in head
     pub before : WordsTakes m
     pub refuses :
         {r : ℕ} {ws ws′ : List ℕ} {l l′ : Lent} {turn : Turn} → WordsChain head part l₀ ws₀ m ws l → Due (counts-in head) m turn →
         WordsCall (part m) ws l r ws′ l′ turn → (r ≡ number why) × (ws′ ≡ ws) × (l′ ≡ l)
+    pub furthest : {n : ℕ} {ws : List ℕ} {l : Lent} → WordsChain head part l₀ ws₀ n ws l → n ≤ m
 
+  -- the number that they meet, of the table of contents or of a record
   pub data WordsMeets (why : Refusal) : Type 0 where
     at-contents : ContentsCalled head ws₀ (number why) ws₀ → WordsMeets why
     at-record : {m : ℕ} → WordsStops why m → WordsMeets why
@@ -71,7 +72,8 @@ module _ {head : List ℕ} {part : ℕ → List ℕ} {l₀ : Lent} {ws₀ : List
           s .reply ∙ ap taking-number (w .each h (x .chain) (due-call due (s .call)))
 
   words-stops : {why : Refusal} {m : ℕ} → Stops head part l₀ why m → WordsStops head part l₀ ws₀ why m
-  words-stops {why} {m} w = record { inside = w .inside; before = words-takes (w .before); refuses = refuses }
+  words-stops {why} {m} w =
+      record { inside = w .inside; before = words-takes (w .before); refuses = refuses; furthest = λ d. w .furthest (words-chain d .chain) }
     where
       refuses :
           {r : ℕ} {ws ws′ : List ℕ} {l l′ : Lent} {turn : Turn} → WordsChain head part l₀ ws₀ m ws l → Due (counts-in head) m turn →
@@ -85,6 +87,16 @@ module _ {head : List ℕ} {part : ℕ → List ℕ} {l₀ : Lent} {ws₀ : List
   words-meets : {why : Refusal} → Meets head part l₀ why → WordsMeets head part l₀ ws₀ why
   words-meets {why} (below.at-contents p) = at-contents (contents-opened head ws₀ long (o.the-variants.Refused why) (p .reply) refl refl)
   words-meets (below.at-record s) = at-record (words-stops s)
+
+-- ---- on any chain the C call for the next record returns 0 where the format takes the record, whatever was tried in its place before and refused
+pub next-taken :
+    {head : List ℕ} {part : ℕ → List ℕ} {l₀ : Lent} {ws₀ : List ℕ} {n : ℕ} {ws : List ℕ} {l : Lent} → WordsChain head part l₀ ws₀ n ws l →
+    Enough l₀ (counts-in head .units) → ((m i : ℕ) → m < n → getD (part m) i 0 < 256) → RecordTaken part (counts-in head) n →
+    {r : ℕ} {ws′ : List ℕ} {l′ : Lent} {turn : Turn} → Due (counts-in head) n turn → WordsCall (part n) ws l r ws′ l′ turn → r ≡ 0
+next-taken {head} {part} {l₀} d enough bytes w due c =
+    let x = words-chain d in
+    let s = call-steps (x .held) c in
+    s .reply ∙ ap taking-number (below.next-taken head part l₀ (x .chain) enough bytes w (due-call due (s .call)))
 
 -- ---- OF WHATEVER WAS HANDED IN: the book is the one that the parts spell which were taken, whatever was refused in between
 module _ {head : List ℕ} {part : ℕ → List ℕ} {l₀ : Lent} {ws₀ : List ℕ} where
@@ -101,6 +113,7 @@ pub record WordsSpelled (head : List ℕ) (part : ℕ → List ℕ) (t : Tally) 
   pub spells : book (spelled head part) ≡ taken the-book
   pub means : BookMeans the-book t l
   pub answers : WordsAnswers the-book t ws l
+  pub asks : Asks head part the-book
 
 pub ended-answered :
     {head : List ℕ} {part : ℕ → List ℕ} {l₀ : Lent} {ws₀ ws : List ℕ} {l : Lent} (d : WordsChain head part l₀ ws₀ (records-in head) ws l) →
@@ -108,28 +121,37 @@ pub ended-answered :
 ended-answered {ws = ws} d bytes =
     let x = words-chain d in
     let b = chain-book (x .chain) in
-    record { the-book = b .0; spells = b .1; means = b .2; answers = ready-answered ws (ended-ready (x .chain) bytes) (x .held) }
+    record {
+      the-book = b .0;
+      spells = b .1;
+      means = b .2;
+      answers = ready-answered ws (ended-ready (x .chain) bytes) (x .held);
+      asks = requirement-read (spelled-hands (x .chain)) (b .0) (b .1);
+    }
 
 -- ---- OF A BOOK that the format takes, handed on whole or cut, with lists and words that are long enough
-pub record WordsBook (bs : List ℕ) (b : Book) (head : List ℕ) (part : ℕ → List ℕ) (l₀ : Lent) (ws₀ : List ℕ) : Type 0 where
+pub record WordsBook (b : Book) (head : List ℕ) (part : ℕ → List ℕ) (l₀ : Lent) (ws₀ : List ℕ) : Type 0 where
   -- whatever is refused in between, the C calls take every record
   pub takes : WordsTakes head part l₀ ws₀ (records-in head)
-  -- from the last unit on they give the rules' answers about the book
+  pub means : {ws : List ℕ} {l : Lent} (d : WordsChain head part l₀ ws₀ (records-in head) ws l) → BookMeans b (words-chain d .tally) l
+  -- and give the rules' answers from the last unit on
   pub answers :
       {n : ℕ} {ws : List ℕ} {l : Lent} (d : WordsChain head part l₀ ws₀ n ws l) → before-units + counts-in head .units ≤ n →
       WordsAnswers b (words-chain d .tally) ws l
-  -- and the part of each of its requirements asks for this one; z stands where a book has no requirement
-  pub asks :
-      (i : ℕ) (z : Requirement) → i < length (b .requirements) →
-      requirement-record 0 false (part (before-units + counts-in bs .units + i)) ≡ taken (getD (b .requirements) i z)
+  pub asks : Asks head part b
 
 module _
     {bs head : List ℕ} {part : ℕ → List ℕ} {l₀ : Lent} {ws₀ : List ℕ} (hands : Hands bs head part)
     (enough : contents bs ≡ taken (counts-in bs) → Enough l₀ (counts-in bs .units)) (long : tally-words ≤ length ws₀)
     (bytes : (i : ℕ) → getD bs i 0 < 256) where
-  pub words-book : (b : Book) → book bs ≡ taken b → WordsBook bs b head part l₀ ws₀
+  pub words-book : (b : Book) → book bs ≡ taken b → WordsBook b head part l₀ ws₀
   words-book b e =
-      record { takes = words-takes long (book-way l₀ hands enough bytes b e); answers = answers; asks = requirement-read hands b e }
+      record {
+        takes = words-takes long (book-way l₀ hands enough bytes b e);
+        means = λ d. book-means hands (words-chain d .chain) b e;
+        answers = answers;
+        asks = requirement-read hands b e;
+      }
     where
       answers :
           {n : ℕ} {ws : List ℕ} {l : Lent} (d : WordsChain head part l₀ ws₀ n ws l) → before-units + counts-in head .units ≤ n →
