@@ -103,7 +103,7 @@ module _ (head : List ℕ) (part : ℕ → List ℕ) (l₀ : Lent) {n : ℕ} {t 
       }
 
   -- ---- the records taken are within their limits
-  unit-within : (i : ℕ) → i < units-among (counts-in head .units) n → UnitFits (unit part i)
+  pub unit-within : (i : ℕ) → i < units-among (counts-in head .units) n → UnitFits (unit part i)
   unit-within i h =
       let at = unit-place (counts-in head .units) n i h in
       unit-fits _ (part (before-units + i)) (unit part i) (w .taken-each (before-units + i) (at .0) .as-unit (omega arith) (at .1))
