@@ -12,3 +12,5 @@ pub mod WordsAnswered
 pub mod WordsBook
 -- Demand by demand, as a caller meets it
 pub mod Demand1
+pub mod Demand2
+pub mod Demand3
