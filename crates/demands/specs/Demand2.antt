@@ -1,8 +1,8 @@
--- DEMAND 2: 'Measures, deviations, performances, factors, corrective response and cents equal the Procedure's rules as document 01 writes them in whole numbers,
--- for raise and for lower, at every roster size from 0 to 512.' The rules are the definitions of crates/rules; what each call promises stands in crates/interval
--- and crates/answer (Promises), and for C in crates/dullavane. Here: whatever is handed to the calls, what they keep and what they answer is what the rules say of
--- the book, from its bytes to the last cent, name and standing; and nothing of it is refused. A caller hands parts on whole or cut behind their record
--- (`Hands`: nothing that stands behind a record matters), may make calls that are refused, of any bytes, anywhere in between, and may repair a refused record.
+-- DEMAND 2: 'Measures, deviations, performances, factors, corrective response and cents equal the Procedure's rules as document 01 writes them in whole
+-- numbers, for raise and for lower, at every roster size from 0 to 512.' The rules are the definitions of crates/rules; what each call promises stands in
+-- crates/interval and crates/answer (Promises), and for C in crates/dullavane. Here: what the calls keep and what they answer is what the rules say of the book,
+-- from its bytes to the last cent, name and standing, and nothing of it is refused. A caller hands parts on whole or cut behind their record (`Hands`: what
+-- stands behind a record does not matter), may make calls that are refused, of any bytes, anywhere in between, and may put a refused record right.
 use mathlib.Core.Path.{_≡_}
 use mathlib.Core.List.{List}
 use Prim.Native.Nat.{ℕ, _+_, _≤_, _<_}
@@ -10,7 +10,6 @@ use lib.ListN.{length, getD}
 use Rattle.rules.specs.Refusals.{taken}
 use Rattle.rules.specs.Quantities.{most-units}
 use Rattle.rules.specs.Book.{Requirement, Book}
-use Rattle.rules.specs.Contents.{contents}
 use Rattle.rules.specs.WholeBook.{book}
 use Rattle.rules.specs.LimitsLaws.{book-fits}
 use Rattle.interval.specs.declared.Tally.{Tally}

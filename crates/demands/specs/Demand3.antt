@@ -1,9 +1,9 @@
--- DEMAND 3: 'The books close, however a plant is drawn. In each region whose residual is live for a direction, the good units and the residual add up to zero, at
--- every point in deviation and over the interval in performance. A requirement in which no default stands has a helpful party exactly when it has an unhelpful
--- one; where both are there, the payments' credits, the payments' debits and the pool are equal to the cent. Replace one good unit by two good ones of its region
--- and kind, all within the limits, whose start, end, defaults and every reading add up to its own: their performances add up exactly to the old one, and all
--- other performances stay.' `BooksClose` (crates/closing, Demand3) says all of this of a book, sentence by sentence. Here it stands for the book that a chain of
--- calls took, and for the columns that an answer leaves.
+-- DEMAND 3: 'The books close, however a plant is drawn. In each region whose residual is live for a direction, the good units and the residual add up to zero,
+-- at every point in deviation and over the interval in performance. A requirement in which no default stands has a helpful party exactly when it has an
+-- unhelpful one; where both are there, the payments' credits, the payments' debits and the pool are equal to the cent. Replace one good unit by two good ones of
+-- its region and kind, all within the limits, whose start, end, defaults and every reading add up to its own: their performances add up exactly to the old one,
+-- and all other performances stay.' `BooksClose` (crates/closing, Demand3) says all of this of a book, sentence by sentence. Here it stands for the book that a
+-- chain of calls took, and for the columns that an answer leaves.
 use mathlib.Core.Path.{_≡_, refl, sym, _∙_, ap, ap₂}
 use mathlib.Core.Bool.{Bool, true, _||_}
 use mathlib.Core.List.{List, [], _∷_, _++_, map}
@@ -26,12 +26,11 @@ use Rattle.answer.specs.declared.Answer.{Answer}
 use Rattle.answer.specs.declared.Answered.{Answered}
 use Rattle.answer.specs.declared.Answered.the-variants.{Given}
 use Rattle.answer.specs.Promises.{shown}
-use Rattle.answer.specs.BookAnswered.{Columns, ColumnsLong, AnswerCall, Answers, RulesAnswer, SpelledAnswered, chain-answered, line-named}
+use Rattle.answer.specs.BookAnswered.{Columns, ColumnsLong, AnswerCall, Answers, RulesAnswer, chain-answered, line-named}
 use Rattle.closing.specs.Parties.{some, some-helpful, some-unhelpful, no-default}
 use Rattle.closing.specs.Demand3.{BooksClose, books-close}
 use Rattle.demands.specs.WordsChain.{WordsChain}
-use Rattle.demands.specs.WordsTheorem.{words-chain}
-use Rattle.demands.specs.WordsBook.{WordsSpelled, ended-answered}
+use Rattle.demands.specs.WordsBook.{ended-answered}
 
 -- ---- the book that was taken closes: the one that the parts spell which the calls took, whatever was refused in between
 pub taken-closes :
