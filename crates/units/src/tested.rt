@@ -27,7 +27,7 @@ pub(crate) fn tested_unit(
     part: &[u8],
     readings: &mut [i32],
     deviations: usize,
-    measures: &[i64],
+    measures: &[i32],
     positive: &[i64],
     negative: &[i64],
     numbers: usize,
