@@ -1,31 +1,33 @@
 -- DEMAND 2 OVER WORDS: once a chain of C calls has all units in, dullavane_answer and dullavane_member give the rules' answer about the book that was taken, to
 -- the cent, with names and standings. Of a book that the format takes the C calls take every record; of one that it refuses they meet its number.
-use mathlib.Core.Path.{_≡_, refl, _∙_, ap}
+use mathlib.Core.Path.{_≡_, refl, sym, _∙_, ap}
 use mathlib.Core.List.{List}
 use Prim.Native.Nat.{ℕ, _+_, _≤_, _<_}
 use native.Mathlib.Omega.{arith}
 use lib.ListN.{length, getD}
+use borrow.Author.Tests.{le-leb}
 use Rattle.rules.specs.declared.Refusal.{Refusal}
-use Rattle.rules.specs.Refusals.{taken, refused, number}
+use Rattle.rules.specs.Refusals.{Reply, taken, refused, number}
 use Rattle.rules.specs.Book.{Requirement, Book}
-use Rattle.rules.specs.Contents.{contents}
+use Rattle.rules.specs.Contents.{Counts, contents}
 use Rattle.rules.specs.WholeBook.{book}
 use Rattle.interval.specs.declared.Tally.{Tally}
 use Rattle.interval.specs.declared.Opened as o
 use Rattle.interval.specs.declared.Step.{Step}
 use Rattle.interval.specs.Tally.{before-units}
+use Rattle.interval.specs.Calls.{opened}
 use Rattle.chain.specs.Taken.{counts-in}
 use Rattle.chain.specs.Chain.{Lent, Chain, RecordTaken}
 use Rattle.chain.specs.Honest.{Enough}
 use Rattle.chain.specs.BookWay as below
 use Rattle.chain.specs.BookWay.{records-in, Hands, Takes, Stops, Meets}
-use Rattle.chain.specs.BookRefused.{refused-here, book-refused, book-way}
+use Rattle.chain.specs.BookRefused.{refused-here, refused-book, book-refused, book-way}
 use Rattle.chain.specs.Keeps.{BookMeans}
 use Rattle.chain.specs.BookChain.{book-of}
 use Rattle.chain.specs.Spelled.{spelled, book-means, spelled-hands, chain-book}
 use Rattle.chain.specs.Ready.{Ready, chain-ready, units-ready, ended-ready, requirement-read}
 use Rattle.answer.specs.BookAnswered.{Asks}
-use Rattle.dullavane.specs.Words.{tally-words, with-words, taking-number, words-after}
+use Rattle.dullavane.specs.Words.{tally-words, with-words, reply-number, taking-number, words-after}
 use Rattle.dullavane.specs.Promises.{ContentsCalled, contents-opened}
 use Rattle.demands.specs.WordsChain.{Turn, Due, WordsCall, WordsChain}
 use Rattle.demands.specs.SharedChain.{SharedChain}
@@ -161,6 +163,14 @@ module _
   -- ---- of one that it refuses they meet its number, and whatever number they meet, the format refuses the book with it
   pub words-refused : {why : Refusal} → book bs ≡ refused why → WordsMeets head part l₀ ws₀ why
   words-refused e = words-meets long (book-refused l₀ hands enough bytes e)
+
+  pub refused-contents-words :
+      {r : ℕ} {ws : List ℕ} → ContentsCalled head ws₀ r ws → 0 < r → (why : Refusal) × (r ≡ number why) × (book bs ≡ refused why)
+  refused-contents-words {r} c h = go (contents head) refl (rw (le-leb tally-words (length ws₀) long) at (c .reply))
+    where
+      go : (y : Reply Counts) → contents head ≡ y → r ≡ reply-number y → (why : Refusal) × (r ≡ number why) × (book bs ≡ refused why)
+      go (taken c) e f = absurd (omega arith)
+      go (refused why) e f = (why, f, refused-book l₀ hands enough bytes (below.at-contents (record { reply = ap opened (sym e) })))
 
   pub refused-words :
       {n r : ℕ} {ws ws′ : List ℕ} {l l′ : Lent} {turn : Turn} → WordsChain head part l₀ ws₀ n ws l → n < records-in head → Due (counts-in head) n turn →
