@@ -248,6 +248,12 @@ unit-answers t p l =
       figures = refl;
     }
 
+pub any-frequency : (t : Tally) (p : List ℕ) (l : Lent) → (r : Step) × (l′ : Lent) × FrequencyCall t p l r l′
+any-frequency t p l = (_, _, frequency-answers t p l)
+
+pub any-unit : (t : Tally) (p : List ℕ) (l : Lent) → (r : Step) × (l′ : Lent) × UnitCall t p l r l′
+any-unit t p l = (_, _, unit-answers t p l)
+
 pub any-call : (c : Counts) (p : List ℕ) (n : ℕ) (t : Tally) (l : Lent) → n < records-of c → (r : Step) × (l′ : Lent) × Call c p n t l r l′
 any-call c p n t l h = go (decLt n 1) (decLt n before-units) (decLt n (before-units + c .units))
   where
