@@ -3,7 +3,7 @@
 # On x86-64 they are counted by callgrind. Elsewhere name a gcc for x86-64 in CC and a qemu-x86_64 of user mode in QEMU: every
 # instruction of the share's own functions is then logged, one to a line, and counted.
 set -eu
-tests/static share_c
+tests/tools/static share_c
 mkdir -p target/bench
 ${CC:-gcc} -O3 -static -o target/bench/share bench/share.c target/staticlib/libshare_c.a
 functions() {

@@ -8,13 +8,14 @@ int putchar(int c);
 
 enum { UNITS = DULLAVANE_MOST_UNITS, MEMBERS = UNITS + 1, REQUIREMENT = DULLAVANE_REQUIREMENT_SIZE };
 
-/* All that is lent, 65,285 bytes in all with the bytes that are read. */
+/* All that is lent, 63,785 bytes in all with the bytes that are read. */
 static uint32_t tally[DULLAVANE_TALLY_WORDS];
 static union {
     uint32_t frequencies[DULLAVANE_POINTS]; /* while frequency records come */
     int32_t readings[DULLAVANE_POINTS];     /* while units come */
 } points;
-static int64_t measures[DULLAVANE_SERIES], positive[DULLAVANE_SERIES], negative[DULLAVANE_SERIES];
+static int32_t measures[DULLAVANE_SERIES];
+static int64_t positive[DULLAVANE_SERIES], negative[DULLAVANE_SERIES];
 static int64_t figures[DULLAVANE_FIGURES];
 static uint16_t numbers[UNITS];
 static uint8_t places[UNITS];

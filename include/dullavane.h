@@ -54,7 +54,7 @@
        frequencies    75 uint32_t, of the region taken last; of no use afterwards                       300
        readings       75 int32_t, of the unit taken last; of no use afterwards                          300
        deviations     75 int64_t, of the unit taken last; of no use afterwards                          600
-       measures       375 int64_t, region r from 75 r on                                              3,000
+       measures       375 int32_t, region r from 75 r on                                              1,500
        positive       375 int64_t, sums of deviations above zero, likewise                            3,000
        negative       375 int64_t, sums of deviations below zero, likewise                            3,000
        figures        45 int64_t, 9 a region: generation, raise reliable, lower reliable, six defaults  360
@@ -124,7 +124,7 @@ uint32_t dullavane_settings(uint32_t *tally, uint64_t tally_words, const uint8_t
 /* Takes the frequency record of the next region: writes its 75 frequencies, its measures and figures, and sets its sums to 0. Refuses 12, 11, 12,
    1, 7. */
 uint32_t dullavane_frequency(uint32_t *tally, uint64_t tally_words, const uint8_t *part, uint64_t part_bytes,
-                             uint32_t *frequencies, uint64_t frequencies_length, int64_t *measures, uint64_t measures_length,
+                             uint32_t *frequencies, uint64_t frequencies_length, int32_t *measures, uint64_t measures_length,
                              int64_t *positive, uint64_t positive_length, int64_t *negative, uint64_t negative_length,
                              int64_t *figures, uint64_t figures_length);
 
@@ -133,7 +133,7 @@ uint32_t dullavane_frequency(uint32_t *tally, uint64_t tally_words, const uint8_
    of range), 1, 8, 9. */
 uint32_t dullavane_unit(uint32_t *tally, uint64_t tally_words, const uint8_t *part, uint64_t part_bytes,
                         int32_t *readings, uint64_t readings_length, int64_t *deviations, uint64_t deviations_length,
-                        const int64_t *measures, uint64_t measures_length, int64_t *positive, uint64_t positive_length,
+                        const int32_t *measures, uint64_t measures_length, int64_t *positive, uint64_t positive_length,
                         int64_t *negative, uint64_t negative_length, uint16_t *numbers, uint64_t numbers_length,
                         uint8_t *places, uint64_t places_length, int64_t *raise, uint64_t raise_length,
                         int64_t *lower, uint64_t lower_length, int64_t *defaults, uint64_t defaults_length);
@@ -148,7 +148,7 @@ uint32_t dullavane_requirement(uint32_t *tally, uint64_t tally_words, const uint
    are negative. Each column has to have room for tally[0] + 1 numbers. Refuses 12, 11 (also before the last unit), 12, 11 (a lent number is out of
    range), 1, 10. */
 uint32_t dullavane_answer(const uint32_t *tally, uint64_t tally_words, const uint8_t *part, uint64_t part_bytes,
-                          const int64_t *measures, uint64_t measures_length, const int64_t *positive, uint64_t positive_length,
+                          const int32_t *measures, uint64_t measures_length, const int64_t *positive, uint64_t positive_length,
                           const int64_t *negative, uint64_t negative_length, const int64_t *figures, uint64_t figures_length,
                           const uint8_t *places, uint64_t places_length, const int64_t *raise, uint64_t raise_length,
                           const int64_t *lower, uint64_t lower_length, const int64_t *defaults, uint64_t defaults_length,

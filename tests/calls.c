@@ -19,7 +19,7 @@ enum { MOST = 6 * 512 + 64, BEHIND = 3, LONGEST_WORD = 1 << 14 };
 
 /* A list: the bytes of one of its numbers, whether they have a sign, how many are lent, how many stand there. */
 static struct { const char *name; u32 width, sign; u64 lent, there; } lists[LISTS] = {
-    {"tally", 4, 0, 0, 0},      {"frequencies", 4, 0, 0, 0}, {"readings", 4, 1, 0, 0}, {"deviations", 8, 1, 0, 0}, {"measures", 8, 1, 0, 0},
+    {"tally", 4, 0, 0, 0},      {"frequencies", 4, 0, 0, 0}, {"readings", 4, 1, 0, 0}, {"deviations", 8, 1, 0, 0}, {"measures", 4, 1, 0, 0},
     {"positive", 8, 1, 0, 0},   {"negative", 8, 1, 0, 0},    {"figures", 8, 1, 0, 0},  {"numbers", 2, 0, 0, 0},    {"places", 1, 0, 0, 0},
     {"raise", 8, 1, 0, 0},      {"lower", 8, 1, 0, 0},       {"defaults", 8, 1, 0, 0}, {"performances", 8, 1, 0, 0},
     {"factors", 8, 1, 0, 0},    {"payments", 8, 1, 0, 0},    {"used", 8, 1, 0, 0},     {"unused", 8, 1, 0, 0},     {"reply", 8, 0, 0, 0},
@@ -108,7 +108,7 @@ static u32 part_word(u64 place, u64 bytes) {
 
 #define LENT(list) room[list], lists[list].lent
 #define LENT_AS(type, list) (type *)room[list], lists[list].lent
-#define SERIES LENT_AS(i64, MEASURES), LENT_AS(i64, POSITIVE), LENT_AS(i64, NEGATIVE)
+#define SERIES LENT_AS(i32, MEASURES), LENT_AS(i64, POSITIVE), LENT_AS(i64, NEGATIVE)
 #define ROWS LENT_AS(u8, PLACES), LENT_AS(i64, RAISE), LENT_AS(i64, LOWER), LENT_AS(i64, DEFAULTS)
 
 static void print_call(const char *kind, u32 reply, const int *lent, int count) {

@@ -176,3 +176,13 @@ pub fn describe(book: &Book) -> String {
     }
     out
 }
+
+/// The bytes that follow the book's last body, where there are any.
+pub fn behind(bytes: &[u8]) -> String {
+    let words: Vec<String> = bytes.iter().map(|byte| byte.to_string()).collect();
+    if words.is_empty() {
+        String::new()
+    } else {
+        format!("behind the last body: {}\n", words.join(" "))
+    }
+}

@@ -11,15 +11,17 @@ const LIBRARY: &str = "target/bin/settle";
 const LONGEST: Duration = Duration::from_secs(60);
 
 /// The command that runs the library's `settle`: SETTLE, split at spaces, or what
-/// tests/program says of the program at its place under the top of the repository, on
+/// tests/tools/program says of the program at its place under the top of the repository, on
 /// whatever processor; None where there is none.
 pub fn library_command() -> Option<Vec<String>> {
     let words = |line: &str| line.split_whitespace().map(str::to_string).collect();
     match std::env::var("SETTLE") {
         Ok(line) => Some(words(&line)),
         Err(_) if Path::new(LIBRARY).exists() => {
-            let said =
-                Command::new("tests/program").args(["--line", "settle"]).output().expect("tests/program");
+            let said = Command::new("tests/tools/program")
+                .args(["--line", "settle"])
+                .output()
+                .expect("tests/tools/program");
             Some(words(&String::from_utf8_lossy(&said.stdout)))
         }
         Err(_) => None,

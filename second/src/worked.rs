@@ -4,11 +4,18 @@ use crate::book::*;
 use crate::quantities::*;
 use crate::write::*;
 
-/// A worked book: its name, what it shows, and the book.
+/// A worked book: its name, what it shows, the book, and the bytes that follow its last body.
 pub struct Worked {
     pub name: &'static str,
     pub shows: &'static str,
     pub book: Book,
+    pub behind: &'static [u8],
+}
+
+impl Worked {
+    pub fn bytes(&self) -> Vec<u8> {
+        [&to_bytes(&self.book), self.behind].concat()
+    }
 }
 
 fn along(value: impl Fn(i128) -> i128) -> [i128; POINTS] {
@@ -418,15 +425,94 @@ fn every_field() -> Book {
     book
 }
 
+fn thirteen_units() -> Book {
+    let mut book = base_book();
+    book.settings.bad_unit_percent = 25;
+    book.settings.interval = 4_000_000_013;
+    let regions = [
+        (100_000, along(|t| if t <= 40 { 49_980_000 } else { 50_030_000 })),
+        (80_000, along(|_| 49_975_000)),
+        (30_000, along(|t| if t <= 50 { 49_985_000 } else { 50_015_000 })),
+        (20_000, along(|_| 49_988_000)),
+        (10_000, along(|t| if t <= 30 { 49_970_000 } else { 50_012_000 })),
+    ];
+    for (record, (generation, frequencies)) in book.frequencies.iter_mut().zip(regions) {
+        record.generation = generation;
+        record.frequencies = frequencies;
+    }
+    book.frequencies[0].defaults = [-10, -20, -300, -40, -50, -600];
+    book.frequencies[1].separation = true;
+    book.frequencies[1].defaults = [-7_000_000, -9_000_000, -500, -6_000_000, -8_000_000, -400];
+    book.frequencies[2].defaults = [-100_000, -200_000, -30, -400_000, -500_000, -60];
+    book.frequencies[3].defaults = [-11, -12, -13, -14, -15, -16];
+    book.units = vec![
+        unit(2, 4, false, 0, 75, |t| t),
+        with_defaults(
+            unit(5, 0, false, 10_000, 10_000, |t| if t <= 40 { 10_100 } else { 9_950 }),
+            [-1, -2, -100, -4, -5, -900],
+        ),
+        with_defaults(unit(9, 1, true, 500, 500, |_| 470), [-31, -32, -330, -34, -35, -360]),
+        with_defaults(unit(16, 0, true, 5_000, 5_000, |_| 5_030), [0, 0, -200, 0, 0, -800]),
+        with_bad_readings(
+            with_defaults(
+                unit(77, 2, false, 800, 800, |_| 810),
+                [-600_000, -700_000, -80, -900_000, -1_000_000, -110],
+            ),
+            75,
+            75,
+        ),
+        with_defaults(unit(255, 0, false, 0, 150, |t| 2 * t + 7), [0, 0, -300, 0, 0, -700]),
+        unit(256, 4, true, 75, 0, |t| 75 - t),
+        with_defaults(unit(300, 1, false, 2_000, 2_000, |_| 2_040), [-41, -42, -430, -44, -45, -460]),
+        with_bad_readings(
+            with_defaults(
+                unit(477, 0, false, 3_000, 3_000, |_| 3_050),
+                [-150_000_000, -250_000_000, -400, -350_000_000, -450_000_000, -500],
+            ),
+            1,
+            1,
+        ),
+        with_defaults(unit(512, 1, false, 100, 100, |_| 90), [-51, -52, -530, -54, -55, -560]),
+        with_defaults(unit(1_000, 0, true, 300, 450, |t| 2 * t + 250), [0, 0, -500, 0, 0, -400]),
+        with_defaults(unit(40_000, 0, false, -2_000, -2_000, |t| t - 2_030), [0, 0, -600, 0, 0, -300]),
+        with_defaults(
+            unit(65_535, 0, true, 900, 900, |t| if t <= 20 { 880 } else { 925 }),
+            [0, 0, -700, 0, 0, -200],
+        ),
+    ];
+    book.requirements = vec![
+        requirement(7, 0b00001, Direction::Raise, 1_200, 10_007, 1_000, 333),
+        requirement(8, 0b00101, Direction::Lower, 5_000, 3_001, 600, 250),
+        requirement(300, 0b10000, Direction::Raise, 900, 1_001, 10, 3),
+        requirement(301, 0b01010, Direction::Raise, 9_000, 500, 4, 1),
+        requirement(9_999, 0b11111, Direction::Lower, 7_000, 4_099, 70, 50),
+        requirement(60_000, 0b10001, Direction::Raise, 2_500, 777, 90, 40),
+    ];
+    book
+}
+
+/// The same book with a unit whose number is that of the unit before.
+fn number_not_rising() -> Book {
+    let mut book = thirteen_units();
+    book.units[9].number = book.units[8].number;
+    book
+}
+
 pub fn all() -> Vec<Worked> {
     vec![
-        Worked { name: "listing", shows: "Document 01's listing in full.", book: listing_book() },
+        Worked {
+            name: "listing",
+            shows: "Document 01's listing in full.",
+            book: listing_book(),
+            behind: &[],
+        },
         Worked {
             name: "lower_two_regions",
             shows: "Lower over two regions in one set, generation and load, one RCR over the set;\n\
                     then one region alone; then raise in the same regions, where no point has FM\n\
                     above 0, so every member stands on its raise defaults and all cost is unused.",
             book: lower_two_regions(),
+            behind: &[],
         },
         Worked {
             name: "default_reasons",
@@ -436,12 +522,14 @@ pub fn all() -> Vec<Worked> {
                     percent 50 keeps RCR. Requirement 2: two bad of three makes RCR 0. Requirement 3:\n\
                     unreliable regions make RCR and used pool 0.",
             book: default_reasons(),
+            behind: &[],
         },
         Worked {
             name: "bad_frequency_points",
             shows: "a 5000 from FM -20000 towards 40000; region 0 has ten bad points (the limit) where\n\
                     FM stays 25000; region 3 has eleven and is unreliable.",
             book: bad_frequency_points(),
+            behind: &[],
         },
         Worked {
             name: "sign_turned",
@@ -450,6 +538,7 @@ pub fn all() -> Vec<Worked> {
                     its RCR at t 10, requirement 2 (region 0 alone) at t 60. Requirement 1 has used over\n\
                     enabled, requirement 3 used 0.",
             book: sign_turned(),
+            behind: &[],
         },
         Worked {
             name: "unplaced",
@@ -457,18 +546,21 @@ pub fn all() -> Vec<Worked> {
                     unplaced. Requirement 2: enabled 0. Requirement 3: a region whose only unit is bad,\n\
                     a negative side alone, no used weight.",
             book: unplaced(),
+            behind: &[],
         },
         Worked {
             name: "ramp",
             shows: "FM 30000 - 800·t, so raise to t 37 and lower from t 38; trajectories that fall between\n\
                     whole cMW and are not rounded; a load that ramps down; the highest unit number.",
             book: ramp(),
+            behind: &[],
         },
         Worked {
             name: "ties",
             shows: "Equal weights and left-overs: ties go to the earlier member; a member without weight\n\
                     gets nothing.",
             book: ties(),
+            behind: &[],
         },
         Worked {
             name: "one_side",
@@ -478,12 +570,14 @@ pub fn all() -> Vec<Worked> {
                     no side at all, used and unused unplaced. Requirement 3: region 0 alone, where RCR\n\
                     is 0 too. Requirement 4: lower, where unit 1 hinders and the residual helps.",
             book: one_side(),
+            behind: &[],
         },
         Worked {
             name: "no_units",
             shows: "Roster 0: live residuals at 0; used unplaced; the unused pool on the residual alone;\n\
                     requirement 1 adds a region at 50 Hz, which is unreliable.",
             book: no_units(),
+            behind: &[],
         },
         Worked {
             name: "lower_defaults",
@@ -494,6 +588,7 @@ pub fn all() -> Vec<Worked> {
                     Requirement 2: two bad of three makes RCR 0, the used pool stays. The others: no unit,\n\
                     unreliable.",
             book: lower_defaults(),
+            behind: &[],
         },
         Worked {
             name: "edges_of_reliability",
@@ -501,6 +596,7 @@ pub fn all() -> Vec<Worked> {
                     region 0 has one FM of -10001 and six of -1, region 1 five of -1, region 2 FM -10000 at\n\
                     all points. Raise: region 3 has one FM of 10001 and six of 1, region 4 five of 1.",
             book: edges_of_reliability(),
+            behind: &[],
         },
         Worked {
             name: "every_field",
@@ -508,6 +604,29 @@ pub fn all() -> Vec<Worked> {
                 "Each field holds a value of its own; three good points to a region. Region 3 has no good\n\
                     unit. Requirement 1027: used over enabled, one bad of one at percent 33.",
             book: every_field(),
+            behind: &[],
+        },
+        Worked {
+            name: "thirteen_units",
+            shows: "What settle itself puts together: thirteen units in rows that no region has to itself, six\n\
+                    requirements whose sets leave units out. Requirement 300: units on their trajectory and\n\
+                    without defaults, so that different amounts of used and of unused are unplaced.\n\
+                    Requirements 8, 301 and 9999: a default residual, by a region without a good unit and by\n\
+                    an unreliable one. Requirements 7 and 60000: a live one, and a bad unit among live ones.",
+            book: thirteen_units(),
+            behind: &[],
+        },
+        Worked {
+            name: "byte_behind",
+            shows: "The same book and a byte behind it: refused 4.",
+            book: thirteen_units(),
+            behind: &[0],
+        },
+        Worked {
+            name: "number_not_rising",
+            shows: "The same book, its tenth unit with the number of the ninth: refused 9.",
+            book: number_not_rising(),
+            behind: &[],
         },
     ]
 }

@@ -6,14 +6,13 @@ use std::path::Path;
 use second::describe::{describe, series};
 use second::listing::settle;
 use second::worked::all;
-use second::write::to_bytes;
 
 #[test]
 fn kept_files_are_up_to_date() {
     let dir = Path::new(env!("CARGO_MANIFEST_DIR")).join("../tests/worked");
     for worked in all() {
         let read = |ending: &str| fs::read(dir.join(format!("{}.{ending}", worked.name))).unwrap();
-        let bytes = to_bytes(&worked.book);
+        let bytes = worked.bytes();
         assert_eq!(read("book"), bytes, "{}", worked.name);
         assert_eq!(read("listing"), settle(&bytes).as_bytes(), "{}", worked.name);
         let text = String::from_utf8(read("txt")).unwrap();

@@ -1,11 +1,10 @@
--- DEMAND 2, WHOLE: for a book that the format takes and each requirement in it, the chain of calls and `answer` give exactly the rules' answer: its figures,
--- and in the columns each number of its lines; and `member` over the rows gives each line's name and standing. Nothing is refused.
+-- DEMAND 2, WHOLE: once a chain of calls has all units in, `answer` over any part that a requirement's record starts gives exactly the rules' answer about the
+-- book that was taken: its figures, and in the columns each number of its lines; and `member` over the rows gives each line's name and standing. Nothing is
+-- refused.
 use mathlib.Core.Path.{_≡_, refl, sym, _∙_, ap, ap₂}
-use mathlib.Core.Bool.{Bool, true, false, _&&_}
+use mathlib.Core.Bool.{true, false, _&&_}
 use mathlib.Core.List.{List, [], _∷_, _++_, map}
 use Prim.Native.Nat.{ℕ, suc, _+_, _≤_, _<_}
-use native.Mathlib.Omega.{arith}
-use lib.Dec.{leb}
 use lib.IntN.{ℤ}
 use lib.ListN.{length, getD}
 use borrow.Author.Tests.{le-leb, lt-ltb}
@@ -14,50 +13,86 @@ use Rattle.integers.specs.Totals.{numbered}
 use Rattle.rules.specs.Quantities.{most-units}
 use Rattle.rules.specs.Refusals.{Reply, taken}
 use Rattle.rules.specs.Book.{Requirement, covers, Book}
-use Rattle.rules.specs.RequirementRecord.{set-fine, requirement-record}
+use Rattle.rules.specs.RequirementRecord.{requirement-record}
 use Rattle.rules.specs.WholeBook.{book}
 use Rattle.rules.specs.Members.{Member, unit, residual}
 use Rattle.rules.specs.Answer.{Line, lines-of, answered, answer, Answer as Full}
 use Rattle.interval.specs.declared.Tally.{Tally}
 use Rattle.interval.specs.Tally.{before-units, units-end, in-range, answer-turn}
 use Rattle.interval.specs.TallyLaws.{ranged}
+use Rattle.kept.specs.Kept.{Kept, region-of, row-standing, residual-row, kept-members, kept-answer}
+use Rattle.kept.specs.Range.{series-fine, figures-fine, rows-fine}
 use Rattle.chain.specs.Taken.{counts-in}
 use Rattle.chain.specs.Chain.{Lent, Chain}
 use Rattle.chain.specs.Honest.{Enough}
-use Rattle.chain.specs.BookRecords.{part-of}
-use Rattle.kept.specs.Kept.{Kept, region-of, row-standing, residual-row, kept-members, kept-answer}
-use Rattle.kept.specs.Range.{series-fine, figures-fine, rows-fine, kept-fine}
-use Rattle.chain.specs.BookAnswer.{kept-of}
-use Rattle.chain.specs.Ready.{requirement-at, KeptRoom, Ready, chain-ready, units-ready}
+use Rattle.chain.specs.BookWay.{records-in, Hands, Takes}
+use Rattle.chain.specs.BookRefused.{book-way}
+use Rattle.chain.specs.Keeps.{kept-of, BookMeans}
+use Rattle.chain.specs.BookChain.{book-of}
+use Rattle.chain.specs.Spelled.{spelled, book-means, spelled-hands, chain-book}
+use Rattle.chain.specs.Ready.{Ready, chain-ready, units-ready, ended-ready, requirement-read}
 use Rattle.members.specs.declared.Row.{Row}
 use Rattle.members.specs.Lists.{headed, gathered}
-use Rattle.members.specs.Roster.{Named, named, walk, row-of, member-reply, member-taken}
+use Rattle.members.specs.Roster.{Named, named, walk, row-of, row-answer, MemberPromise, member-of-kept, member-taken}
 use Rattle.answer.specs.declared.Answered.{Answered}
 use Rattle.answer.specs.declared.Answered.the-variants.{Given}
-use Rattle.answer.specs.Promises.{kept-lists, lists-long, columns-long, answer-reply, replied, lined, shown, AnswerPromise}
+use Rattle.answer.specs.Promises.{lists-long, answer-reply, replied, lined, shown, AnswerPromise}
 use Rattle.answer.specs.Tested.{Tested, fine-any, past-all, tested-answer}
 use Rattle.answer.specs.Call.{record-fine}
 
--- an answer's figures, and a row of numbers for each of its lines
-pub record Answers (a : Full) (old₁ old₂ old₃ old₄ old₅ : List ℤ) (r : Answered) (new₁ new₂ new₃ new₄ new₅ : List ℤ) : Type 0 where
-  pub reply : r ≡ Given (shown a)
-  pub performances : new₁ ≡ headed (map (λ l. l .performance) (a .lines)) old₁
-  pub factors : new₂ ≡ headed (map (λ l. l .factor) (a .lines)) old₂
-  pub payments : new₃ ≡ headed (map (λ l. l .payment) (a .lines)) old₃
-  pub used : new₄ ≡ headed (map (λ l. l .used) (a .lines)) old₄
-  pub unused : new₅ ≡ headed (map (λ l. l .unused) (a .lines)) old₅
+-- ---- the answer call over a part, by its promise, with the lent lists as a chain of calls left them
+pub record Columns : Type 0 where
+  pub performances : List ℤ
+  pub factors : List ℤ
+  pub payments : List ℤ
+  pub used : List ℤ
+  pub unused : List ℤ
 
--- five columns with one number more than units each
-pub record Columns (n : ℕ) (old₁ old₂ old₃ old₄ old₅ : List ℤ) : Type 0 where
-  pub performances : n < length old₁
-  pub factors : n < length old₂
-  pub payments : n < length old₃
-  pub used : n < length old₄
-  pub unused : n < length old₅
+pub record AnswerCall (t : Tally) (part : List ℕ) (l : Lent) (old : Columns) (r : Answered) (new : Columns) : Type 0 where
+  pub promise :
+      AnswerPromise t part (l .measures) (l .positive) (l .negative) (l .figures) (l .places) (l .raise) (l .lower) (l .defaults)
+      (old .performances) (old .factors) (old .payments) (old .used) (old .unused) r
+      (new .performances) (new .factors) (new .payments) (new .used) (new .unused)
+
+-- each column takes one number more than there are units
+pub record ColumnsLong (units : ℕ) (old : Columns) : Type 0 where
+  pub performances : units < length (old .performances)
+  pub factors : units < length (old .factors)
+  pub payments : units < length (old .payments)
+  pub used : units < length (old .used)
+  pub unused : units < length (old .unused)
+
+-- an answer's figures, and from the front of each column on a number of each of its lines
+pub record Answers (a : Full) (old : Columns) (r : Answered) (new : Columns) : Type 0 where
+  pub reply : r ≡ Given (shown a)
+  pub performances : new .performances ≡ headed (map (λ l. l .performance) (a .lines)) (old .performances)
+  pub factors : new .factors ≡ headed (map (λ l. l .factor) (a .lines)) (old .factors)
+  pub payments : new .payments ≡ headed (map (λ l. l .payment) (a .lines)) (old .payments)
+  pub used : new .used ≡ headed (map (λ l. l .used) (a .lines)) (old .used)
+  pub unused : new .unused ≡ headed (map (λ l. l .unused) (a .lines)) (old .unused)
 
 -- a line's name and standing
 abbrev pub line-named : Line → Named
 line-named l = record { name = l .name; standing = l .standing }
+
+-- ---- THE RULES' ANSWER about a book, to a requirement whose record starts a part: what the calls give that are handed this part
+pub record RulesAnswer (b : Book) (t : Tally) (l : Lent) (part : List ℕ) (q : Requirement) : Type 0 where
+  -- `answer` gives its figures and its lines' numbers, and refuses nothing
+  pub answered : {old new : Columns} {r : Answered} → ColumnsLong (t .units) old → AnswerCall t part l old r new → Answers (answer b q) old r new
+  -- `member` tells of each row: a unit of the requirement's regions, with its number and standing, or one of another region
+  pub rows :
+      (j : ℕ) → j < t .units → {r : Row} → MemberPromise j (t .units) (q .direction) (q .set) (l .figures) (l .numbers) (l .places) r →
+      r ≡ row-of (kept-of t l) q j
+  -- and those units in their order, then the residual, have the names and standings of its lines
+  pub lines :
+      map line-named (answer b q .lines) ≡
+      gathered (λ j. covers q (region-of (kept-of t l) j))
+      (λ j. record { name = unit (getD (l .numbers) j 0); standing = row-standing (kept-of t l) (q .direction) j }) (t .units)
+      ++ (record { name = residual; standing = residual-row (kept-of t l) q .standing } ∷ [])
+
+-- to every requirement, asked for with any part that its record starts, cut or not, of the book or any other
+abbrev pub RulesAnswers : Book → Tally → Lent → Type 0
+RulesAnswers b t l = (part : List ℕ) (q : Requirement) → requirement-record 0 false part ≡ taken q → RulesAnswer b t l part q
 
 names-of : (h : ℕ → Member → Line) → ((i : ℕ) (m : Member) → line-named (h i m) ≡ named m) → (ms : List Member) → map line-named (numbered h ms) ≡ map named ms
 unfolding numbered
@@ -68,59 +103,134 @@ kept-names : (k : Kept) (q : Requirement) → map line-named (kept-answer k q .l
 unfolding kept-answer answered lines-of
 kept-names k q = names-of _ (λ i m. refl) (kept-members k q)
 
-module _ {bs : List ℕ} {b : Book} {t : Tally} {l : Lent} (h : Ready bs b t l) (i : ℕ) (z : Requirement) (below : i < length (b .requirements)) where
-  abbrev pub asked-for : Requirement
-  asked-for = getD (b .requirements) i z
-
+module _ {b : Book} {t : Tally} {l : Lent} (h : Ready b t l) (part : List ℕ) (q : Requirement) (asked : requirement-record 0 false part ≡ taken q) where
   abbrev k : Kept
   k = kept-of t l
 
   turn : (in-range t && answer-turn t) ≡ true
   turn = rw (h .tally, le-leb (units-end t) (t .records) (h .turn))
 
-  long : lists-long (t .units) (length (l .measures)) (length (l .positive)) (length (l .negative)) (length (l .figures)) (length (l .places)) (length (l .raise)) (length (l .lower)) (length (l .defaults)) ≡ true
+  long :
+      lists-long (t .units) (length (l .measures)) (length (l .positive)) (length (l .negative)) (length (l .figures)) (length (l .places))
+      (length (l .raise)) (length (l .lower)) (length (l .defaults)) ≡ true
   long =
       let r = h .room in
-      rw (le-leb _ _ (r .measures), le-leb _ _ (r .positive), le-leb _ _ (r .negative), le-leb _ _ (r .figures), le-leb _ _ (r .places), le-leb _ _ (r .raise), le-leb _ _ (r .lower), le-leb _ _ (r .defaults))
+      rw (
+        le-leb _ _ (r .measures),
+        le-leb _ _ (r .positive),
+        le-leb _ _ (r .negative),
+        le-leb _ _ (r .figures),
+        le-leb _ _ (r .places),
+        le-leb _ _ (r .raise),
+        le-leb _ _ (r .lower),
+        le-leb _ _ (r .defaults),
+      )
 
-  -- what `answer` gives
-  pub book-answered : {old₁ old₂ old₃ old₄ old₅ : List ℤ} {r : Answered} {new₁ new₂ new₃ new₄ new₅ : List ℤ} → Columns (t .units) old₁ old₂ old₃ old₄ old₅ → AnswerPromise t (requirement-at bs i) (l .measures) (l .positive) (l .negative) (l .figures) (l .places) (l .raise) (l .lower) (l .defaults) old₁ old₂ old₃ old₄ old₅ r new₁ new₂ new₃ new₄ new₅ → Answers (answer b asked-for) old₁ old₂ old₃ old₄ old₅ r new₁ new₂ new₃ new₄ new₅
-  book-answered {old₁} {old₂} {old₃} {old₄} {old₅} c p =
-      let w = p .whatever (l .numbers) in
-      let tests : Tested t (l .measures) (l .positive) (l .negative) (l .figures) (l .places) (l .raise) (l .lower) (l .defaults) (length old₁) (length old₂) (length old₃) (length old₄) (length old₅) = record {
-        turn = turn;
-        lists = long;
-        columns = rw (lt-ltb _ _ (c .performances), lt-ltb _ _ (c .factors), lt-ltb _ _ (c .payments), lt-ltb _ _ (c .used), lt-ltb _ _ (c .unused));
-        fine = sym (fine-any (t .units) (t .percent) (l .measures) (l .positive) (l .negative) (l .figures) (l .numbers) (l .places) (l .raise) (l .lower) (l .defaults)) ∙ h .fine;
-      } in
-      let e : answer-reply t (requirement-at bs i) k (length old₁) (length old₂) (length old₃) (length old₄) (length old₅) ≡ taken (answer b asked-for) =
-      tested-answer t (requirement-at bs i) (l .measures) (l .positive) (l .negative) (l .figures) (l .numbers) (l .places) (l .raise) (l .lower) (l .defaults) (length old₁) (length old₂) (length old₃) (length old₄) (length old₅)
-      (past-all t (requirement-at bs i) (l .measures) (l .positive) (l .negative) (l .figures) (l .places) (l .raise) (l .lower) (l .defaults) (length old₁) (length old₂) (length old₃) (length old₄) (length old₅) tests ∙ h .records i z below)
-      ∙ ap taken (h .answers asked-for) in
+  -- past all tests the record decides
+  module _ (old : Columns) (c : ColumnsLong (t .units) old) where
+    abbrev reply : Reply Full
+    reply = answer-reply t part k (length (old .performances)) (length (old .factors)) (length (old .payments)) (length (old .used)) (length (old .unused))
+
+    tests :
+        Tested t (l .measures) (l .positive) (l .negative) (l .figures) (l .places) (l .raise) (l .lower) (l .defaults)
+        (length (old .performances)) (length (old .factors)) (length (old .payments)) (length (old .used)) (length (old .unused))
+    tests =
+        record {
+          turn = turn;
+          lists = long;
+          columns = rw (lt-ltb _ _ (c .performances), lt-ltb _ _ (c .factors), lt-ltb _ _ (c .payments), lt-ltb _ _ (c .used), lt-ltb _ _ (c .unused));
+          fine = sym (fine-any (t .units) (t .percent) _ _ _ _ (l .numbers) _ _ _ _) ∙ h .fine;
+        }
+
+    decided : reply ≡ taken (answer b q)
+    decided =
+        tested-answer t part _ _ _ _ (l .numbers) _ _ _ _ _ _ _ _ _ (past-all t part _ _ _ _ _ _ _ _ _ _ _ _ _ tests ∙ asked) ∙ ap taken (h .answers q)
+
+  pub figures-answered : {old new : Columns} {r : Answered} → ColumnsLong (t .units) old → AnswerCall t part l old r new → Answers (answer b q) old r new
+  figures-answered {old} c p =
+      let w = p .promise .whatever (l .numbers) in
+      let e = decided old c in
       record {
         reply = w .reply ∙ ap replied e;
-        performances = w .performances ∙ ap (λ (y : Reply Full). lined (λ l. l .performance) y old₁) e;
-        factors = w .factors ∙ ap (λ (y : Reply Full). lined (λ l. l .factor) y old₂) e;
-        payments = w .payments ∙ ap (λ (y : Reply Full). lined (λ l. l .payment) y old₃) e;
-        used = w .used ∙ ap (λ (y : Reply Full). lined (λ l. l .used) y old₄) e;
-        unused = w .unused ∙ ap (λ (y : Reply Full). lined (λ l. l .unused) y old₅) e;
+        performances = w .performances ∙ ap (λ (y : Reply Full). lined (λ l. l .performance) y (old .performances)) e;
+        factors = w .factors ∙ ap (λ (y : Reply Full). lined (λ l. l .factor) y (old .factors)) e;
+        payments = w .payments ∙ ap (λ (y : Reply Full). lined (λ l. l .payment) y (old .payments)) e;
+        used = w .used ∙ ap (λ (y : Reply Full). lined (λ l. l .used) y (old .used)) e;
+        unused = w .unused ∙ ap (λ (y : Reply Full). lined (λ l. l .unused) y (old .unused)) e;
       }
 
-  -- what `member` gives of each row
-  pub row-answered : (j : ℕ) → j < t .units → member-reply k asked-for j ≡ taken (row-of k asked-for j)
-  row-answered j row =
-      let rest = both (series-fine k) _ (h .fine) .1 in
-      member-taken k asked-for j (rw (le-leb (t .units) most-units (ranged t (h .tally) .units)) (record-fine (requirement-at bs i) asked-for (h .records i z below) .set)) row (h .room .figures) (h .room .numbers) (h .room .places) (both (figures-fine k) (rows-fine k) rest .0) (both (figures-fine k) (rows-fine k) rest .1)
+  pub row-answered :
+      (j : ℕ) → j < t .units → {r : Row} → MemberPromise j (t .units) (q .direction) (q .set) (l .figures) (l .numbers) (l .places) r → r ≡ row-of k q j
+  row-answered j row p =
+      let fine = both (figures-fine k) (rows-fine k) (both (series-fine k) _ (h .fine) .1) in
+      let few = le-leb (t .units) most-units (ranged t (h .tally) .units) in
+      let told =
+      member-taken k q j (rw few (record-fine part q asked .set)) row (h .room .figures) (h .room .numbers) (h .room .places) (fine .0) (fine .1) in
+      p .reply ∙ ap row-answer (member-of-kept k q j ∙ told)
 
-  -- so the rows of the requirement's regions, in their order, and then the residual are the lines
-  pub lines-named : map line-named (answer b asked-for .lines) ≡ gathered (λ j. covers asked-for (region-of k j)) (λ j. record { name = unit (getD (l .numbers) j 0); standing = row-standing k (asked-for .direction) j }) (t .units) ++ (record { name = residual; standing = residual-row k asked-for .standing } ∷ [])
-  lines-named =
-      ap (λ (a : Full). map line-named (a .lines)) (sym (h .answers asked-for)) ∙ kept-names k asked-for ∙ walk k asked-for
+  pub lines-named :
+      map line-named (answer b q .lines) ≡
+      gathered (λ j. covers q (region-of k j)) (λ j. record { name = unit (getD (l .numbers) j 0); standing = row-standing k (q .direction) j }) (t .units)
+      ++ (record { name = residual; standing = residual-row k q .standing } ∷ [])
+  lines-named = ap (λ (a : Full). map line-named (a .lines)) (sym (h .answers q)) ∙ kept-names k q ∙ walk k q
 
--- ---- from the bytes: wherever a chain over the book's parts has all units in, and at its end
-module _ (bs : List ℕ) (b : Book) (e : book bs ≡ taken b) (l₀ : Lent) (bytes : (i : ℕ) → getD bs i 0 < 256) (i : ℕ) (z : Requirement) (below : i < length (b .requirements)) where
-  pub units-answered : Enough l₀ (counts-in bs .units) → {n : ℕ} {t : Tally} {l : Lent} → before-units + counts-in bs .units ≤ n → Chain bs (part-of bs) l₀ n t l → {old₁ old₂ old₃ old₄ old₅ : List ℤ} {r : Answered} {new₁ new₂ new₃ new₄ new₅ : List ℤ} → Columns (t .units) old₁ old₂ old₃ old₄ old₅ → AnswerPromise t (requirement-at bs i) (l .measures) (l .positive) (l .negative) (l .figures) (l .places) (l .raise) (l .lower) (l .defaults) old₁ old₂ old₃ old₄ old₅ r new₁ new₂ new₃ new₄ new₅ → Answers (answer b (getD (b .requirements) i z)) old₁ old₂ old₃ old₄ old₅ r new₁ new₂ new₃ new₄ new₅
-  units-answered enough m d c p = book-answered (units-ready bs b e l₀ bytes enough m d) i z below c p
+  pub rules-answer : RulesAnswer b t l part q
+  rules-answer = record { answered = figures-answered; rows = row-answered; lines = lines-named }
 
-  pub chain-answered : {t : Tally} {l : Lent} → Chain bs (part-of bs) l₀ (before-units + counts-in bs .units + counts-in bs .requirements) t l → {old₁ old₂ old₃ old₄ old₅ : List ℤ} {r : Answered} {new₁ new₂ new₃ new₄ new₅ : List ℤ} → Columns (t .units) old₁ old₂ old₃ old₄ old₅ → AnswerPromise t (requirement-at bs i) (l .measures) (l .positive) (l .negative) (l .figures) (l .places) (l .raise) (l .lower) (l .defaults) old₁ old₂ old₃ old₄ old₅ r new₁ new₂ new₃ new₄ new₅ → Answers (answer b (getD (b .requirements) i z)) old₁ old₂ old₃ old₄ old₅ r new₁ new₂ new₃ new₄ new₅
-  chain-answered d c p = book-answered (chain-ready bs b e l₀ bytes d) i z below c p
+-- the book's requirements are asked for by their own parts; z stands where a book has none
+abbrev pub Asks : List ℕ → (ℕ → List ℕ) → Book → Type 0
+Asks head part b =
+    (i : ℕ) (z : Requirement) → i < length (b .requirements) →
+    requirement-record 0 false (part (before-units + counts-in head .units + i)) ≡ taken (getD (b .requirements) i z)
+
+-- ---- OF WHATEVER WAS HANDED IN: the book is the one that the parts spell which were taken, whatever was refused in between
+-- once all units are in: its settings, regions and roster are the records taken, and its requirements make no difference
+pub taken-answered :
+    {head : List ℕ} {part : ℕ → List ℕ} {l₀ : Lent} {n : ℕ} {t : Tally} {l : Lent} → Chain head part l₀ n t l → before-units + counts-in head .units ≤ n →
+    ((m i : ℕ) → m < n → getD (part m) i 0 < 256) → (qs : List Requirement) → RulesAnswers (book-of (counts-in head .units) part qs) t l
+taken-answered d all bytes qs = rules-answer (chain-ready d all bytes qs)
+
+-- at the chain's end
+pub record SpelledAnswered (head : List ℕ) (part : ℕ → List ℕ) (t : Tally) (l : Lent) : Type 0 where
+  pub the-book : Book
+  pub spells : book (spelled head part) ≡ taken the-book
+  pub means : BookMeans the-book t l
+  pub answers : RulesAnswers the-book t l
+  pub asks : Asks head part the-book
+
+pub chain-answered :
+    {head : List ℕ} {part : ℕ → List ℕ} {l₀ : Lent} {t : Tally} {l : Lent} → Chain head part l₀ (records-in head) t l →
+    ((m i : ℕ) → m < records-in head → getD (part m) i 0 < 256) → SpelledAnswered head part t l
+chain-answered d bytes =
+    let w = chain-book d in
+    record {
+      the-book = w .0;
+      spells = w .1;
+      means = w .2;
+      answers = rules-answer (ended-ready d bytes);
+      asks = requirement-read (spelled-hands d) (w .0) (w .1);
+    }
+
+-- ---- OF A BOOK that the format takes, handed on whole or cut, with lists that are long enough
+pub record BookAnswered (b : Book) (head : List ℕ) (part : ℕ → List ℕ) (l₀ : Lent) : Type 0 where
+  -- whatever is refused in between, the calls take every record
+  pub takes : Takes head part l₀ (records-in head)
+  pub means : {t : Tally} {l : Lent} → Chain head part l₀ (records-in head) t l → BookMeans b t l
+  -- and give the rules' answers from the last unit on
+  pub answers : {n : ℕ} {t : Tally} {l : Lent} → Chain head part l₀ n t l → before-units + counts-in head .units ≤ n → RulesAnswers b t l
+  pub asks : Asks head part b
+
+module _
+    {bs head : List ℕ} {part : ℕ → List ℕ} (hands : Hands bs head part) (b : Book) (e : book bs ≡ taken b) (bytes : (i : ℕ) → getD bs i 0 < 256) where
+  pub units-answered :
+      {l₀ : Lent} {n : ℕ} {t : Tally} {l : Lent} → Chain head part l₀ n t l → before-units + counts-in head .units ≤ n → RulesAnswers b t l
+  units-answered d all = rules-answer (units-ready hands b e d all bytes)
+
+  pub book-answered : (l₀ : Lent) → Enough l₀ (counts-in bs .units) → BookAnswered b head part l₀
+  book-answered l₀ enough =
+      record {
+        takes = book-way l₀ hands (λ _. enough) bytes b e;
+        means = λ d. book-means hands d b e;
+        answers = units-answered;
+        asks = requirement-read hands b e;
+      }

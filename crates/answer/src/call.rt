@@ -12,7 +12,7 @@ use interval::Tally;
 pub fn answer(
     tally: Tally,
     part: &[u8],
-    measures: &[i64],
+    measures: &[i32],
     positive: &[i64],
     negative: &[i64],
     figures: &[i64],

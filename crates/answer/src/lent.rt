@@ -82,7 +82,7 @@ pub(crate) fn columns_long(
 // Every number that is read.
 pub(crate) fn lent_in_range(
     units: u16,
-    measures: &[i64],
+    measures: &[i32],
     positive: &[i64],
     negative: &[i64],
     figures: &[i64],

@@ -14,7 +14,7 @@ use rules::Refusal;
 pub(crate) fn tested_requirement(
     tally: Tally,
     part: &[u8],
-    measures: &[i64],
+    measures: &[i32],
     positive: &[i64],
     negative: &[i64],
     figures: &[i64],

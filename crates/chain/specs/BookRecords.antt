@@ -16,7 +16,18 @@ use Rattle.rules.specs.Bytes.{number-at, listed}
 use Rattle.rules.specs.declared.Refusal.{Refusal}
 use Rattle.rules.specs.Refusals.{Reply, taken, refused, _>>=_}
 use Rattle.rules.specs.Book.{Region, Unit, Requirement, Book}
-use Rattle.rules.specs.Contents.{Counts, contents, contents-size, frequency-start, frequency-size, unit-start, unit-size, requirement-start, requirement-size}
+use Rattle.rules.specs.Contents.{
+  Counts,
+  contents,
+  contents-size,
+  settings-size,
+  frequency-start,
+  frequency-size,
+  unit-start,
+  unit-size,
+  requirement-start,
+  requirement-size,
+}
 use Rattle.rules.specs.SettingsRecord.{settings}
 use Rattle.rules.specs.FrequencyRecord.{region-in, frequency-record}
 use Rattle.rules.specs.UnitRecord.{unit-in, unit-record}
@@ -29,35 +40,79 @@ use Rattle.chain.specs.Taken.{counts-in, contents-is, region-is, unit-is
 use Rattle.chain.specs.Chain.{least-at}
 use Rattle.chain.specs.ChainTheorem.{unit-number, requirement-number}
 
--- ---- where record m starts, and the part of the book that is handed on for it
+-- ---- how long record m is, where it starts (the first behind the table of contents, each other where the one before it ends), and the part of the book that
+-- starts there
+unfoldable pub record-size : ℕ → ℕ → ℕ
+record-size units m =
+    cond (ltb m 1) settings-size (cond (ltb m before-units) frequency-size (cond (ltb m (before-units + units)) unit-size requirement-size))
+
 unfoldable pub record-start : ℕ → ℕ → ℕ
-record-start units m =
-    cond (ltb m 1) contents-size
-    (cond (ltb m before-units) (frequency-start + frequency-size * (m - 1))
-    (cond (ltb m (before-units + units)) (unit-start + unit-size * (m - before-units))
-    (requirement-start units + requirement-size * (m - (before-units + units)))))
+record-start units zero = contents-size
+record-start units (suc m) = record-start units m + record-size units m
 
 unfoldable pub part-of : List ℕ → ℕ → List ℕ
 part-of bs m = drop (record-start (counts-in bs .units) m) bs
 
+module _ (units m : ℕ) where
+  pub settings-sized : m ≡ 0 → record-size units m ≡ settings-size
+  unfolding record-size
+  settings-sized z = rw z
+
+  pub frequency-sized : 1 ≤ m → m < before-units → record-size units m ≡ frequency-size
+  unfolding record-size
+  frequency-sized first last = rw (le-ltb m 1 first, lt-ltb m before-units last)
+
+  pub unit-sized : before-units ≤ m → m < before-units + units → record-size units m ≡ unit-size
+  unfolding record-size
+  unit-sized first last = rw (le-ltb m 1 (omega arith), le-ltb m before-units first, lt-ltb m (before-units + units) last)
+
+  pub requirement-sized : before-units + units ≤ m → record-size units m ≡ requirement-size
+  unfolding record-size
+  requirement-sized first = rw (le-ltb m 1 (omega arith), le-ltb m before-units (omega arith), le-ltb m (before-units + units) first)
+
+module _ (units : ℕ) where
+  frequency-starts : (i : ℕ) → i ≤ regions → record-start units (suc i) ≡ frequency-start + frequency-size * i
+  unfolding record-start
+  frequency-starts zero h = omega (arith, settings-sized units 0 refl)
+  frequency-starts (suc i) h = omega (arith, frequency-starts i (omega arith), frequency-sized units (suc i) (omega arith) (omega arith))
+
+  unit-starts : (i : ℕ) → i ≤ units → record-start units (before-units + i) ≡ unit-start + unit-size * i
+  unfolding record-start
+  unit-starts zero h = frequency-starts regions (omega arith)
+  unit-starts (suc i) h =
+      let next : before-units + suc i ≡ suc (before-units + i) = omega arith in
+      ap (record-start units) next ∙ omega (arith, unit-starts i (omega arith), unit-sized units (before-units + i) (omega arith) (omega arith))
+
+  requirement-starts : (j : ℕ) → record-start units (before-units + units + j) ≡ requirement-start units + requirement-size * j
+  unfolding record-start
+  requirement-starts zero =
+      let none : before-units + units + 0 ≡ before-units + units = omega arith in
+      ap (record-start units) none ∙ omega (arith, unit-starts units (omega arith))
+  requirement-starts (suc j) =
+      let next : before-units + units + suc j ≡ suc (before-units + units + j) = omega arith in
+      ap (record-start units) next ∙ omega (arith, requirement-starts j, requirement-sized units (before-units + units + j) (omega arith))
+
 module _ (bs : List ℕ) where
+  abbrev many : ℕ
+  many = counts-in bs .units
+
+  part-at : (m n place k : ℕ) → m ≡ n → record-start many n ≡ place + k → part-of bs m ≡ drop k (drop place bs)
+  unfolding part-of
+  part-at m n place k e f = ap (λ (i : ℕ). drop i bs) (ap (record-start many) e ∙ f) ∙ sym (drop-drop k place bs)
+
   pub settings-part : part-of bs 0 ≡ drop contents-size bs
   unfolding part-of record-start
   settings-part = refl
 
-  pub frequency-part : (m : ℕ) → 1 ≤ m → m < before-units → part-of bs m ≡ drop (frequency-size * (m - 1)) (drop frequency-start bs)
-  unfolding part-of record-start
-  frequency-part m h l = rw (le-ltb m 1 h, lt-ltb m before-units l) (sym (drop-drop (frequency-size * (m - 1)) frequency-start bs))
+  pub frequency-place : (m i : ℕ) → m ≡ suc i → i < regions → part-of bs m ≡ drop (frequency-size * i) (drop frequency-start bs)
+  frequency-place m i e h = part-at m (suc i) frequency-start (frequency-size * i) e (frequency-starts many i (omega arith))
 
-  pub unit-part : (m : ℕ) → before-units ≤ m → m < before-units + counts-in bs .units → part-of bs m ≡ drop (unit-size * (m - before-units)) (drop unit-start bs)
-  unfolding part-of record-start
-  unit-part m h l =
-      rw (le-ltb m 1 (omega arith), le-ltb m before-units h, lt-ltb m (before-units + counts-in bs .units) l) (sym (drop-drop (unit-size * (m - before-units)) unit-start bs))
+  pub unit-place : (m i : ℕ) → m ≡ before-units + i → i < counts-in bs .units → part-of bs m ≡ drop (unit-size * i) (drop unit-start bs)
+  unit-place m i e h = part-at m (before-units + i) unit-start (unit-size * i) e (unit-starts many i (omega arith))
 
-  pub requirement-part : (m : ℕ) → before-units + counts-in bs .units ≤ m → part-of bs m ≡ drop (requirement-size * (m - (before-units + counts-in bs .units))) (drop (requirement-start (counts-in bs .units)) bs)
-  unfolding part-of record-start
-  requirement-part m h =
-      rw (le-ltb m 1 (omega arith), le-ltb m before-units (omega arith), le-ltb m (before-units + counts-in bs .units) h) (sym (drop-drop (requirement-size * (m - (before-units + counts-in bs .units))) (requirement-start (counts-in bs .units)) bs))
+  pub requirement-place :
+      (m j : ℕ) → m ≡ before-units + counts-in bs .units + j → part-of bs m ≡ drop (requirement-size * j) (drop (requirement-start (counts-in bs .units)) bs)
+  requirement-place m j e = part-at m (before-units + many + j) (requirement-start many) (requirement-size * j) e (requirement-starts many j)
 
   -- the bytes of a part are bytes of the book
   pub part-bytes : ((i : ℕ) → getD bs i 0 < 256) → (m i : ℕ) → getD (part-of bs m) i 0 < 256
@@ -231,8 +286,12 @@ module _ (bs : List ℕ) where
   unit-least-at zero h m e = let f : m ≡ before-units = omega arith in rw f
   unit-least-at (suc i) h m e =
       let f : m ≡ suc (before-units + i) = omega arith in
-      let g : before-units + i - before-units ≡ i = omega arith in
-      rw (f, le-ltb (before-units + i) before-units (omega arith), ne-eqb (before-units + i + 1) (before-units + counts-in bs .units) (λ q. omega arith), unit-part bs (before-units + i) (omega arith) (omega arith), g)
+      rw (
+        f,
+        le-ltb (before-units + i) before-units (omega arith),
+        ne-eqb (before-units + i + 1) (before-units + counts-in bs .units) (λ q. omega arith),
+        unit-place bs (before-units + i) i refl (omega arith),
+      )
       (add-one (number-at 2 0 (drop (unit-size * i) (drop unit-start bs))))
 
   requirement-least-at : (j m : ℕ) → m ≡ before-units + counts-in bs .units + j → least-at (part-of bs) (counts-in bs .units) m ≡ least-from requirement-size 0 (drop (requirement-start (counts-in bs .units)) bs) j
@@ -242,35 +301,24 @@ module _ (bs : List ℕ) where
       rw (f, eq-eqb (5 + counts-in bs .units + 1) (before-units + counts-in bs .units) (omega arith), or-true (ltb (5 + counts-in bs .units) before-units))
   requirement-least-at (suc j) m e =
       let f : m ≡ suc (before-units + counts-in bs .units + j) = omega arith in
-      let g : before-units + counts-in bs .units + j - (before-units + counts-in bs .units) ≡ j = omega arith in
-      rw (f, le-ltb (before-units + counts-in bs .units + j) before-units (omega arith), ne-eqb (before-units + counts-in bs .units + j + 1) (before-units + counts-in bs .units) (λ q. omega arith), requirement-part bs (before-units + counts-in bs .units + j) (omega arith), g)
+      rw (
+        f,
+        le-ltb (before-units + counts-in bs .units + j) before-units (omega arith),
+        ne-eqb (before-units + counts-in bs .units + j + 1) (before-units + counts-in bs .units) (λ q. omega arith),
+        requirement-place bs (before-units + counts-in bs .units + j) j refl,
+      )
       (add-one (number-at 2 0 (drop (requirement-size * j) (drop (requirement-start (counts-in bs .units)) bs))))
-
-  pub frequency-place : (m i : ℕ) → m ≡ suc i → i < regions → part-of bs m ≡ drop (frequency-size * i) (drop frequency-start bs)
-  frequency-place m i e h =
-      let less : m - 1 ≡ i = omega arith in
-      frequency-part bs m (omega arith) (omega arith) ∙ ap (λ (k : ℕ). drop (frequency-size * k) (drop frequency-start bs)) less
 
   pub frequency-at : (m i : ℕ) → m ≡ suc i → i < regions → frequency-record (m - 1) (part-of bs m) ≡ frequency-record (0 + i) (drop (frequency-size * i) (drop frequency-start bs))
   frequency-at m i e h =
       let less : m - 1 ≡ 0 + i = omega arith in
-      ap₂ frequency-record less (frequency-place m i e h)
-
-  pub unit-place : (m i : ℕ) → m ≡ before-units + i → i < counts-in bs .units → part-of bs m ≡ drop (unit-size * i) (drop unit-start bs)
-  unit-place m i e h =
-      let less : m - before-units ≡ i = omega arith in
-      unit-part bs m (omega arith) (omega arith) ∙ ap (λ (k : ℕ). drop (unit-size * k) (drop unit-start bs)) less
+      ap₂ frequency-record less (frequency-place bs m i e h)
 
   pub unit-at : (m i : ℕ) → m ≡ before-units + i → i < counts-in bs .units → unit-record (least-at (part-of bs) (counts-in bs .units) m) (part-of bs m) ≡ unit-record (least-from unit-size 0 (drop unit-start bs) i) (drop (unit-size * i) (drop unit-start bs))
-  unit-at m i e h = ap₂ unit-record (unit-least-at i h m e) (unit-place m i e h)
-
-  pub requirement-place : (m j : ℕ) → m ≡ before-units + counts-in bs .units + j → part-of bs m ≡ drop (requirement-size * j) (drop (requirement-start (counts-in bs .units)) bs)
-  requirement-place m j e =
-      let less : m - (before-units + counts-in bs .units) ≡ j = omega arith in
-      requirement-part bs m (omega arith) ∙ ap (λ (k : ℕ). drop (requirement-size * k) (drop (requirement-start (counts-in bs .units)) bs)) less
+  unit-at m i e h = ap₂ unit-record (unit-least-at i h m e) (unit-place bs m i e h)
 
   pub requirement-at : (m j : ℕ) → m ≡ before-units + counts-in bs .units + j → j < counts-in bs .requirements → requirement-record (least-at (part-of bs) (counts-in bs .units) m) (eqb (m + 1) (before-units + counts-in bs .units + counts-in bs .requirements)) (part-of bs m) ≡ requirement-record (least-from requirement-size 0 (drop (requirement-start (counts-in bs .units)) bs) j) (eqb (counts-in bs .requirements - suc j) 0) (drop (requirement-size * j) (drop (requirement-start (counts-in bs .units)) bs))
-  requirement-at m j e h = rw (requirement-least-at j m e, last (before-units + counts-in bs .units) (counts-in bs .requirements) m e h, requirement-place m j e)
+  requirement-at m j e h = rw (requirement-least-at j m e, last (before-units + counts-in bs .units) (counts-in bs .requirements) m e h, requirement-place bs m j e)
     where
       last : (a q m : ℕ) → m ≡ a + j → j < q → eqb (m + 1) (a + q) ≡ eqb (q - suc j) 0
       last a q m e h = same-test (m + 1) (a + q) (q - suc j) 0 (λ f. omega arith) (λ f. omega arith)

@@ -15,7 +15,7 @@ use Rattle.rules.specs.declared.Direction.the-variants.{Raise, Lower}
 use Rattle.rules.specs.declared.Refusal.{Refusal}
 use Rattle.rules.specs.Quantities.{points, regions}
 use Rattle.rules.specs.Bytes.{number-at}
-use Rattle.rules.specs.Refusals.{taken}
+use Rattle.rules.specs.Refusals.{Reply, taken}
 use Rattle.rules.specs.Book.{Settings, Region, Unit}
 use Rattle.rules.specs.Contents.{Counts, contents}
 use Rattle.rules.specs.SettingsRecord.{settings, settings-in}
@@ -31,6 +31,7 @@ use Rattle.interval.specs.declared.Taking as k
 use Rattle.interval.specs.declared.Step.{Step}
 use Rattle.interval.specs.Tally.{settings-of, before-units}
 use Rattle.interval.specs.Lent.{series-length, figures-each, figures-length, figures-of, place-of, six}
+use Rattle.interval.specs.Calls.{frequency-reply, unit-reply}
 use Rattle.interval.specs.Promises.{ContentsPromise, SettingsPromise, FrequencyPromise, UnitPromise, RequirementPromise}
 use Rattle.chain.specs.ChainLaws.{adds, latest}
 use Rattle.chain.specs.Taken.{counts-in}
@@ -65,6 +66,14 @@ pub record UnitCall (t : Tally) (p : List ℕ) (l : Lent) (r : Step) (l′ : Len
   pub frequencies : l′ .frequencies ≡ l .frequencies
   pub measures : l′ .measures ≡ l .measures
   pub figures : l′ .figures ≡ l .figures
+
+-- what such a call reads of its part, or its refusal
+abbrev pub frequency-read : Tally → List ℕ → Lent → Reply Region
+frequency-read t p l = frequency-reply t p (l .frequencies) (l .measures) (l .positive) (l .negative) (l .figures)
+
+abbrev pub unit-read : Tally → List ℕ → Lent → Reply Unit
+unit-read t p l =
+    unit-reply t p (l .readings) (l .deviations) (l .measures) (l .positive) (l .negative) (l .numbers) (l .places) (l .raise) (l .lower) (l .defaults)
 
 -- ---- the chain: n records were taken, `part m` is what the call that took record m was handed
 abbrev pub Taken : Step → Type 0

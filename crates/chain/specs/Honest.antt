@@ -32,7 +32,7 @@ use Rattle.rules.specs.Performance.{wanted}
 use Rattle.rules.specs.PerformanceLaws.{wanted-within}
 use Rattle.interval.specs.declared.Tally.{Tally}
 use Rattle.interval.specs.Tally.{before-units, units-end, book-end, units-taken, in-range, settings-kept}
-use Rattle.interval.specs.Lent.{series-start, series-length, figures-length, region-sized, series-in-range}
+use Rattle.interval.specs.Lent.{series-start, series-length, figures-length, region-sized, named-region, series-in-range}
 use Rattle.interval.specs.Calls.{settings-reply, frequency-reply, unit-reply, requirement-reply}
 use Rattle.chain.specs.ChainLaws.{or-true, adds, latest-length}
 use Rattle.chain.specs.Taken.{counts-in, CountsFit, contents-is, settings-is}
@@ -103,7 +103,7 @@ module _ (head : List ℕ) (part : ℕ → List ℕ) (l₀ : Lent) {n : ℕ} {t 
       }
 
   -- ---- the records taken are within their limits
-  unit-within : (i : ℕ) → i < units-among (counts-in head .units) n → UnitFits (unit part i)
+  pub unit-within : (i : ℕ) → i < units-among (counts-in head .units) n → UnitFits (unit part i)
   unit-within i h =
       let at = unit-place (counts-in head .units) n i h in
       unit-fits _ (part (before-units + i)) (unit part i) (w .taken-each (before-units + i) (at .0) .as-unit (omega arith) (at .1))
@@ -206,7 +206,7 @@ module _ (head : List ℕ) (part : ℕ → List ℕ) (l₀ : Lent) {n : ℕ} {t 
           lt-ltb (units-taken t) (length (l .raise)) (in-column next (h .raise)),
           lt-ltb (units-taken t) (length (l .lower)) (in-column next (h .lower)),
           le-leb (6 * units-taken t + 6) (length (l .defaults)) (in-defaults next (h .defaults)),
-          chain-series-in-range first (number-at 1 2 p),
+          chain-series-in-range first (named-region p),
         )
         (ap (λ (m : ℕ). unit-record m p) (w .least))
       where

@@ -1,4 +1,5 @@
--- What it is for lent lists to be kept of a book: each number in them is the rules' number of a region, by its place, or of a unit, by its place in the roster.
+-- What it is for tally and lent lists to be kept of a book: each number in them is the rules' number of a region, by its place, or of a unit, by its place in
+-- the roster.
 use mathlib.Core.Path.{_≡_}
 use Prim.Native.Nat.{ℕ, _+_, _*_, _<_}
 use lib.IntN.{pos}
@@ -12,6 +13,26 @@ use Rattle.rules.specs.Deviation.{deviation, good-units}
 use Rattle.rules.specs.Performance.{wanted, units-of, unit-performance}
 use Rattle.interval.specs.Lent.{series-start, figures-each, figures-of, place-of, six}
 use Rattle.kept.specs.Kept.{Kept}
+use Rattle.interval.specs.declared.Tally.{Tally}
+use Rattle.interval.specs.Tally.{settings-of, book-end}
+use Rattle.chain.specs.Chain.{Lent}
+
+-- what tally and lent lists have kept
+abbrev pub kept-of : Tally → Lent → Kept
+kept-of t l =
+    record {
+      percent = settings-of t .percent;
+      units = t .units;
+      measures = l .measures;
+      positive = l .positive;
+      negative = l .negative;
+      figures = l .figures;
+      numbers = l .numbers;
+      places = l .places;
+      raise = l .raise;
+      lower = l .lower;
+      defaults = l .defaults;
+    }
 
 -- z stands where a roster has no unit
 pub record Keeps (k : Kept) (b : Book) : Type 0 where
@@ -28,3 +49,11 @@ pub record Keeps (k : Kept) (b : Book) : Type 0 where
   pub raise : (j : ℕ) (z : Unit) → j < length (b .roster) → getD (k .raise) j (pos 0) ≡ unit-performance b Raise (getD (b .roster) j z)
   pub lower : (j : ℕ) (z : Unit) → j < length (b .roster) → getD (k .lower) j (pos 0) ≡ unit-performance b Lower (getD (b .roster) j z)
   pub defaults : (j i : ℕ) (z : Unit) → j < length (b .roster) → i < 6 → getD (k .defaults) (6 * j + i) (pos 0) ≡ six (getD (b .roster) j z .defaults) i
+
+-- ---- what the calls leave of a whole book
+pub record BookMeans (b : Book) (t : Tally) (l : Lent) : Type 0 where
+  pub settings : settings-of t ≡ b .settings
+  pub units : t .units ≡ length (b .roster)
+  pub requirements : t .requirements ≡ length (b .requirements)
+  pub ended : t .records ≡ book-end t
+  pub keeps : Keeps (kept-of t l) b

@@ -7,13 +7,13 @@ pub mod ChainTheorem
 pub mod ChainValues
 pub mod Honest
 pub mod BookRecords
-pub mod CutPart
+pub mod Alike
+pub mod Way
 pub mod BookWay
 pub mod BookRefused
-pub mod BookChain
-pub mod BookEnd
 pub mod Keeps
 pub mod Fine
 pub mod AnswerIs
-pub mod BookAnswer
+pub mod BookChain
+pub mod Spelled
 pub mod Ready

@@ -26,7 +26,7 @@ use Rattle.interval.specs.declared.Tally.{Tally}
 use Rattle.interval.specs.declared.Taking as k
 use Rattle.interval.specs.declared.Step.{Step}
 use Rattle.interval.specs.Tally.{in-range, settings-turn, frequency-turn, unit-turn, requirement-turn, next-region, units-taken, before-units, units-end, book-end}
-use Rattle.interval.specs.Lent.{series-length, figures-length, series-in-range}
+use Rattle.interval.specs.Lent.{series-length, figures-length, named-region, series-in-range}
 use Rattle.interval.specs.Calls.{stepped, settings-reply, frequency-reply, unit-reply, requirement-reply, columns-room, series-room}
 
 -- ---- the records in their bytes
@@ -175,7 +175,7 @@ unit-passed t p rs ds ms ps ns us qs xs ys fs u e =
     let turn = both (leb before-units (t .records)) (ltb (t .records) (units-end t)) (both (in-range t) (unit-turn t) (ready .0) .1) in
     let series = passed (series-room rs ds ms ps ns) TooShort _ u (ready .1) in
     let columns = passed (columns-room n us qs xs ys fs) TooShort _ u (series .1) in
-    let lent = passed (series-in-range (number-at 1 2 p) n ms ps ns) OutOfTurn _ u (columns .1) in
+    let lent = passed (series-in-range (named-region p) n ms ps ns) OutOfTurn _ u (columns .1) in
     let readings = both (leb points (length rs)) _ (series .0) in
     let deviations = both (leb points (length ds)) _ (readings .1) in
     let measures = both (leb series-length (length ms)) _ (deviations .1) in

@@ -1,6 +1,6 @@
--- THE ADVERSARIES (01, What the promises have to pin, Easy to get wrong): wrong calculators, each with the demand that it breaks. A calculator is what it prints
--- of a book's bytes, or what it holds a residual to be. What a tally holds is the calls' to say: one handed back untouched and a made-up number of units taken
--- are edits of the calls that must fail.
+-- THE ADVERSARIES (01, What the promises have to pin, Easy to get wrong): wrong calculators, each with the demand that it breaks. A calculator is what it
+-- prints of a book's bytes, or what it holds a residual to be. What a tally holds is the calls' to say: one handed back untouched and a made-up number of units
+-- taken are edits of the calls that must fail.
 use mathlib.Core.Path.{_≡_, refl, sym, _∙_, ap, ap₂}
 use mathlib.Core.Bool.{true, false}
 use mathlib.Core.List.{List, [], _∷_, _++_}
@@ -29,8 +29,8 @@ use Rattle.rules.specs.PaperBook.{zeros, first, second, paper-book}
 use Rattle.paper.specs.PaperListing.{paper-listing}
 use Rattle.rules.specs.Computing.{computing}
 use Rattle.closing.specs.Parts.{Parts}
-use Rattle.closing.specs.Replacing.{with-roster}
-use Rattle.closing.specs.PaperCloses.{drawn, drawn-parts}
+use Rattle.closing.specs.Drawn.{with-roster}
+use Rattle.closing.specs.PaperCloses.{generator, generator-parts}
 
 -- ---- what is printed of the bytes of a book; demand 2 says that it is what `settle` prints
 abbrev pub Calculator : Type 0
@@ -48,10 +48,12 @@ refuses-everything c refuses right =
     omega arith
 
 -- prints the same of every book: breaks demand 2 there or at the same book with interval 8
-pub always-one-listing : (c : Calculator) → ((bs cs : List ℕ) → c bs ≡ c cs) → c (paper-bytes 7) ≡ settle (paper-bytes 7) → c (paper-bytes 8) ≡ settle (paper-bytes 8) → ⊥
+pub always-one-listing : (c : Calculator) → ((bs cs : List ℕ) → c bs ≡ c cs)
+    → c (paper-bytes 7) ≡ settle (paper-bytes 7) → c (paper-bytes 8) ≡ settle (paper-bytes 8) → ⊥
 unfolding text
 always-one-listing c same seven eight =
-    let e : _≡_ {A = ℕ} 55 56 = ap (λ (l : List ℕ). getD l 9 0) (sym (paper-listing .in-full) ∙ sym seven ∙ same (paper-bytes 7) (paper-bytes 8) ∙ eight ∙ paper-listing .interval-8) in
+    let one = sym (paper-listing .in-full) ∙ sym seven ∙ same (paper-bytes 7) (paper-bytes 8) ∙ eight ∙ paper-listing .interval-8 in
+    let e : _≡_ {A = ℕ} 55 56 = ap (λ (l : List ℕ). getD l 9 0) one in
     omega arith
 
 -- ---- what is held to be a region's residual deviation, from its units
@@ -76,7 +78,7 @@ closing-pins R h us t =
 pub left-out : (R : Residual) → Closes R → (xs ys : List Unit) (t : ℕ) → R (xs ++ ys) t ≡ R xs t → total (λ u. deviation u t) (good-units ys) ≡ pos 0
 left-out R h xs ys t e =
     let f : Unit → ℤ = λ u. deviation u t in
-    let both : total f (good-units (xs ++ ys)) ≡ total f (good-units xs) +ℤ total f (good-units ys) = ap (total f) (those-++ good xs ys) ∙ total-++ f (good-units xs) (good-units ys) in
+    let both = ap (total f) (those-++ good xs ys) ∙ total-++ f (good-units xs) (good-units ys) in
     let all = eq? (v (total f (good-units xs)) ⊕ v (total f (good-units ys)) ⊕ v (R xs t)) (v (pos 0)) (sym (ap₂ _+ℤ_ both e) ∙ h (xs ++ ys) t) in
     let some = eq? (v (total f (good-units xs)) ⊕ v (R xs t)) (v (pos 0)) (h xs t) in
     ring (v (total f (good-units ys))) (v (pos 0)) (omega arith)
@@ -96,7 +98,9 @@ adds-only-the-first R nods h =
     omega (arith, eq-in e)
 
 -- and demand 2 there: the paper's residual line has -7,875,000,000, with its first unit alone it would have -11,250,000,000
-pub only-the-first-in-performance : (R : Book → Direction → ℕ → ℤ) → ((b : Book) (d : Direction) (r : ℕ) → R b d r ≡ R (with-roster b (take 1 (b .roster))) d r) → ((b : Book) (d : Direction) (r : ℕ) → R b d r ≡ residual-performance b d r) → ⊥
+pub only-the-first-in-performance : (R : Book → Direction → ℕ → ℤ)
+    → ((b : Book) (d : Direction) (r : ℕ) → R b d r ≡ R (with-roster b (take 1 (b .roster))) d r)
+    → ((b : Book) (d : Direction) (r : ℕ) → R b d r ≡ residual-performance b d r) → ⊥
 unfolding computing
 only-the-first-in-performance R nods right =
     let alone : Book = with-roster (paper-book 7) (first ∷ []) in
@@ -108,7 +112,8 @@ only-the-first-in-performance R nods right =
 abbrev pub InBlocks : Residual → Type 0
 InBlocks R = (us : List Unit) (t : ℕ) → R us t ≡ R (take (length us / 8 * 8) us) t
 
-pub last-five-left-out : (R : Residual) → InBlocks R → Closes R → (xs ys : List Unit) → length xs ≡ 472 → length ys ≡ 5 → (t : ℕ) → total (λ u. deviation u t) (good-units ys) ≡ pos 0
+pub last-five-left-out : (R : Residual) → InBlocks R → Closes R → (xs ys : List Unit) → length xs ≡ 472 → length ys ≡ 5
+    → (t : ℕ) → total (λ u. deviation u t) (good-units ys) ≡ pos 0
 last-five-left-out R blocks h xs ys most five t =
     let n : length (xs ++ ys) ≡ 477 = length-append xs ys ∙ ap₂ _+_ most five in
     left-out R h xs ys t (blocks (xs ++ ys) t ∙ ap (λ (l : List Unit). R l t) (ap (λ (n : ℕ). take (n / 8 * 8) (xs ++ ys)) n ∙ take-at xs ys 472 most))
@@ -124,9 +129,21 @@ adds-in-blocks-of-eight R blocks h =
 pub lets-bad-readings-in : Closes (λ us t. negℤ (total (λ u. deviation u t) us)) → ⊥
 unfolding computing
 lets-bad-readings-in h =
-    let bad : Unit = record { number = 1; region = 0; kind = Generation; start = pos 0; end = pos 0; defaults = zeros; quality = false ∷ listed 1 74 (λ t. true); reading = pos 0 ∷ listed 1 74 (λ t. pos 1) } in
     let e : negℤ (pos 75) ≡ pos 0 = h (bad ∷ []) 1 in
     omega (arith, eq-in e)
+  where
+    bad : Unit
+    bad =
+        record {
+          number = 1;
+          region = 0;
+          kind = Generation;
+          start = pos 0;
+          end = pos 0;
+          defaults = zeros;
+          quality = false ∷ listed 1 74 (λ t. true);
+          reading = pos 0 ∷ listed 1 74 (λ t. pos 1);
+        }
 
 -- ---- what rounds too early
 -- rounds the trajectory to cMW: two halves of a plant no longer add up (demand 3), at t = 30 of one that is to go from 0 to 2 cMW
@@ -136,11 +153,11 @@ rounded u t = turned (u .kind) (pos 75 *ℤ (getD (u .reading) t (pos 0) -ℤ ne
 pub rounds-the-trajectory : ((u x y : Unit) → Parts u x y → (t : ℕ) → t < points → rounded x t +ℤ rounded y t ≡ rounded u t) → ⊥
 unfolding computing
 rounds-the-trajectory h =
-    let e : pos 0 ≡ negℤ (pos 75) = h (climbs 2) (climbs 1) (climbs 1) (drawn-parts 1 1 1 0 0 1 1 (pos 0) (pos 0) 0 0) 29 (omega arith) in
+    let e : pos 0 ≡ negℤ (pos 75) = h (climbs 2) (climbs 1) (climbs 1) (generator-parts 1 1 1 0 0 1 1 (pos 0) (pos 0) 0 0) 29 (omega arith) in
     omega (arith, eq-in e)
   where
     climbs : ℕ → Unit
-    climbs n = drawn 1 0 n (pos 0) 0
+    climbs n = generator 1 0 n (pos 0) 0
 
 -- rounds each payment alone: the cents do not meet (demand 3), at 10 over 1, 1, 1
 pub rounds-each-payment : ((T : ℕ) (ws : List ℕ) → 0 < totalℕ (λ k. k) ws → totalℕ (λ w. nearestℕ (T * w) (totalℕ (λ k. k) ws)) ws ≡ T) → ⊥

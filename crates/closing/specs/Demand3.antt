@@ -1,8 +1,8 @@
--- DEMAND 3: 'The books close, however a plant is drawn.' Its words stand above each theorem. A calculator that keeps to the rules' definitions, as demand 2 asks,
--- keeps all of this with them. Unless a condition is named it holds of any book at all, also of one past the limits; `books-close` gathers it for a book's bytes.
+-- DEMAND 3: 'The books close, however a plant is drawn.' First what it asks for, under its own words, up to `BooksClose`, in which all of it stands; then the
+-- theorems, by the laws of the files beside this one. A calculator that keeps to the rules' definitions, as demand 2 asks, keeps all of this with them.
 use mathlib.Core.Path.{_≡_, sym, _∙_, subst}
 use mathlib.Core.Bool.{true, false}
-use mathlib.Core.List.{List, _∷_, _++_}
+use mathlib.Core.List.{List}
 use Prim.Native.Nat.{ℕ, _<_}
 use native.Mathlib.Omega.{arith}
 use lib.IntN.{pos, _+ℤ_}
@@ -21,24 +21,23 @@ use Rattle.rules.specs.Members.{unit-member, residual-or, members}
 use Rattle.rules.specs.Cents.{priced}
 use Rattle.rules.specs.CentsLaws.{credits-are-the-pool, debits-are-the-pool}
 use Rattle.rules.specs.Answer.{answered, answer}
-use Rattle.closing.specs.Parties.{some-helpful, some-unhelpful, no-default, helpful-weighs, unhelpful-weighs}
-use Rattle.closing.specs.Balance.{Placed, taken-placed, interval-closes, live-closes, both-or-neither}
-use Rattle.closing.specs.Parts.{Parts}
+use Rattle.closing.specs.Parties.{some-helpful, some-unhelpful, no-default, Placed}
+use Rattle.closing.specs.PartiesLaws.{helpful-weighs, unhelpful-weighs}
+use Rattle.closing.specs.Balance.{taken-placed, interval-closes, live-closes, both-or-neither}
+use Rattle.closing.specs.Drawn.{Drawn, MembersAddUp, MembersRedrawn}
 use Rattle.closing.specs.Replacing.{
-  with-roster,
-  MembersAddUp,
-  TwoForOne,
   unit-performance-stays,
   unit-standing-stays,
   used-pool-stays,
   unused-pool-stays,
   performances-add-up,
+  members-add-up,
   residual-deviation-stays,
   residual-performance-stays,
   residual-standing-stays,
-  members-add-up,
-  members-replaced,
+  members-redrawn,
   members-stay,
+  answer-stays,
 }
 
 -- 'In each region whose residual is live for a direction, the good units and the residual add up to zero, at every point in deviation and over the interval
@@ -49,26 +48,55 @@ pub record RegionCloses (b : Book) (d : Direction) (r : ℕ) : Type 0 where
   pub payment : total (λ u. unit-member b d u .payment) (good-units (units-of b r)) +ℤ residual-or b d (λ f. f .payment) r ≡ pos 0
   pub used : total (λ u. unit-member b d u .used) (good-units (units-of b r)) +ℤ residual-or b d (λ f. f .used) r ≡ pos 0
 
-pub region-closes : (b : Book) (d : Direction) (r : ℕ) → is-live (residual-standing b d r) ≡ true → RegionCloses b d r
-unfolding unit-member
-region-closes b d r l =
-    record {
-      point = deviation-closes (units-of b r);
-      interval = interval-closes b d r;
-      payment = live-closes b d r (λ f. f .payment) l;
-      used = live-closes b d r (λ f. f .used) l;
-    }
-
--- 'A requirement in which no default stands has a helpful party exactly when it has an unhelpful one'; each unit is of one of the five regions.
-pub parties-meet : (b : Book) → Placed b → (q : Requirement) → no-default b q ≡ true → some-helpful b q ≡ some-unhelpful b q
-parties-meet b h q l = both-or-neither b q h l
-
--- 'where both are there, the payments' credits, the payments' debits and the pool are equal to the cent.' The pool is then the priced one; the payments sum to zero.
+-- 'the payments' credits, the payments' debits and the pool are equal to the cent.' The pool is then the priced one; the payments sum to zero.
 pub record CentsMeet (b : Book) (q : Requirement) : Type 0 where
   pub credits : totalℕ (λ l. gain (l .payment)) (answer b q .lines) ≡ answer b q .pool
   pub debits : totalℕ (λ l. loss (l .payment)) (answer b q .lines) ≡ answer b q .pool
   pub pool : answer b q .pool ≡ priced (q .price) (answer b q .rcr)
   pub payments : total (λ l. l .payment) (answer b q .lines) ≡ pos 0
+
+-- Of a book b whose unit u is drawn as x and y in the book c: 'their performances add up exactly to the old one, and all other performances stay.'
+pub record Redrawn (b c : Book) (u x y : Unit) : Type 0 where
+  pub sum : (d : Direction) → unit-performance c d x +ℤ unit-performance c d y ≡ unit-performance b d u
+  pub others : (d : Direction) (w : Unit) → unit-performance c d w ≡ unit-performance b d w
+  -- the residuals' stay too, at every point as over the interval
+  pub residual-points : (r t : ℕ) → t < points → residual-deviation (units-of c r) t ≡ residual-deviation (units-of b r) t
+  pub residuals : (d : Direction) (r : ℕ) → residual-performance c d r ≡ residual-performance b d r
+  -- and so does how each stands
+  pub standings : (d : Direction) (w : Unit) → unit-standing c d w ≡ unit-standing b d w
+  pub residual-standings : (d : Direction) (r : ℕ) → residual-standing c d r ≡ residual-standing b d r
+  -- a requirement that covers the region has the two members for the one, and every number that their shares go by adds up; in any other nothing changes
+  pub values : (d : Direction) → MembersAddUp (unit-member b d u) (unit-member c d x) (unit-member c d y)
+  pub covering : (q : Requirement) → covers q (u .region) ≡ true → MembersRedrawn b c q u x y
+  pub elsewhere : (q : Requirement) → covers q (u .region) ≡ false → members c q ≡ members b q
+  pub answers-elsewhere : (q : Requirement) → covers q (u .region) ≡ false → answer c q ≡ answer b q
+  -- the pools for use stay; RCR need not, and with it the pool (PaperCloses, response-grows)
+  pub used-pool : (q : Requirement) → answer c q .used-pool ≡ answer b q .used-pool
+  pub unused-pool : (q : Requirement) → answer c q .unused-pool ≡ answer b q .unused-pool
+
+-- All of it, of a book b. `parties`: 'A requirement in which no default stands has a helpful party exactly when it has an unhelpful one'; `cents`: 'where both
+-- are there'; `drawn`: 'Replace one good unit by two good ones of its region and kind, all within the limits, whose start, end, defaults and every reading add
+-- up to its own'. That is `Drawn`: the two stand anywhere in the new roster, under any numbers; no limit is asked for.
+pub record BooksClose (b : Book) : Type 0 where
+  pub region : (d : Direction) (r : ℕ) → is-live (residual-standing b d r) ≡ true → RegionCloses b d r
+  pub parties : (q : Requirement) → no-default b q ≡ true → some-helpful b q ≡ some-unhelpful b q
+  pub cents : (q : Requirement) → some-helpful b q ≡ true → some-unhelpful b q ≡ true → CentsMeet b q
+  pub drawn : (c : Book) (u x y : Unit) → Drawn b c u x y → Redrawn b c u x y
+
+-- ---- the theorems; each holds of any book at all, also of one past the limits, but for what it names
+pub region-closes : (b : Book) (d : Direction) (r : ℕ) → is-live (residual-standing b d r) ≡ true → RegionCloses b d r
+unfolding unit-member
+region-closes b d r l =
+    record {
+      point = deviation-closes (units-of b r);
+      interval = interval-closes b r d;
+      payment = live-closes b r d (λ f. f .payment) l;
+      used = live-closes b r d (λ f. f .used) l;
+    }
+
+-- each unit is of one of the five regions
+pub parties-meet : (b : Book) → Placed b → (q : Requirement) → no-default b q ≡ true → some-helpful b q ≡ some-unhelpful b q
+parties-meet b h q l = both-or-neither b q h l
 
 pub cents-meet : (b : Book) (q : Requirement) → some-helpful b q ≡ true → some-unhelpful b q ≡ true → CentsMeet b q
 unfolding answer answered
@@ -78,51 +106,30 @@ cents-meet b q helps harms =
     record {
       credits = credits;
       debits = debits;
-      pool = rw (sym (helpful-weighs b q) ∙ helps, sym (unhelpful-weighs b q) ∙ harms);
+      pool = rw (helpful-weighs b q ∙ helps, unhelpful-weighs b q ∙ harms);
       payments = eq-out (omega (arith, credits, debits, total-parts (λ l. l .payment) (answer b q .lines)));
     }
 
--- 'Replace one good unit by two good ones of its region and kind, all within the limits, whose start, end, defaults and every reading add up to its own: their
--- performances add up exactly to the old one, and all other performances stay.' So do the residuals, and how each stands; a requirement has the two members in
--- the place of the one, every number that their shares go by adds up, and the pools for use stay. RCR need not: see PaperCloses, response-grows.
-pub record Redrawn (b c : Book) (u x y : Unit) : Type 0 where
-  pub sum : (d : Direction) → unit-performance c d x +ℤ unit-performance c d y ≡ unit-performance b d u
-  pub others : (d : Direction) (w : Unit) → unit-performance c d w ≡ unit-performance b d w
-  pub residuals : (d : Direction) (r : ℕ) → residual-performance c d r ≡ residual-performance b d r
-  pub residual-points : (r t : ℕ) → t < points → residual-deviation (units-of c r) t ≡ residual-deviation (units-of b r) t
-  pub standings : (d : Direction) (w : Unit) → unit-standing c d w ≡ unit-standing b d w
-  pub residual-standings : (d : Direction) (r : ℕ) → residual-standing c d r ≡ residual-standing b d r
-  pub values : (d : Direction) → MembersAddUp (unit-member b d u) (unit-member c d x) (unit-member c d y)
-  pub in-place : (q : Requirement) → covers q (u .region) ≡ true → TwoForOne (members b q) (members c q) (unit-member b (q .direction) u) (unit-member c (q .direction) x) (unit-member c (q .direction) y)
-  pub elsewhere : (q : Requirement) → covers q (u .region) ≡ false → members c q ≡ members b q
-  pub used-pool : (q : Requirement) → answer c q .used-pool ≡ answer b q .used-pool
-  pub unused-pool : (q : Requirement) → answer c q .unused-pool ≡ answer b q .unused-pool
-
--- at any place of the roster; no limit is asked for, and the numbers of the two are free
-pub however-drawn : (b c : Book) (xs ys : List Unit) (u x y : Unit) → Parts u x y → b .roster ≡ xs ++ (u ∷ ys) → c ≡ with-roster b (xs ++ (x ∷ y ∷ ys)) → Redrawn b c u x y
-however-drawn b c xs ys u x y h before after =
-    subst (λ (k : Book). Redrawn b k u x y) (sym after)
-    (subst (λ (us : List Unit). Redrawn (with-roster b us) (with-roster b (xs ++ (x ∷ y ∷ ys))) u x y) (sym before)
+pub however-drawn : (b c : Book) (u x y : Unit) → Drawn b c u x y → Redrawn b c u x y
+however-drawn b c u x y k =
+    let h = k .parts in
+    let us = c .roster in
+    subst (λ (c : Book). Redrawn b c u x y) (sym (k .all-else))
     (record {
-      sum = performances-add-up b xs ys u x y h;
-      others = unit-performance-stays b xs ys u x y;
-      residuals = residual-performance-stays b xs ys u x y h;
-      residual-points = residual-deviation-stays b xs ys u x y h;
-      standings = unit-standing-stays b xs ys u x y;
-      residual-standings = residual-standing-stays b xs ys u x y h;
-      values = members-add-up b xs ys u x y h;
-      in-place = members-replaced b xs ys u x y h;
-      elsewhere = members-stay b xs ys u x y h;
-      used-pool = used-pool-stays b xs ys u x y;
-      unused-pool = unused-pool-stays b xs ys u x y;
-    }))
+      sum = performances-add-up h b us;
+      others = unit-performance-stays b us;
+      residual-points = residual-deviation-stays h b (k .places);
+      residuals = residual-performance-stays h b (k .places);
+      standings = unit-standing-stays b us;
+      residual-standings = residual-standing-stays h b (k .places);
+      values = members-add-up h b us;
+      covering = members-redrawn h b (k .places);
+      elsewhere = members-stay h b (k .places);
+      answers-elsewhere = answer-stays h b (k .places);
+      used-pool = used-pool-stays b us;
+      unused-pool = unused-pool-stays b us;
+    })
 
--- all of it, of every book that the format takes
-pub record BooksClose (b : Book) : Type 0 where
-  pub region : (d : Direction) (r : ℕ) → is-live (residual-standing b d r) ≡ true → RegionCloses b d r
-  pub parties : (q : Requirement) → no-default b q ≡ true → some-helpful b q ≡ some-unhelpful b q
-  pub cents : (q : Requirement) → some-helpful b q ≡ true → some-unhelpful b q ≡ true → CentsMeet b q
-  pub drawn : (c : Book) (xs ys : List Unit) (u x y : Unit) → Parts u x y → b .roster ≡ xs ++ (u ∷ ys) → c ≡ with-roster b (xs ++ (x ∷ y ∷ ys)) → Redrawn b c u x y
-
+-- of every book that the format takes
 pub books-close : (bs : List ℕ) (b : Book) → book bs ≡ taken b → BooksClose b
 books-close bs b e = record { region = region-closes b; parties = parties-meet b (taken-placed bs b e); cents = cents-meet b; drawn = however-drawn b }

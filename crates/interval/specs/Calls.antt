@@ -11,7 +11,6 @@ use borrow.Author.Tests.{lt-ltb}
 use Rattle.rules.specs.declared.Refusal.{Refusal}
 use Rattle.rules.specs.declared.Refusal.the-variants.{OutOfTurn, TooShort}
 use Rattle.rules.specs.Quantities.{points}
-use Rattle.rules.specs.Bytes.{number-at}
 use Rattle.rules.specs.Refusals.{Reply, taken, refused, unless}
 use Rattle.rules.specs.Book.{Settings, Region, Unit, Requirement}
 use Rattle.rules.specs.Contents.{Counts, contents}
@@ -33,7 +32,7 @@ use Rattle.interval.specs.declared.Opened as o
 use Rattle.interval.specs.declared.Taking as k
 use Rattle.interval.specs.declared.Step.{Step}
 use Rattle.interval.specs.Tally.{in-range, settings-turn, frequency-turn, unit-turn, requirement-turn, next-region, units-taken, units-end, book-end, most-records}
-use Rattle.interval.specs.Lent.{series-length, figures-length, series-in-range}
+use Rattle.interval.specs.Lent.{series-length, figures-length, named-region, series-in-range}
 
 -- ---- the table of contents starts a tally
 abbrev pub fresh : Counts → Tally
@@ -124,7 +123,7 @@ unit-reply t part readings deviations measures positive negative numbers places 
     unless (in-range t && unit-turn t) OutOfTurn
     (unless (series-room readings deviations measures positive negative) TooShort
     (unless (columns-room (units-taken t) numbers places raise lower defaults) TooShort
-    (unless (series-in-range (number-at 1 2 part) (units-taken t) measures positive negative) OutOfTurn
+    (unless (series-in-range (named-region part) (units-taken t) measures positive negative) OutOfTurn
     (unit-record (t .least) part))))
 
 -- after the last unit the first requirement may have any number

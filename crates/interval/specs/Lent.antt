@@ -11,6 +11,7 @@ use Rattle.integers.specs.Fills.{filled}
 use Rattle.rules.specs.declared.Direction.{Direction}
 use Rattle.rules.specs.declared.Direction.the-variants.{Raise, Lower}
 use Rattle.rules.specs.Quantities.{points, regions, measure-limit, deviation-limit}
+use Rattle.rules.specs.Bytes.{number-at}
 use Rattle.rules.specs.Fields.{sized}
 use Rattle.rules.specs.Book.{ByDirection, Defaults, Settings, Region, Unit}
 use Rattle.rules.specs.Reliability.{reliable}
@@ -53,6 +54,10 @@ place-of u = 2 * u .region + one (good u)
 -- ---- lent numbers that a unit call reads, of the region that its record names: measures within their limit, sums within 15,000,000 for each unit taken
 unfoldable pub region-sized : ℕ → ℕ → List ℤ → Bool
 region-sized limit r xs = every points (λ t. sized limit (getD xs (series-start r + t) (pos 0)))
+
+-- the region that byte 2 of a unit's part names; a part that ends before it names none
+abbrev pub named-region : List ℕ → ℕ
+named-region part = cond (ltb 2 (length part)) (number-at 1 2 part) regions
 
 -- a record that names no region reads none
 unfoldable pub series-in-range : ℕ → ℕ → List ℤ → List ℤ → List ℤ → Bool

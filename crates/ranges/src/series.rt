@@ -19,13 +19,14 @@ const MOST_MEASURE: i64 = 5_000_000;
 const DEVIATION_LIMIT: u64 = 15_000_000;
 
 // The five regions' measures at one point.
-fn measures_within(t: usize, measures: &[i64]) -> bool
+fn measures_within(t: usize, measures: &[i32]) -> bool
     requires { ⌜ (t < 75) × (375 ≤ length (now measures)) ⌝ }
     ensures { λ r. ⌜ r ≡ measures-here (now (measures .entry)) t ⌝ }
 {
     let mut region: usize = 0;
     while region < REGIONS {
-        if !between(LEAST_MEASURE, MOST_MEASURE, measures[POINTS * region + t]) {
+        let measure = measures[POINTS * region + t] as i64;
+        if !between(LEAST_MEASURE, MOST_MEASURE, measure) {
             return false;
         }
         region += 1;
@@ -51,7 +52,7 @@ fn sums_within(most: u64, t: usize, sums: &[i64]) -> bool
     true
 }
 
-fn point_within(most: u64, t: usize, measures: &[i64], positive: &[i64], negative: &[i64]) -> bool
+fn point_within(most: u64, t: usize, measures: &[i32], positive: &[i64], negative: &[i64]) -> bool
     requires { ⌜ (most < 2 ^ 40) × (t < 75) × (375 ≤ length (now measures)) × (375 ≤ length (now positive)) × (375 ≤ length (now negative)) ⌝ }
     ensures { λ r. ⌜ r ≡ (measures-here (now (measures .entry)) t && (sums-here most (now (positive .entry)) t && sums-here most (now (negative .entry)) t)) ⌝ }
 {
@@ -64,7 +65,7 @@ fn point_within(most: u64, t: usize, measures: &[i64], positive: &[i64], negativ
     sums_within(most, t, negative)
 }
 
-fn points_within(units: u16, measures: &[i64], positive: &[i64], negative: &[i64]) -> bool
+fn points_within(units: u16, measures: &[i32], positive: &[i64], negative: &[i64]) -> bool
     requires { ⌜ (375 ≤ length (now measures)) × (375 ≤ length (now positive)) × (375 ≤ length (now negative)) ⌝ }
     ensures { λ r. ⌜ r ≡ series-here units (now (measures .entry)) (now (positive .entry)) (now (negative .entry)) ⌝ }
 {
@@ -80,7 +81,7 @@ fn points_within(units: u16, measures: &[i64], positive: &[i64], negative: &[i64
 }
 
 // Are measures within their limit, and sums within 15,000,000 for each unit taken?
-pub fn series_in_range(units: u16, measures: &[i64], positive: &[i64], negative: &[i64]) -> bool
+pub fn series_in_range(units: u16, measures: &[i32], positive: &[i64], negative: &[i64]) -> bool
     ensures { λ r. ⌜ SeriesPromise units (now (measures .entry)) (now (positive .entry)) (now (negative .entry)) r ⌝ }
 {
     if measures.len() < SERIES_LENGTH {

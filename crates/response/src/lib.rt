@@ -91,7 +91,7 @@ fn lists_long(
 // Every lent number that RCR reads.
 fn lent_in_range(
     units: u16,
-    measures: &[i64],
+    measures: &[i32],
     positive: &[i64],
     negative: &[i64],
     figures: &[i64],
@@ -116,7 +116,7 @@ pub fn rcr(
     percent: u8,
     direction: Direction,
     set: u8,
-    measures: &[i64],
+    measures: &[i32],
     positive: &[i64],
     negative: &[i64],
     figures: &[i64],

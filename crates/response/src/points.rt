@@ -54,7 +54,7 @@ fn larger(a: u64, b: u64) -> u64
 fn sums_at(
     set: u8,
     t: usize,
-    measures: &[i64],
+    measures: &[i32],
     positive: &[i64],
     negative: &[i64],
     figures: &[i64],
@@ -71,7 +71,7 @@ fn sums_at(
         let counts = covered(set, region);
         weighed += part(
             counts,
-            figures[FIGURES * region + GENERATION] * measures[at],
+            figures[FIGURES * region + GENERATION] * (measures[at] as i64),
         );
         risen += part(counts, positive[at]);
         fallen += part(counts, negative[at]);
@@ -89,7 +89,7 @@ fn response_at(
     direction: Direction,
     set: u8,
     t: usize,
-    measures: &[i64],
+    measures: &[i32],
     positive: &[i64],
     negative: &[i64],
     figures: &[i64],
@@ -107,7 +107,7 @@ fn response_at(
 pub(crate) fn largest_response(
     direction: Direction,
     set: u8,
-    measures: &[i64],
+    measures: &[i32],
     positive: &[i64],
     negative: &[i64],
     figures: &[i64],

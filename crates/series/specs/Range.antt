@@ -1,4 +1,4 @@
--- What `within_limit` promises, and that two sums of bits tell a number's size.
+-- What `within_limit` and `measures_within` promise, and that two sums of bits tell a number's size.
 use mathlib.Core.Path.{_≡_, refl, sym, _∙_}
 use mathlib.Core.Bool.{Bool, true, false, _&&_}
 use mathlib.Core.List.{List}
@@ -12,7 +12,7 @@ use mir.Syntax.{w64}
 use mir.Val.{SFits, ofZ}
 use borrow.Author.Tests.{eq-eqb, ne-eqb, leb-true, leb-false, le-leb, lt-ltb}
 use Rattle.integers.specs.Pairs.{loss, lt-in}
-use Rattle.rules.specs.Quantities.{points}
+use Rattle.rules.specs.Quantities.{points, measure-limit}
 use Rattle.rules.specs.Fields.{sized}
 use Rattle.series.specs.Replies.{all-sized}
 
@@ -22,6 +22,9 @@ in-limit limit numbers = leb points (length numbers) && (ltb limit (2 ^ 40) && a
 
 pub within-limit-only : (limit : ℕ) (numbers : List ℤ) {r r′ : Bool} → r ≡ in-limit limit numbers → r′ ≡ in-limit limit numbers → r ≡ r′
 within-limit-only limit numbers a b = a ∙ sym b
+
+pub measures-within-only : (fm : List ℤ) {r r′ : Bool} → r ≡ in-limit measure-limit fm → r′ ≡ in-limit measure-limit fm → r ≡ r′
+measures-within-only fm a b = a ∙ sym b
 
 -- with room and a small limit it is the test of the numbers
 pub in-limit-is : (limit : ℕ) (numbers : List ℤ) → limit < 2 ^ 40 → points ≤ length numbers → in-limit limit numbers ≡ all-sized limit numbers

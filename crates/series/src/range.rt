@@ -1,5 +1,5 @@
 // Whether lent numbers are at most so much either way. No number ends the loop early, and the test of one is sums and shifts, so that two are tested
-// at once where the machine compares no 64-bit numbers by twos.
+// at once where the machine compares no 64-bit numbers by twos. Measures, which have 32 bits, it compares by fours.
 ghost use mathlib.Core.Path.{_≡_};
 ghost use Prim.Native.Nat.{_<_, _≤_, _^_};
 ghost use lib.Dec.{eqb};
@@ -9,6 +9,7 @@ ghost use mir.Val.{ofZ};
 ghost use Rattle.rules.specs.Fields.{sized};
 ghost use Rattle.series.specs.Replies.{all-sized};
 ghost use Rattle.series.specs.Range.{in-limit};
+use super::MEASURE_LIMIT;
 use super::POINTS;
 
 const MOST_BITS: u64 = 0xffff_ffff_ffff_ffff;
@@ -64,4 +65,42 @@ pub fn within_limit(limit: u64, numbers: &[i64]) -> bool
         return false;
     }
     each_within(limit, numbers)
+}
+
+// 0 where a measure is within its limit, else 1.
+fn past_limit(measure: i32) -> u32
+    ensures { λ r. ⌜ (r ≤ 1) × (eqb r 0 ≡ sized 5_000_000 measure) ⌝ }
+{
+    let most = MEASURE_LIMIT as i32;
+    if measure < -most {
+        return 1;
+    }
+    if most < measure {
+        return 1;
+    }
+    0
+}
+
+// Is each of the first 75 measures within its limit?
+pub(super) fn each_measure_within(measures: &[i32]) -> bool
+    requires { ⌜ 75 ≤ length (now measures) ⌝ }
+    ensures { λ r. ⌜ r ≡ all-sized 5_000_000 (now (measures .entry)) ⌝ }
+{
+    let mut many: u32 = 0;
+    let mut t: usize = 0;
+    while t < POINTS {
+        many += past_limit(measures[t]);
+        t += 1;
+    }
+    many == 0
+}
+
+// The same of a list of any length: fewer than 75 measures are not.
+pub fn measures_within(measures: &[i32]) -> bool
+    ensures { λ r. ⌜ r ≡ in-limit 5_000_000 (now (measures .entry)) ⌝ }
+{
+    if measures.len() < POINTS {
+        return false;
+    }
+    each_measure_within(measures)
 }

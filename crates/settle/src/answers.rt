@@ -4,6 +4,7 @@
 ghost use Prim.Native.Nat.{_<_, _≤_};
 ghost use lib.ListN.{length};
 use super::output;
+use super::output::LINE;
 use super::records::Next;
 use super::records::tally_of;
 use super::records::within_room;
@@ -63,6 +64,7 @@ fn print_row(
     payments: &[i64; MEMBERS],
     used: &[i64; MEMBERS],
     unused: &[i64; MEMBERS],
+    text: &mut [u8; LINE],
 ) -> Printed {
     if MEMBERS <= place {
         return Printed::Stopped;
@@ -71,7 +73,7 @@ fn print_row(
     match who {
         Row::Unit(number, standing) => {
             let shares = amounts(place, performances, factors, payments, used, unused);
-            if output::unit(number, standing, shares) {
+            if output::unit(number, standing, shares, text) {
                 return Printed::Next(place + 1);
             }
             Printed::Stopped
@@ -93,6 +95,7 @@ fn print_rows(
     payments: &[i64; MEMBERS],
     used: &[i64; MEMBERS],
     unused: &[i64; MEMBERS],
+    text: &mut [u8; LINE],
 ) -> Printed {
     let mut place: usize = 0;
     let mut row: u16 = 0;
@@ -111,6 +114,7 @@ fn print_rows(
             payments,
             used,
             unused,
+            text,
         );
         let Printed::Next(further) = next else {
             return next;
@@ -154,11 +158,12 @@ fn print_members(
     payments: &[i64; MEMBERS],
     used: &[i64; MEMBERS],
     unused: &[i64; MEMBERS],
+    text: &mut [u8; LINE],
 ) -> bool {
     let Answered::Given(given) = answered else {
         return false;
     };
-    if !output::requirement(figures_of(given)) {
+    if !output::requirement(figures_of(given), text) {
         return false;
     }
     let direction = given.direction;
@@ -174,6 +179,7 @@ fn print_members(
         payments,
         used,
         unused,
+        text,
     );
     let Printed::Next(place) = rows else {
         return false;
@@ -183,7 +189,7 @@ fn print_members(
     }
     let standing = given.residual;
     let shares = amounts(place, performances, factors, payments, used, unused);
-    output::residual(standing, shares)
+    output::residual(standing, shares, text)
 }
 
 // How many of the requirements to come are to be printed: none where a line was not written, which is told.
@@ -198,15 +204,15 @@ fn to_print(written: bool, requirements: u16) -> u16
 }
 
 // The first line, or what is told in its place; and how many requirements are to be printed after it.
-fn print_first(taken: Next) -> u16
+fn print_first(taken: Next, text: &mut [u8; LINE]) -> u16
     ensures { λ r. ⌜ r ≤ 32 ⌝ }
 {
     match taken {
         Next::Taken(tally) => to_print(
-            output::interval(tally.interval),
+            output::interval(tally.interval, text),
             within_room(tally.requirements),
         ),
-        Next::Refused(refusal) => to_print(output::refused(refusal), 0),
+        Next::Refused(refusal) => to_print(output::refused(refusal, text), 0),
         Next::Failed => {
             output::reading_failed();
             0
@@ -217,7 +223,7 @@ fn print_first(taken: Next) -> u16
 pub(crate) fn print_book(
     taken: Next,
     bytes: &[u8],
-    measures: &[i64],
+    measures: &[i32],
     positive: &[i64],
     negative: &[i64],
     figures: &[i64],
@@ -234,8 +240,9 @@ pub(crate) fn print_book(
     let mut payments = [0i64; MEMBERS];
     let mut used = [0i64; MEMBERS];
     let mut unused = [0i64; MEMBERS];
+    let mut text = [0u8; LINE];
     let tally = tally_of(taken);
-    let mut left = print_first(taken);
+    let mut left = print_first(taken, &mut text);
     let mut start: usize = 0;
     while left > 0 {
         let end = start + REQUIREMENT;
@@ -270,6 +277,7 @@ pub(crate) fn print_book(
             &payments,
             &used,
             &unused,
+            &mut text,
         );
         left = to_print(written, left - 1);
         start = end;

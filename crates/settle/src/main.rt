@@ -5,9 +5,14 @@ mod input;
 mod output;
 mod records;
 
-// The buffers, in bytes: the series 3 * 3,000, the units 512 * 67, the figures 360, the records 769. While the book is read there are 900
-// more for the frequencies of a region or the readings and deviations of a unit; while it is printed five columns of 4,104 and a line of
-// 165 twice. So there are never more than 65,283, within 65,536.
+// The buffers, in bytes, each array once:
+//   series: measures 1,500, positive 3,000, negative 3,000; figures 360
+//   units: numbers 1,024, places 512, raise 4,096, lower 4,096, defaults 24,576
+//   bytes 769
+//   points of a record (records.rt): frequencies 300, readings 300, deviations 600
+//   columns (answers.rt): performances, factors, payments, used, unused 4,104 each
+//   a line: text 165 (answers.rt), and 165 while `listing` makes it
+// Together 64,983, within 65,536.
 const SERIES: usize = 375;
 
 const FIGURES: usize = 45;
@@ -20,7 +25,7 @@ const DEFAULTS: usize = 3072;
 const RECORDS: usize = 769;
 
 fn main() {
-    let mut measures = [0i64; SERIES];
+    let mut measures = [0i32; SERIES];
     let mut positive = [0i64; SERIES];
     let mut negative = [0i64; SERIES];
     let mut figures = [0i64; FIGURES];

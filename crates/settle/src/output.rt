@@ -7,8 +7,8 @@ use listing::Written;
 use rules::Refusal;
 use rules::Standing;
 
-// As long as the longest line.
-const LINE: usize = 165;
+// As long as the longest line: each is made in a text of this length.
+pub(crate) const LINE: usize = 165;
 
 fn write(file: i32, text: &[u8]) -> bool {
     let mut done: usize = 0;
@@ -36,34 +36,34 @@ fn print(written: Written, text: &[u8]) -> bool {
     }
 }
 
-pub(crate) fn interval(interval: u32) -> bool {
-    let mut text = [0u8; LINE];
-    let written = listing::lines::interval_line(interval, &mut text);
-    print(written, &text)
+pub(crate) fn interval(interval: u32, text: &mut [u8; LINE]) -> bool {
+    let written = listing::lines::interval_line(interval, text);
+    print(written, text)
 }
 
-pub(crate) fn refused(refusal: Refusal) -> bool {
-    let mut text = [0u8; LINE];
-    let written = listing::lines::refused_line(refusal, &mut text);
-    print(written, &text)
+pub(crate) fn refused(refusal: Refusal, text: &mut [u8; LINE]) -> bool {
+    let written = listing::lines::refused_line(refusal, text);
+    print(written, text)
 }
 
-pub(crate) fn requirement(figures: Figures) -> bool {
-    let mut text = [0u8; LINE];
-    let written = listing::lines::requirement_line(figures, &mut text);
-    print(written, &text)
+pub(crate) fn requirement(figures: Figures, text: &mut [u8; LINE]) -> bool {
+    let written = listing::lines::requirement_line(figures, text);
+    print(written, text)
 }
 
-pub(crate) fn unit(number: u16, standing: Standing, amounts: Amounts) -> bool {
-    let mut text = [0u8; LINE];
-    let written = listing::lines::unit_line(number, standing, amounts, &mut text);
-    print(written, &text)
+pub(crate) fn unit(
+    number: u16,
+    standing: Standing,
+    amounts: Amounts,
+    text: &mut [u8; LINE],
+) -> bool {
+    let written = listing::lines::unit_line(number, standing, amounts, text);
+    print(written, text)
 }
 
-pub(crate) fn residual(standing: Standing, amounts: Amounts) -> bool {
-    let mut text = [0u8; LINE];
-    let written = listing::lines::residual_line(standing, amounts, &mut text);
-    print(written, &text)
+pub(crate) fn residual(standing: Standing, amounts: Amounts, text: &mut [u8; LINE]) -> bool {
+    let written = listing::lines::residual_line(standing, amounts, text);
+    print(written, text)
 }
 
 pub(crate) fn reading_failed() {

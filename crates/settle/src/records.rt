@@ -112,7 +112,7 @@ fn take_opening(bytes: &mut [u8]) -> Next
 // The records before the units.
 pub(crate) fn take_head(
     bytes: &mut [u8],
-    measures: &mut [i64],
+    measures: &mut [i32],
     positive: &mut [i64],
     negative: &mut [i64],
     figures: &mut [i64],
@@ -143,7 +143,7 @@ pub(crate) fn take_head(
 pub(crate) fn take_units(
     mut next: Next,
     bytes: &mut [u8],
-    measures: &[i64],
+    measures: &[i32],
     positive: &mut [i64],
     negative: &mut [i64],
     numbers: &mut [u16],

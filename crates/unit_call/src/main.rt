@@ -53,7 +53,7 @@ fn print_place(place: u8) {
 
 fn take_region(
     part: &[u8; 368],
-    measures: &mut [i64; 375],
+    measures: &mut [i32; 375],
     positive: &mut [i64; 375],
     negative: &mut [i64; 375],
 ) {
@@ -74,7 +74,7 @@ fn take_region(
 fn take_units(
     first: &[u8; 372],
     second: &[u8; 372],
-    measures: &[i64; 375],
+    measures: &[i32; 375],
     positive: &mut [i64; 375],
     negative: &mut [i64; 375],
 ) {
@@ -130,7 +130,7 @@ fn main() {
     io::read_full(STDIN_FILENO, &mut region);
     io::read_full(STDIN_FILENO, &mut first);
     io::read_full(STDIN_FILENO, &mut second);
-    let mut measures = [0i64; 375];
+    let mut measures = [0i32; 375];
     let mut positive = [0i64; 375];
     let mut negative = [0i64; 375];
     take_region(&region, &mut measures, &mut positive, &mut negative);

@@ -4,6 +4,7 @@ ghost use Prim.Native.Nat.{_≤_};
 ghost use Rattle.interval.specs.Tally.{units-taken};
 ghost use Rattle.units.specs.Tested.{tested-unit, UnitAnswered};
 use super::lent::columns_room;
+use super::lent::named_region;
 use super::lent::series_in_range;
 use super::lent::series_room;
 use book::UnitRead;
@@ -26,7 +27,7 @@ pub(crate) fn tested_unit(
     part: &[u8],
     readings: &mut [i32],
     deviations: usize,
-    measures: &[i64],
+    measures: &[i32],
     positive: &[i64],
     negative: &[i64],
     numbers: usize,
@@ -53,7 +54,7 @@ pub(crate) fn tested_unit(
     if !columns_room(row, numbers, places, raise, lower, defaults) {
         return UnitRead::Refused(Refusal::TooShort);
     }
-    let region = little::u8_at(part, 2);
+    let region = named_region(part);
     if !series_in_range(region, row, measures, positive, negative) {
         return UnitRead::Refused(Refusal::OutOfTurn);
     }

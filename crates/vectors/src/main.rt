@@ -212,21 +212,21 @@ fn one_if(test: bool) -> u64
 }
 
 // At how many points are two lists no further apart than the tolerance?
-fn near_points(measures: &[i64; 75], published: &[i64; 75]) -> u64 {
+fn near_points(measures: &[i32; 75], published: &[i64; 75]) -> u64 {
     let mut near: u64 = 0;
     let mut t: usize = 0;
     while t < 75 {
-        near += one_if(apart(measures[t], published[t]) <= TOLERANCE);
+        near += one_if(apart(measures[t] as i64, published[t]) <= TOLERANCE);
         t += 1;
     }
     near
 }
 
-fn largest_difference(measures: &[i64; 75], published: &[i64; 75]) -> u64 {
+fn largest_difference(measures: &[i32; 75], published: &[i64; 75]) -> u64 {
     let mut largest: u64 = 0;
     let mut t: usize = 0;
     while t < 75 {
-        largest = larger(largest, apart(measures[t], published[t]));
+        largest = larger(largest, apart(measures[t] as i64, published[t]));
         t += 1;
     }
     largest
@@ -252,7 +252,7 @@ fn table_15() {
     let quality = QUALITY;
     let frequencies = FREQUENCIES;
     let published = PUBLISHED;
-    let mut measures = [0i64; 75];
+    let mut measures = [0i32; 75];
     let outcome = series::measure::measures(SMOOTHING, 0, &quality, &frequencies, &mut measures);
     if let Outcome::Refused(_) = outcome {
         say(b"table 15: refused\n");

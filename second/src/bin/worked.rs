@@ -3,20 +3,21 @@
 use std::fs;
 use std::path::Path;
 
-use second::{describe, listing, worked, write};
+use second::{describe, listing, worked};
 
 fn main() -> std::io::Result<()> {
     let dir = std::env::args().nth(1).expect("usage: worked DIR");
     let dir = Path::new(&dir);
     fs::create_dir_all(dir)?;
     for worked in worked::all() {
-        let bytes = write::to_bytes(&worked.book);
+        let bytes = worked.bytes();
         let text = format!(
-            "{}\n\n{}\n\n{}\n{}\n({} bytes)\n",
+            "{}\n\n{}\n\n{}\n{}{}\n({} bytes)\n",
             worked.name,
             worked.shows,
             describe::BASE,
             describe::describe(&worked.book),
+            describe::behind(worked.behind),
             bytes.len()
         );
         fs::write(dir.join(format!("{}.txt", worked.name)), text)?;

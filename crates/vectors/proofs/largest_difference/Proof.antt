@@ -1,7 +1,12 @@
 -- `vectors::largest_difference` is safe: before point t t is at most 75, and each turn takes one of 75 points.
 use Prim.Native.Nat.{_≤_, _-_}
 use native.Mathlib.Omega.{arith}
-use borrow.Author.Needs.{needs}
+use borrow.Author.Needs.{needs, sfits-of}
+use lib.IntN.{pos}
+use lib.ListN.{getD}
+use mir.Syntax.{w32, w64}
+use mir.Val.{SFits}
+use mir.Facts.{toZ-ofZ, sfits-widen}
 use Rattle.vectors.proofs.largest_difference.Statement.{statement}
 use Rattle.vectors.proofs.largest_difference.Tie as tie
 
@@ -19,6 +24,12 @@ mul-apart c = omega arith
 
 element-copy-out-apart : tie.Need-element-copy-out-apart Inv-loop μ-loop
 element-copy-out-apart c = omega arith
+
+narrow : (c : tie.After-apart-arg Inv-loop μ-loop) → SFits w32 (getD (c .before .before .before .args .measures .now) (c .before .before .loop .t) (pos 0))
+narrow c = sfits-of (c .apart-arg .given)
+
+cast-apart : tie.Need-cast-apart Inv-loop μ-loop
+cast-apart c = rw (toZ-ofZ (narrow c)) (sfits-widen {w′ = w64} tt (narrow c))
 
 mul-apart-2 : tie.Need-mul-apart-2 Inv-loop μ-loop
 mul-apart-2 c = omega arith
@@ -53,6 +64,7 @@ largest-difference-spec =
     loop-holds
     mul-apart
     element-copy-out-apart
+    cast-apart
     mul-apart-2
     element-copy-out-apart-2
     apart-requires

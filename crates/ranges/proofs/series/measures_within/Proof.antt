@@ -5,7 +5,10 @@ use Prim.Native.Nat.{ℕ, _-_, _≤_}
 use native.Mathlib.Omega.{arith}
 use borrow.Author.Needs.{needs, sfits-of}
 use borrow.Author.Tests.{not-true, not-false}
-use mir.Facts.{toZ-ofZ}
+use lib.IntN.{ℤ}
+use mir.Syntax.{w32, w64}
+use mir.Val.{SFits}
+use mir.Facts.{toZ-ofZ, sfits-widen}
 use Rattle.integers.specs.Sums.{every, every-step, every-none, every-fails}
 use Rattle.rules.specs.Quantities.{regions, measure-limit}
 use Rattle.rules.specs.Fields.{sized}
@@ -26,25 +29,37 @@ L c = c .before .before .before
 abbrev tests : tie.At-loop Inv-loop μ-loop → ℕ → Bool
 tests l r = sized measure-limit (there (l .before .args .measures .now) (l .before .args .t) r)
 
+abbrev measured : tie.After-measure Inv-loop μ-loop → ℤ
+measured c = let l = c .before .before in there (l .before .args .measures .now) (l .before .args .t) (l .loop .region)
+
+narrow : (c : tie.After-measure Inv-loop μ-loop) → SFits w32 (measured c)
+narrow c = sfits-of (c .measure .given)
+
+wide : (c : tie.After-measure Inv-loop μ-loop) → SFits w64 (measured c)
+wide c = sfits-widen {w′ = w64} tt (narrow c)
+
 told : (c : tie.After-between Inv-loop μ-loop) → tests (L c) (L c .loop .region) ≡ c .between .result
 told c =
-    let l = L c in
-    sym (rw (toZ-ofZ (sfits-of (c .before .between-arg .given))) at (c .between .ensures) ∙ sized-between measure-limit (there (l .before .args .measures .now) (l .before .args .t) (l .loop .region)))
+    let m = c .before in
+    sym (rw (toZ-ofZ (narrow m), toZ-ofZ (wide m)) at (c .between .ensures) ∙ sized-between measure-limit (measured m))
 
 loop-holds : tie.Need-loop-holds Inv-loop μ-loop
 loop-holds c = (omega arith, every-none _)
 
-mul-between : tie.Need-mul-between Inv-loop μ-loop
-mul-between c = omega arith
+mul-measure : tie.Need-mul-measure Inv-loop μ-loop
+mul-measure c = omega arith
 
-add-between : tie.Need-add-between Inv-loop μ-loop
-add-between c = omega arith
+add-measure : tie.Need-add-measure Inv-loop μ-loop
+add-measure c = omega arith
 
-mul-between-2 : tie.Need-mul-between-2 Inv-loop μ-loop
-mul-between-2 c = omega arith
+mul-measure-2 : tie.Need-mul-measure-2 Inv-loop μ-loop
+mul-measure-2 c = omega arith
 
-shared-slice-copy-out-between : tie.Need-shared-slice-copy-out-between Inv-loop μ-loop
-shared-slice-copy-out-between c = omega arith
+shared-slice-copy-out-measure : tie.Need-shared-slice-copy-out-measure Inv-loop μ-loop
+shared-slice-copy-out-measure c = omega arith
+
+cast-measure : tie.Need-cast-measure Inv-loop μ-loop
+cast-measure c = rw (toZ-ofZ (narrow c)) (wide c)
 
 between-requires : tie.Need-between-requires Inv-loop μ-loop
 between-requires c κs = search needs
@@ -71,10 +86,11 @@ measures-within-spec =
     Inv-loop
     μ-loop
     loop-holds
-    mul-between
-    add-between
-    mul-between-2
-    shared-slice-copy-out-between
+    mul-measure
+    add-measure
+    mul-measure-2
+    shared-slice-copy-out-measure
+    cast-measure
     between-requires
     returns
     add-region

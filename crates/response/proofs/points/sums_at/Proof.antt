@@ -6,9 +6,9 @@ use native.Mathlib.Omega.{arith}
 use borrow.Author.Needs.{needs, sfits-of}
 use lib.IntN.{ℤ, pos, _*ℤ_}
 use lib.ListN.{getD}
-use mir.Syntax.{w64}
+use mir.Syntax.{w32, w64}
 use mir.Val.{SFits, toZ}
-use mir.Facts.{toZ-ofZ}
+use mir.Facts.{toZ-ofZ, sfits-widen}
 use Rattle.integers.specs.Sums.{sum, sum-none, when}
 use Rattle.rules.specs.Quantities.{regions}
 use Rattle.ranges.specs.Series.{there}
@@ -37,12 +37,20 @@ measured c = there (S c .args .measures .now) (S c .args .t) (L c .loop .region)
 whole-fits : (c : tie.After-covered Inv-loop μ-loop) → SFits w64 (generated c *ℤ measured c)
 whole-fits c = product-fits (S c .pre .1) (S c .args .set) (S c .args .t) (S c .pre .0) (L c .loop .region) (omega arith)
 
+generated-fits : (c : tie.After-part-arg2 Inv-loop μ-loop) → SFits w64 (generated (c .before .before))
+generated-fits c = sfits-of (c .before .part-arg .given)
+
+narrow : (c : tie.After-part-arg2 Inv-loop μ-loop) → SFits w32 (measured (c .before .before))
+narrow c = sfits-of (c .part-arg2 .given)
+
+measure-fits : (c : tie.After-part-arg2 Inv-loop μ-loop) → SFits w64 (measured (c .before .before))
+measure-fits c = sfits-widen {w′ = w64} tt (narrow c)
+
 weighing : (c : tie.After-part Inv-loop μ-loop) → Turn (weighed-part (S (c .before .before .before) .args .set) (S (c .before .before .before) .args .measures .now) (S (c .before .before .before) .args .figures .now) (S (c .before .before .before) .args .t)) (L (c .before .before .before) .loop .region) (toZ w64 (L (c .before .before .before) .loop .weighed)) (c .part .result)
 weighing c =
     let d = c .before .before .before in
-    let one : SFits w64 (generated d) = sfits-of (c .before .before .part-arg .given) in
-    let two : SFits w64 (measured d) = sfits-of (c .before .part-arg2 .given) in
-    weighed-turn (S d .pre .1) (S d .args .set) (S d .args .t) (S d .pre .0) _ _ _ (omega arith) (L d .loop .inv .1) (rw (toZ-ofZ one, toZ-ofZ two, toZ-ofZ (whole-fits d)) at (c .part .ensures) ∙ ap (λ (s : Bool). when s (generated d *ℤ measured d)) (d .covered .ensures))
+    let a = c .before in
+    weighed-turn (S d .pre .1) (S d .args .set) (S d .args .t) (S d .pre .0) _ _ _ (omega arith) (L d .loop .inv .1) (simp (toZ-ofZ, generated-fits a, narrow a, measure-fits a, whole-fits d) at (c .part .ensures) ∙ ap (λ (s : Bool). when s (generated d *ℤ measured d)) (d .covered .ensures))
 
 rising : (c : tie.After-part2 Inv-loop μ-loop) → Turn (sum-part (S (c .before .before .before .before .before) .args .set) (S (c .before .before .before .before .before) .args .positive .now) (S (c .before .before .before .before .before) .args .t)) (L (c .before .before .before .before .before) .loop .region) (toZ w64 (L (c .before .before .before .before .before) .loop .risen)) (c .part2 .result)
 rising c =
@@ -84,12 +92,11 @@ mul-part-3 c = omega arith
 shared-slice-copy-out-part-2 : tie.Need-shared-slice-copy-out-part-2 Inv-loop μ-loop
 shared-slice-copy-out-part-2 c = omega arith
 
+cast-part : tie.Need-cast-part Inv-loop μ-loop
+cast-part c = rw (toZ-ofZ (narrow c)) (measure-fits c)
+
 mul-part-4 : tie.Need-mul-part-4 Inv-loop μ-loop
-mul-part-4 c =
-    let d = c .before .before in
-    let one : SFits w64 (generated d) = sfits-of (c .before .part-arg .given) in
-    let two : SFits w64 (measured d) = sfits-of (c .part-arg2 .given) in
-    rw (toZ-ofZ one, toZ-ofZ two) (whole-fits d)
+mul-part-4 c = simp (toZ-ofZ, generated-fits c, narrow c, measure-fits c) (whole-fits (c .before .before))
 
 part-requires : tie.Need-part-requires Inv-loop μ-loop
 part-requires c κs = search needs
@@ -156,6 +163,7 @@ sums-at-spec =
     shared-slice-copy-out-part
     mul-part-3
     shared-slice-copy-out-part-2
+    cast-part
     mul-part-4
     part-requires
     add-weighed

@@ -6,18 +6,18 @@ use Rattle.settle.proofs.answers.print_rows.Statement.{statement}
 use Rattle.settle.proofs.answers.print_rows.Tie as tie
 
 abbrev Inv-loop : tie.InvT-loop
-Inv-loop units direction set figures numbers places performances factors payments used unused place₀ row₀ place row =
+Inv-loop units direction set figures numbers places performances factors payments used unused text₀ place₀ row₀ text place row =
     row ≤ units
 
 abbrev μ-loop : tie.MeasureT-loop
-μ-loop units direction set figures numbers places performances factors payments used unused place₀ row₀ place row =
+μ-loop units direction set figures numbers places performances factors payments used unused text₀ place₀ row₀ text place row =
     units - row
 
 loop-holds : tie.Need-loop-holds Inv-loop μ-loop
 loop-holds c = omega arith
 
 print-row-requires : tie.Need-print-row-requires Inv-loop μ-loop
-print-row-requires c κs = c .before .before .before .before .pre
+print-row-requires c κs = search needs
 
 enum-known-next : tie.Need-enum-known-next Inv-loop μ-loop
 enum-known-next c = search needs
@@ -29,7 +29,7 @@ returns : tie.Need-returns Inv-loop μ-loop
 returns c = search needs
 
 add-row : tie.Need-add-row Inv-loop μ-loop
-add-row c = omega (arith, c .before .before .before .before .before .before .before .before .fits .units)
+add-row c = omega (arith, c .before .before .before .before .before .before .before .before .before .fits .units)
 
 loop-less : tie.Need-loop-less Inv-loop μ-loop
 loop-less c = omega arith

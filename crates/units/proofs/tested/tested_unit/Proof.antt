@@ -5,9 +5,8 @@ use Prim.Native.Nat.{ℕ}
 use lib.ListN.{length}
 use borrow.Author.Needs.{needs}
 use borrow.Author.Tests.{not-true, not-false}
-use Rattle.rules.specs.Bytes.{number-at}
 use Rattle.interval.specs.Tally.{in-range, unit-turn, units-taken}
-use Rattle.interval.specs.Lent.{series-in-range}
+use Rattle.interval.specs.Lent.{named-region, series-in-range}
 use Rattle.units.specs.UnitLaws.{series-lengths, columns-lengths}
 use Rattle.units.specs.Tested.{unit-comes, rooms, tested-unit, answers-refusal, answers-record}
 use Rattle.units.proofs.tested.tested_unit.Statement.{statement}
@@ -37,10 +36,10 @@ columned : (c : tie.Else3) → let a = start (turned (c .before .before)) .args 
 columned c = columns-told (c .before) ∙ not-false _ (c .if3 .left)
 
 -- the region is that of byte 2
-range-told : (c : tie.After-series-in-range) → let a = start (turned (rowed c)) .args in series-in-range (number-at 1 2 (a .part .now)) (units-taken (a .tally)) (a .measures .now) (a .positive .now) (a .negative .now) ≡ c .series-in-range .result
+range-told : (c : tie.After-series-in-range) → let a = start (turned (rowed c)) .args in series-in-range (named-region (a .part .now)) (units-taken (a .tally)) (a .measures .now) (a .positive .now) (a .negative .now) ≡ c .series-in-range .result
 range-told c =
     let a = start (turned (rowed c)) .args in
-    ap₂ (λ (region row : ℕ). series-in-range region row (a .measures .now) (a .positive .now) (a .negative .now)) (sym (c .before .u8-at .ensures .reply)) (sym (rowed c .next-row .ensures)) ∙ sym (c .series-in-range .ensures)
+    ap₂ (λ (region row : ℕ). series-in-range region row (a .measures .now) (a .positive .now) (a .negative .now)) (sym (c .before .named-region .ensures)) (sym (rowed c .next-row .ensures)) ∙ sym (c .series-in-range .ensures)
 
 unit-turn-requires : tie.Need-unit-turn-requires
 unit-turn-requires c κs = search needs
@@ -68,8 +67,8 @@ returns-3 c =
     let e = c .before .before .before in
     answers-refusal (rw (in-turn (e .before .before), roomy e, columns-told (c .before) ∙ not-true _ (c .if3 .taken)))
 
-u8-at-requires : tie.Need-u8-at-requires
-u8-at-requires c κs = search needs
+named-region-requires : tie.Need-named-region-requires
+named-region-requires c κs = search needs
 
 series-in-range-requires : tie.Need-series-in-range-requires
 series-in-range-requires c κs =
@@ -111,7 +110,7 @@ tested-unit-spec =
     next-row-requires
     columns-room-requires
     returns-3
-    u8-at-requires
+    named-region-requires
     series-in-range-requires
     returns-4
     read-unit-requires

@@ -1,0 +1,16 @@
+-- A chain of C calls
+pub mod WordsChain
+pub mod SharedChain
+-- It is a chain of the calls below
+pub mod WordsLaws
+pub mod WordsCalls
+pub mod WordsTheorem
+pub mod SharedLists
+-- The rules' answer over words, from a chain and from a book's bytes
+pub mod WordsAnswer
+pub mod WordsAnswered
+pub mod WordsBook
+-- Demand by demand, as a caller meets it
+pub mod Demand1
+pub mod Demand2
+pub mod Demand3
