@@ -94,10 +94,16 @@ fn listings_are_those_of_the_second_program() {
     let lines =
         paper.split("paper-lines =").nth(1).and_then(|rest| rest.split("\n\n").next()).expect("lines");
     assert_eq!(format!("interval 7\n{}", quoted(lines)).as_bytes(), kept("listing", "listing"));
-    let mut names: Vec<&str> = worked::all().iter().map(|worked| worked.name).collect();
+    let mut names = stated();
     names.sort_unstable();
     seen.sort_unstable();
     assert_eq!(seen, names);
+}
+
+/// The worked books that a theorem speaks of: all but those on which `settle` alone is run.
+fn stated() -> Vec<&'static str> {
+    const RUN_ALONE: [&str; 3] = ["byte_behind", "number_not_rising", "thirteen_units"];
+    worked::all().iter().map(|worked| worked.name).filter(|name| !RUN_ALONE.contains(name)).collect()
 }
 
 /// The number that the bytes hold, the lowest first, modulo 2^61 - 1.
@@ -119,7 +125,7 @@ fn bytes_are_those_that_the_second_program_is_given() {
         assert_eq!(number(&all[says - 1]), sum_of(&bytes), "{name}");
         seen += 1;
     }
-    assert_eq!(seen, worked::all().len());
+    assert_eq!(seen, stated().len());
 }
 
 /// A change of a table: the place, the width and the value of a field.
