@@ -18,8 +18,10 @@ pub fn library_command() -> Option<Vec<String>> {
     match std::env::var("SETTLE") {
         Ok(line) => Some(words(&line)),
         Err(_) if Path::new(LIBRARY).exists() => {
-            let said =
-                Command::new("tests/tools/program").args(["--line", "settle"]).output().expect("tests/tools/program");
+            let said = Command::new("tests/tools/program")
+                .args(["--line", "settle"])
+                .output()
+                .expect("tests/tools/program");
             Some(words(&String::from_utf8_lossy(&said.stdout)))
         }
         Err(_) => None,

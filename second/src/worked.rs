@@ -56,6 +56,16 @@ fn spoil(good: &mut [bool; POINTS], values: &mut [i128; POINTS], first: usize, l
     }
 }
 
+/// A region in which these points alone are good: between them FM keeps its value.
+fn good_only_at(book: &mut Book, region: usize, points: &[(usize, i128)]) {
+    let record = &mut book.frequencies[region];
+    spoil(&mut record.good, &mut record.frequencies, 1, POINTS);
+    for &(t, frequency) in points {
+        record.good[t - 1] = true;
+        record.frequencies[t - 1] = frequency;
+    }
+}
+
 fn with_bad_readings(mut unit: Unit, first: usize, last: usize) -> Unit {
     spoil(&mut unit.good, &mut unit.readings, first, last);
     unit
@@ -103,11 +113,12 @@ pub fn listing_book() -> Book {
 fn lower_two_regions() -> Book {
     let mut book = base_book();
     book.settings.interval = 101;
+    book.settings.bad_frequency_limit = 74;
     book.frequencies[1].generation = 300_000;
-    book.frequencies[1].frequencies = along(|_| 50_020_000);
+    good_only_at(&mut book, 1, &[(1, 50_020_000)]);
     book.frequencies[1].defaults = [-500, -50, -5, -400, -40, -4];
     book.frequencies[2].generation = 100_000;
-    book.frequencies[2].frequencies = along(|_| 50_030_000);
+    good_only_at(&mut book, 2, &[(1, 50_030_000)]);
     book.frequencies[2].defaults = [-300, -30, -3, -200, -20, -2];
     book.units = vec![
         with_defaults(unit(1, 1, false, 10_000, 10_000, |_| 9_900), [-100, -200, -300, -400, -500, -600]),
@@ -127,14 +138,15 @@ fn default_reasons() -> Book {
     let mut book = base_book();
     book.settings.bad_unit_percent = 50;
     book.settings.interval = 102;
+    book.settings.bad_frequency_limit = 74;
     for region in 0..REGIONS {
         book.frequencies[region].generation = 100_000;
-        book.frequencies[region].frequencies = along(|_| 49_980_000);
+        good_only_at(&mut book, region, &[(1, 49_980_000)]);
         let step = region as i128 + 1;
         book.frequencies[region].defaults = [-1_000 * step, -2_000 * step, -3_000 * step, 0, 0, 0];
     }
     book.frequencies[1].separation = true;
-    book.frequencies[4].frequencies = along(|_| 49_990_000);
+    good_only_at(&mut book, 4, &[(1, 49_990_000)]);
     book.units = vec![
         with_defaults(unit(10, 0, false, 1_000, 1_000, |_| 1_010), [-11, -12, -13, 0, 0, 0]),
         with_bad_readings(
@@ -189,10 +201,11 @@ fn bad_frequency_points() -> Book {
 fn sign_turned() -> Book {
     let mut book = base_book();
     book.settings.interval = 104;
+    book.settings.bad_frequency_limit = 74;
     book.frequencies[0].generation = 100_000;
-    book.frequencies[0].frequencies = along(|t| if t <= 60 { 49_980_000 } else { 50_020_000 });
+    good_only_at(&mut book, 0, &[(1, 49_980_000), (61, 50_020_000)]);
     book.frequencies[1].generation = 200_000;
-    book.frequencies[1].frequencies = along(|t| if t <= 10 { 49_985_000 } else { 50_030_000 });
+    good_only_at(&mut book, 1, &[(1, 49_985_000), (11, 50_030_000)]);
     book.units = vec![
         unit(1, 0, false, 0, 0, |t| 10 * t),
         unit(2, 1, false, 500, 500, |_| 400),
@@ -209,10 +222,11 @@ fn sign_turned() -> Book {
 fn unplaced() -> Book {
     let mut book = base_book();
     book.settings.interval = 105;
+    book.settings.bad_frequency_limit = 74;
     book.settings.bad_unit_percent = 100;
     for region in [0, 2] {
         book.frequencies[region].generation = 1;
-        book.frequencies[region].frequencies = along(|_| 49_980_000);
+        good_only_at(&mut book, region, &[(1, 49_980_000)]);
     }
     book.units = vec![
         unit(1, 0, false, 0, 75, |t| t),
@@ -247,8 +261,9 @@ fn ramp() -> Book {
 fn ties() -> Book {
     let mut book = base_book();
     book.settings.interval = 107;
+    book.settings.bad_frequency_limit = 74;
     book.frequencies[0].generation = 1;
-    book.frequencies[0].frequencies = along(|_| 49_980_000);
+    good_only_at(&mut book, 0, &[(1, 49_980_000)]);
     book.frequencies[0].defaults = [0, 0, -1, 0, 0, 0];
     let equal = [0, 0, -1, 0, 0, 0];
     book.units = vec![
@@ -265,11 +280,13 @@ fn ties() -> Book {
 fn no_units() -> Book {
     let mut book = base_book();
     book.settings.interval = 0;
+    book.settings.bad_frequency_limit = 74;
     for region in [0, 1] {
         book.frequencies[region].generation = 10;
-        book.frequencies[region].frequencies = along(|_| 50_011_000);
+        good_only_at(&mut book, region, &[(1, 50_011_000)]);
         book.frequencies[region].defaults = [0, 0, 0, -9, -9, -2];
     }
+    good_only_at(&mut book, 2, &[(1, 50_000_000)]);
     book.requirements = vec![
         requirement(0, 0b00011, Direction::Lower, 100, 50, 10, 4),
         requirement(1, 0b00111, Direction::Lower, 100, 50, 10, 4),
@@ -280,12 +297,13 @@ fn no_units() -> Book {
 fn one_side() -> Book {
     let mut book = base_book();
     book.settings.interval = 108;
+    book.settings.bad_frequency_limit = 74;
     book.settings.bad_unit_percent = 100;
     book.frequencies[0].generation = 1;
-    book.frequencies[0].frequencies = along(|t| if t <= 7 { 49_980_000 } else { 50_020_000 });
+    good_only_at(&mut book, 0, &[(1, 49_980_000), (8, 50_020_000)]);
     for region in [1, 2] {
         book.frequencies[region].generation = 10;
-        book.frequencies[region].frequencies = along(|_| 49_980_000);
+        good_only_at(&mut book, region, &[(1, 49_980_000)]);
         book.frequencies[region].defaults = [-20, -30, 0, 0, 0, 0];
     }
     book.units = vec![
@@ -297,6 +315,112 @@ fn one_side() -> Book {
         requirement(2, 0b00101, Direction::Raise, 1_200, 100, 4, 1),
         requirement(3, 0b00001, Direction::Raise, 1_200, 100, 4, 1),
         requirement(4, 0b00001, Direction::Lower, 1_200, 100, 4, 1),
+    ];
+    book
+}
+
+fn lower_defaults() -> Book {
+    let mut book = base_book();
+    book.settings.interval = 109;
+    book.settings.bad_frequency_limit = 74;
+    book.settings.bad_unit_percent = 50;
+    for region in 0..REGIONS {
+        let step = -100 * (region as i128 + 1);
+        book.frequencies[region].generation = 100;
+        book.frequencies[region].defaults = [step - 1, step - 2, step - 3, step - 4, step - 5, step - 6];
+        good_only_at(&mut book, region, &[(1, 50_020_000)]);
+    }
+    book.frequencies[1].separation = true;
+    good_only_at(&mut book, 2, &[]);
+    book.frequencies[2].measure_before = -20_000;
+    good_only_at(&mut book, 3, &[(75, 50_030_000)]);
+    book.frequencies[3].measure_before = -30_000;
+    book.frequencies[3].defaults = [-401, -402, -403, -3_400_000_000, -5_600_000_000, -406];
+    good_only_at(&mut book, 4, &[(1, 50_010_000)]);
+    book.units = vec![
+        with_defaults(unit(1, 0, false, 1_000, 1_000, |_| 900), [-11, -12, -13, -14, -15, -16]),
+        with_bad_readings(
+            with_defaults(
+                unit(2, 0, true, 2_000, 2_000, |_| 2_500),
+                [-21, -22, -23, -4_000_000_000, -7_000_000_000, -26],
+            ),
+            40,
+            40,
+        ),
+        with_bad_readings(
+            with_defaults(
+                unit(3, 3, false, 0, 0, |_| 0),
+                [-31, -32, -33, -1_000_000_000, -3_000_000_000, -36],
+            ),
+            1,
+            75,
+        ),
+    ];
+    book.requirements = vec![
+        requirement(1, 0b00001, Direction::Lower, 3_000, 5_000, 2_000, 1_000),
+        requirement(2, 0b01001, Direction::Lower, 3_000, 5_000, 2_000, 1_000),
+        requirement(3, 0b00010, Direction::Lower, 3_000, 5_000, 2_000, 1_000),
+        requirement(4, 0b00100, Direction::Lower, 3_000, 5_000, 2_000, 1_000),
+        requirement(5, 0b10000, Direction::Lower, 3_000, 5_000, 2_000, 1_000),
+    ];
+    book
+}
+
+fn edges_of_reliability() -> Book {
+    let mut book = base_book();
+    book.settings.interval = 110;
+    book.settings.bad_frequency_limit = 72;
+    for region in 0..REGIONS {
+        let step = -10 * (region as i128 + 1);
+        book.frequencies[region].defaults = [step - 1, step - 2, step - 3, step - 4, step - 5, step - 6];
+    }
+    good_only_at(&mut book, 0, &[(1, 50_010_001), (2, 50_000_001), (8, 50_000_000)]);
+    good_only_at(&mut book, 1, &[(1, 50_010_001), (2, 50_000_001), (7, 50_000_000)]);
+    good_only_at(&mut book, 2, &[(1, 50_010_000), (2, 50_010_000), (75, 50_010_000)]);
+    good_only_at(&mut book, 3, &[(1, 49_989_999), (2, 49_999_999), (8, 50_000_000)]);
+    good_only_at(&mut book, 4, &[(1, 49_989_999), (2, 49_999_999), (7, 50_000_000)]);
+    book.requirements = (0..REGIONS)
+        .map(|region| {
+            let direction = if region < 3 { Direction::Lower } else { Direction::Raise };
+            regional(region, region as i128, direction, 0, 50, 10, 4)
+        })
+        .collect();
+    book
+}
+
+fn every_field() -> Book {
+    let mut book = base_book();
+    book.settings =
+        Settings { smoothing: 4_321, bad_frequency_limit: 72, bad_unit_percent: 33, interval: 67_305_985 };
+    for region in 0..REGIONS {
+        let step = region as i128 + 1;
+        let sign = if region % 2 == 0 { -1 } else { 1 };
+        let record = &mut book.frequencies[region];
+        record.measure_before = -sign * 11_111 * step;
+        record.generation = 111_112 * step - 1;
+        record.defaults = [1, 2, 3, 4, 5, 6].map(|place| -1_010_203_040_506 * step - place);
+        let away = |t: usize| 50_000_000 + sign * (20_000 + 1_001 * step + 13 * t as i128);
+        let points = [region + 1, region + 10, 75 - region].map(|t| (t, away(t)));
+        good_only_at(&mut book, region, &points);
+    }
+    book.frequencies[4].separation = true;
+    book.units = vec![
+        with_bad_readings(
+            with_defaults(
+                unit(258, 3, true, 70_000, -60_000, |t| 1_000 - 13 * t),
+                [1, 2, 3, 4, 5, 6].map(|place| -2_020_304_050_607 - place),
+            ),
+            9,
+            9,
+        ),
+        with_defaults(
+            unit(772, 2, false, -1_234, 5_678, |t| 100 * t - 3_000),
+            [1, 2, 3, 4, 5, 6].map(|place| -3_030_405_060_708 - place),
+        ),
+    ];
+    book.requirements = vec![
+        requirement(513, 0b00101, Direction::Raise, 66_051, 4_328_719_365, 658_188, 526_086),
+        requirement(1_027, 0b01010, Direction::Lower, 9_876_543, 987_654_321_012, 1_234_567, 1_999_999),
     ];
     book
 }
@@ -453,6 +577,33 @@ pub fn all() -> Vec<Worked> {
             shows: "Roster 0: live residuals at 0; used unplaced; the unused pool on the residual alone;\n\
                     requirement 1 adds a region at 50 Hz, which is unreliable.",
             book: no_units(),
+            behind: &[],
+        },
+        Worked {
+            name: "lower_defaults",
+            shows: "Lower where defaults stand in, in regions whose FM is what few good points left.\n\
+                    Region 0 has 74 bad points, the limit; region 1 is separated; region 2 has 75 bad\n\
+                    points; region 3 keeps the FM before the interval to t 74 and has no good unit; region\n\
+                    4 has FM -10000 throughout. Requirement 1: one bad of two at percent 50 keeps RCR.\n\
+                    Requirement 2: two bad of three makes RCR 0, the used pool stays. The others: no unit,\n\
+                    unreliable.",
+            book: lower_defaults(),
+            behind: &[],
+        },
+        Worked {
+            name: "edges_of_reliability",
+            shows: "Roster 0, 72 bad points, the limit: they count with the FM that they keep. Lower:\n\
+                    region 0 has one FM of -10001 and six of -1, region 1 five of -1, region 2 FM -10000 at\n\
+                    all points. Raise: region 3 has one FM of 10001 and six of 1, region 4 five of 1.",
+            book: edges_of_reliability(),
+            behind: &[],
+        },
+        Worked {
+            name: "every_field",
+            shows:
+                "Each field holds a value of its own; three good points to a region. Region 3 has no good\n\
+                    unit. Requirement 1027: used over enabled, one bad of one at percent 33.",
+            book: every_field(),
             behind: &[],
         },
         Worked {

@@ -1,4 +1,5 @@
 -- Books written as bytes, for the theorems on worked books: nothing of the calculator rests on this.
+use mathlib.Core.Path.{_≡_, ap}
 use mathlib.Core.Bool.{Bool, true, false, cond}
 use mathlib.Core.List.{List, [], _∷_, _++_, map}
 use Prim.Native.Nat.{ℕ, zero, suc, _+_, _*_, _-_, _/_, _%_, _^_}
@@ -8,8 +9,11 @@ use Rattle.rules.specs.declared.Direction.the-variants.{Raise, Lower}
 use Rattle.rules.specs.declared.Direction.{Direction}
 use Rattle.rules.specs.declared.Kind.{Kind}
 use Rattle.rules.specs.declared.Kind.the-variants.{Generation, Load}
+use Rattle.rules.specs.Refusals.{taken}
 use Rattle.rules.specs.Bytes.{listed}
 use Rattle.rules.specs.Book.{ByDirection, Settings, Defaults, Region, Unit, Requirement, Book}
+use Rattle.rules.specs.WholeBook.{book}
+use Rattle.rules.specs.Listing.{listing, printed, settle}
 
 -- n bytes of a number, the lowest first; of a signed one
 unfoldable pub bytes : ℕ → ℕ → List ℕ
@@ -91,3 +95,8 @@ book-bytes b =
 -- 75 of one value
 abbrev pub flat : {A : Type 0} → A → List A
 flat x = listed 0 75 (λ t. x)
+
+-- a book that is read from its bytes as what it says has its listing printed
+pub settled : (b : Book) → book (book-bytes b) ≡ taken b → settle (book-bytes b) ≡ listing b
+unfolding settle
+settled b read = ap printed read

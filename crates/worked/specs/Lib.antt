@@ -1,1 +1,5 @@
+pub mod BookBytes
 pub mod Listings
+pub mod LowerDefaults
+pub mod EdgesOfReliability
+pub mod EveryField

@@ -1,11 +1,12 @@
--- The listings of the worked books, each from its bytes to its text. The figures are the second program's (tests/worked/).
+-- The listings of the worked books, each from its bytes to its text: the bytes are read as the book, and the book gives the text. The figures are the second
+-- program's (tests/worked/).
 use mathlib.Core.Path.{_≡_, refl}
 use mathlib.Core.List.{_++_}
 use Rattle.rules.specs.Text.{text}
 use Rattle.rules.specs.Listing.{settle}
-use Rattle.rules.specs.Writing.{book-bytes}
+use Rattle.rules.specs.Writing.{book-bytes, settled}
 use Rattle.rules.specs.Computing.{computing}
-use Rattle.rules.specs.WorkedBooks.{lower-two-regions, default-reasons, bad-frequency-points, sign-turned, unplaced-amounts, ramp, ties, no-units, one-side}
+use Rattle.rules.specs.WorkedBooks.{lower-two-regions, default-reasons, bad-frequency-points, sign-turned, unplaced, ramp, ties, no-units, one-side}
 
 pub lower-two-regions-listing : settle (book-bytes lower-two-regions)
     ≡ text "interval 101\n"
@@ -26,7 +27,7 @@ pub lower-two-regions-listing : settle (book-bytes lower-two-regions)
     ++ (text "unit 4 default 0 0 0 0 0\n"
     ++ text "residual default -800 -878155873 0 0 -23\n")))))))))))))))
 unfolding computing
-lower-two-regions-listing = refl
+lower-two-regions-listing = settled lower-two-regions refl
 
 pub default-reasons-listing : settle (book-bytes default-reasons)
     ≡ text "interval 102\n"
@@ -46,7 +47,7 @@ pub default-reasons-listing : settle (book-bytes default-reasons)
     ++ (text "unit 40 default -41 -34 0 0 -1\n"
     ++ text "residual default -1125010000 -937500465 0 0 -998\n"))))))))))))))
 unfolding computing
-default-reasons-listing = refl
+default-reasons-listing = settled default-reasons refl
 
 pub bad-frequency-points-listing : settle (book-bytes bad-frequency-points)
     ≡ text "interval 103\n"
@@ -58,7 +59,7 @@ pub bad-frequency-points-listing : settle (book-bytes bad-frequency-points)
     ++ (text "unit 2 default -2 -222222222 0 0 -18\n"
     ++ text "residual default -7 -777777778 0 0 -82\n"))))))
 unfolding computing
-bad-frequency-points-listing = refl
+bad-frequency-points-listing = settled bad-frequency-points refl
 
 pub sign-turned-listing : settle (book-bytes sign-turned)
     ≡ text "interval 104\n"
@@ -76,9 +77,9 @@ pub sign-turned-listing : settle (book-bytes sign-turned)
     ++ (text "unit 3 live 731250000 47619048 54 0 0\n"
     ++ text "residual live -56250000 -3663004 -4 0 0\n"))))))))))))
 unfolding computing
-sign-turned-listing = refl
+sign-turned-listing = settled sign-turned refl
 
-pub unplaced-amounts-listing : settle (book-bytes unplaced-amounts)
+pub unplaced-listing : settle (book-bytes unplaced)
     ≡ text "interval 105\n"
     ++ (text "requirement 1 raise 0 0 501 500 501 500\n"
     ++ (text "unit 1 live 0 0 0 0 0\n"
@@ -92,7 +93,7 @@ pub unplaced-amounts-listing : settle (book-bytes unplaced-amounts)
     ++ (text "unit 3 default -5 -1000000000 0 0 -500\n"
     ++ text "residual default 0 0 0 0 0\n"))))))))))
 unfolding computing
-unplaced-amounts-listing = refl
+unplaced-listing = settled unplaced refl
 
 pub ramp-listing : settle (book-bytes ramp)
     ≡ text "interval 106\n"
@@ -107,7 +108,7 @@ pub ramp-listing : settle (book-bytes ramp)
     ++ (text "unit 65535 live -351500000 -69029851 -8 0 0\n"
     ++ text "residual live -4740500000 -930970149 -105 -7 0\n")))))))))
 unfolding computing
-ramp-listing = refl
+ramp-listing = settled ramp refl
 
 pub ties-listing : settle (book-bytes ties)
     ≡ text "interval 107\n"
@@ -119,7 +120,7 @@ pub ties-listing : settle (book-bytes ties)
     ++ (text "unit 5 live 337500000 1000000000 10 0 -2\n"
     ++ text "residual live 0 0 0 0 -2\n"))))))
 unfolding computing
-ties-listing = refl
+ties-listing = settled ties refl
 
 pub no-units-listing : settle (book-bytes no-units)
     ≡ text "interval 0\n"
@@ -128,7 +129,7 @@ pub no-units-listing : settle (book-bytes no-units)
     ++ (text "requirement 1 lower 0 0 0 50 0 0\n"
     ++ text "residual default 0 0 0 0 -50\n")))
 unfolding computing
-no-units-listing = refl
+no-units-listing = settled no-units refl
 
 pub one-side-listing : settle (book-bytes one-side)
     ≡ text "interval 108\n"
@@ -146,4 +147,4 @@ pub one-side-listing : settle (book-bytes one-side)
     ++ (text "unit 1 live -10200000000 -1000000000 -100 -25 0\n"
     ++ text "residual live 10200000000 1000000000 100 0 0\n"))))))))))))
 unfolding computing
-one-side-listing = refl
+one-side-listing = settled one-side refl

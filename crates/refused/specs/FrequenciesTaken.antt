@@ -1,0 +1,32 @@
+-- Whatever follows the frequency records of the book that is changed, they are taken, and the units come next: tables of unit fields compute no more than the
+-- first unit.
+use mathlib.Core.Path.{_≡_, refl}
+use mathlib.Core.List.{List}
+use Prim.Native.Nat.{ℕ}
+use lib.ListN.{drop}
+use Rattle.integers.specs.Sums.{every}
+use Rattle.rules.specs.Refusals.{Reply, taken, _>>=_}
+use Rattle.rules.specs.Bytes.{little, listed}
+use Rattle.rules.specs.Book.{Book}
+use Rattle.rules.specs.Contents.{contents}
+use Rattle.rules.specs.SettingsRecord.{settings}
+use Rattle.rules.specs.FrequencyRecord.{region-in, frequency-record}
+use Rattle.rules.specs.WholeBook.{frequency-body, unit-body, requirement-body, book}
+use Rattle.rules.specs.Writing.{bytes, concat, bits, regions-bytes, book-bytes}
+use Rattle.rules.specs.WorkedBooks.{every-field}
+use Rattle.refused.specs.Changed.{Next}
+
+abbrev pub units : List ℕ → Reply Book
+units bs = do
+  us ← unit-body 2 0 bs
+  qs ← requirement-body 2 0 (drop 744 bs)
+  taken (record { settings = every-field .settings; regions = every-field .regions; roster = us; requirements = qs })
+
+-- opens what is computed before the units
+unfoldable pub before-units : Unit {0}
+unfolding every little listed contents settings region-in frequency-record frequency-body book bytes concat bits regions-bytes book-bytes
+before-units = tt
+
+pub frequencies-taken : Next 1_904 2_276 units
+unfolding before-units
+frequencies-taken = record { is = λ f. refl }

@@ -1,0 +1,13 @@
+pub mod Changed
+pub mod TableFields
+pub mod SettingsFields
+pub mod FrequencyFields
+pub mod LaterRegions
+pub mod FrequenciesTaken
+pub mod UnitFields
+pub mod UnitPoints
+pub mod UnitNumbers
+pub mod UnitsTaken
+pub mod RequirementFields
+pub mod ShareLimits
+pub mod UnitReach

@@ -1,0 +1,84 @@
+-- The bytes that the theorems on worked books speak of are those that the second program was given (tests/worked/): how many they are, and the number that
+-- they hold, the lowest byte first, modulo 2^61 - 1.
+use mathlib.Core.Path.{_≡_, refl}
+use mathlib.Core.List.{List}
+use Prim.Native.Nat.{ℕ, _-_, _%_, _^_}
+use lib.ListN.{length}
+use Rattle.rules.specs.Bytes.{little}
+use Rattle.rules.specs.Book.{Book}
+use Rattle.rules.specs.Writing.{book-bytes}
+use Rattle.rules.specs.PaperBook.{paper-book}
+use Rattle.rules.specs.Computing.{computing}
+use Rattle.rules.specs.WorkedBooks.{
+  lower-two-regions,
+  default-reasons,
+  bad-frequency-points,
+  sign-turned,
+  unplaced,
+  ramp,
+  ties,
+  no-units,
+  one-side,
+  lower-defaults,
+  edges-of-reliability,
+  every-field,
+}
+
+abbrev sum-of : List ℕ → ℕ
+sum-of bs = little (length bs) bs % (2 ^ 61 - 1)
+
+pub record Written (b : Book) (size sum : ℕ) : Type 0 where
+  pub long : length (book-bytes b) ≡ size
+  pub same : sum-of (book-bytes b) ≡ sum
+
+pub listing-bytes : Written (paper-book 7) 2_672 582_451_421_918_691_198
+unfolding computing
+listing-bytes = record { long = refl; same = refl }
+
+pub lower-two-regions-bytes : Written lower-two-regions 3_464 942_753_594_471_135_770
+unfolding computing
+lower-two-regions-bytes = record { long = refl; same = refl }
+
+pub default-reasons-bytes : Written default-reasons 3_464 1_408_092_620_199_213_228
+unfolding computing
+default-reasons-bytes = record { long = refl; same = refl }
+
+pub bad-frequency-points-bytes : Written bad-frequency-points 3_068 1_779_637_715_067_170_037
+unfolding computing
+bad-frequency-points-bytes = record { long = refl; same = refl }
+
+pub sign-turned-bytes : Written sign-turned 3_092 232_473_964_471_579_033
+unfolding computing
+sign-turned-bytes = record { long = refl; same = refl }
+
+pub unplaced-bytes : Written unplaced 3_092 1_197_791_322_603_962_170
+unfolding computing
+unplaced-bytes = record { long = refl; same = refl }
+
+pub ramp-bytes : Written ramp 3_068 410_175_134_122_094_869
+unfolding computing
+ramp-bytes = record { long = refl; same = refl }
+
+pub ties-bytes : Written ties 3_788 620_946_666_678_711_222
+unfolding computing
+ties-bytes = record { long = refl; same = refl }
+
+pub no-units-bytes : Written no-units 1_952 1_327_595_529_959_441_035
+unfolding computing
+no-units-bytes = record { long = refl; same = refl }
+
+pub one-side-bytes : Written one-side 2_744 490_266_685_620_937_649
+unfolding computing
+one-side-bytes = record { long = refl; same = refl }
+
+pub lower-defaults-bytes : Written lower-defaults 3_140 2_121_505_589_262_203_625
+unfolding computing
+lower-defaults-bytes = record { long = refl; same = refl }
+
+pub edges-of-reliability-bytes : Written edges-of-reliability 2_024 1_898_456_522_626_612_499
+unfolding computing
+edges-of-reliability-bytes = record { long = refl; same = refl }
+
+pub every-field-bytes : Written every-field 2_696 1_573_966_949_096_326_953
+unfolding computing
+every-field-bytes = record { long = refl; same = refl }

@@ -1,0 +1,72 @@
+-- Both sides of the edges of reliability, for lower and for raise, from the bytes to the listing: what each requirement gives is a theorem of its own, and the
+-- listing follows from them. The figures are the second program's (tests/worked/).
+use mathlib.Core.Path.{_≡_, refl, _∙_}
+use mathlib.Core.List.{List, _++_}
+use Prim.Native.Nat.{ℕ}
+use lib.ListN.{getD}
+use Rattle.rules.specs.Refusals.{taken}
+use Rattle.rules.specs.WholeBook.{book}
+use Rattle.rules.specs.Answer.{answer}
+use Rattle.rules.specs.Text.{text, digits, words}
+use Rattle.rules.specs.Listing.{answer-lines, joined, listing, settle}
+use Rattle.rules.specs.Writing.{book-bytes, settled}
+use Rattle.rules.specs.PaperBook.{requirement}
+use Rattle.rules.specs.Computing.{computing}
+use Rattle.rules.specs.WorkedBooks.{edges-of-reliability}
+
+-- the lines of a requirement, by its place in the book
+abbrev lines : ℕ → List ℕ
+lines i = answer-lines (answer edges-of-reliability (getD (edges-of-reliability .requirements) i requirement))
+
+pub read : book (book-bytes edges-of-reliability) ≡ taken edges-of-reliability
+unfolding computing
+read = refl
+
+-- one FM of -10,001 and six of -1, most of them at bad points
+pub lower-seven-points : lines 0
+    ≡ text "requirement 0 lower 0 0 20 30 20 0\n"
+    ++ text "residual live 0 0 0 0 -30\n"
+unfolding computing
+lower-seven-points = refl
+
+pub lower-six-points : lines 1
+    ≡ text "requirement 1 lower 0 0 0 50 0 0\n"
+    ++ text "residual default -24 -1000000000 0 0 -50\n"
+unfolding computing
+lower-six-points = refl
+
+-- FM -10,000 at all points
+pub lower-none-beyond : lines 2
+    ≡ text "requirement 2 lower 0 0 0 50 0 0\n"
+    ++ text "residual default -34 -1000000000 0 0 -50\n"
+unfolding computing
+lower-none-beyond = refl
+
+-- the same mirrored
+pub raise-seven-points : lines 3
+    ≡ text "requirement 3 raise 0 0 20 30 20 0\n"
+    ++ text "residual live 0 0 0 0 -30\n"
+unfolding computing
+raise-seven-points = refl
+
+pub raise-six-points : lines 4
+    ≡ text "requirement 4 raise 0 0 0 50 0 0\n"
+    ++ text "residual default -51 -1000000000 0 0 -50\n"
+unfolding computing
+raise-six-points = refl
+
+pub edges-of-reliability-listing : settle (book-bytes edges-of-reliability)
+    ≡ text "interval 110\n"
+    ++ (text "requirement 0 lower 0 0 20 30 20 0\n"
+    ++ (text "residual live 0 0 0 0 -30\n"
+    ++ (text "requirement 1 lower 0 0 0 50 0 0\n"
+    ++ (text "residual default -24 -1000000000 0 0 -50\n"
+    ++ (text "requirement 2 lower 0 0 0 50 0 0\n"
+    ++ (text "residual default -34 -1000000000 0 0 -50\n"
+    ++ (text "requirement 3 raise 0 0 20 30 20 0\n"
+    ++ (text "residual live 0 0 0 0 -30\n"
+    ++ (text "requirement 4 raise 0 0 0 50 0 0\n"
+    ++ text "residual default -51 -1000000000 0 0 -50\n")))))))))
+unfolding listing joined text digits words
+edges-of-reliability-listing =
+    settled edges-of-reliability read ∙ rw (lower-seven-points, lower-six-points, lower-none-beyond, raise-seven-points, raise-six-points)

@@ -1,0 +1,282 @@
+//! The theorems on worked books say what the second program says, of the same bytes: their figures are read
+//! from the files in which they stand, and held to the books and listings of tests/worked.
+
+mod common;
+
+use std::fs;
+use std::path::{Path, PathBuf};
+
+use common::refusal;
+use second::book::{Refusal, Requirement, Unit, CONTENTS_SIZE};
+use second::quantities::Direction;
+use second::share::share;
+use second::sweep::put;
+use second::worked;
+use second::write::{base_book, base_requirement, base_unit, to_bytes};
+
+fn top() -> PathBuf {
+    Path::new(env!("CARGO_MANIFEST_DIR")).join("..")
+}
+
+fn theorems(krate: &str, module: &str) -> String {
+    let path = top().join(format!("crates/{krate}/specs/{module}.antt"));
+    fs::read_to_string(&path).unwrap_or_else(|error| panic!("{}: {error}", path.display()))
+}
+
+/// The modules of a crate, as its root names them.
+fn modules(krate: &str) -> Vec<String> {
+    theorems(krate, "Lib")
+        .lines()
+        .filter_map(|line| line.strip_prefix("pub mod "))
+        .map(str::to_string)
+        .collect()
+}
+
+/// The book of a theorem's name, and its listing.
+fn kept(name: &str, ending: &str) -> Vec<u8> {
+    let path = top().join(format!("tests/worked/{}.{ending}", name.replace('-', "_")));
+    fs::read(&path).unwrap_or_else(|error| panic!("{}: {error}", path.display()))
+}
+
+/// The text without comments, as words; brackets are words of their own.
+fn words(text: &str) -> Vec<String> {
+    let code: Vec<&str> = text.lines().map(|line| line.split("--").next().unwrap_or("")).collect();
+    let spaced = code.join(" ").replace('(', " ( ").replace(')', " ) ");
+    spaced.split_whitespace().map(str::to_string).collect()
+}
+
+fn number(word: &str) -> i128 {
+    let plain = word.replace('_', "");
+    match plain.strip_prefix("0x") {
+        Some(digits) => i128::from_str_radix(digits, 16),
+        None => plain.parse(),
+    }
+    .unwrap_or_else(|_| panic!("no number: {word}"))
+}
+
+/// Each declaration `pub NAME : ...` that has a part before it, up to the next blank line.
+fn declarations(text: &str) -> Vec<(String, String)> {
+    text.split("\n\n")
+        .filter_map(|block| {
+            let at = block.find("pub ").filter(|&at| at == 0 || block[..at].ends_with('\n'))?;
+            let (name, rest) = block[at + 4..].split_once(" :")?;
+            Some((name.to_string(), rest.to_string()))
+        })
+        .collect()
+}
+
+/// The quoted texts of a declaration, one after the other.
+fn quoted(text: &str) -> String {
+    text.split("text \"")
+        .skip(1)
+        .map(|part| part.split("\\n\"").next().unwrap_or("").to_string() + "\n")
+        .collect()
+}
+
+#[test]
+fn listings_are_those_of_the_second_program() {
+    let mut seen = vec!["listing".to_string()];
+    for module in modules("worked") {
+        let mut lines = String::new();
+        for (name, statement) in declarations(&theorems("worked", &module)) {
+            let Some(book) = name.strip_suffix("-listing") else {
+                lines += &quoted(&statement);
+                continue;
+            };
+            let listing = String::from_utf8(kept(book, "listing")).unwrap();
+            assert!(statement.contains(&format!("settle (book-bytes {book})\n")), "{name}");
+            assert_eq!(quoted(&statement), listing, "{name}");
+            assert!(lines.is_empty() || listing.ends_with(&("\n".to_string() + &lines)), "{name}");
+            seen.push(book.replace('-', "_"));
+        }
+    }
+    let paper = theorems("paper", "PaperListing");
+    let lines =
+        paper.split("paper-lines =").nth(1).and_then(|rest| rest.split("\n\n").next()).expect("lines");
+    assert_eq!(format!("interval 7\n{}", quoted(lines)).as_bytes(), kept("listing", "listing"));
+    let mut names = stated();
+    names.sort_unstable();
+    seen.sort_unstable();
+    assert_eq!(seen, names);
+}
+
+/// The worked books that a theorem speaks of: all but those on which `settle` alone is run.
+fn stated() -> Vec<&'static str> {
+    const RUN_ALONE: [&str; 3] = ["byte_behind", "number_not_rising", "thirteen_units"];
+    worked::all().iter().map(|worked| worked.name).filter(|name| !RUN_ALONE.contains(name)).collect()
+}
+
+/// The number that the bytes hold, the lowest first, modulo 2^61 - 1.
+fn sum_of(bytes: &[u8]) -> i128 {
+    bytes.iter().rev().fold(0, |sum, &byte| (256 * sum + i128::from(byte)) % ((1 << 61) - 1))
+}
+
+#[test]
+fn bytes_are_those_that_the_second_program_is_given() {
+    let mut seen = 0;
+    for (name, statement) in declarations(&theorems("worked", "BookBytes")) {
+        let Some(book) = name.strip_suffix("-bytes") else { continue };
+        let all = words(&statement);
+        let says = all.iter().position(|word| word == "unfolding").expect("a theorem by computing");
+        let bytes = kept(book, "book");
+        let term = if book == "listing" { "( paper-book 7 )" } else { book };
+        assert_eq!(all[..says - 2].join(" "), format!("Written {term}"));
+        assert_eq!(number(&all[says - 2]), bytes.len() as i128, "{name}");
+        assert_eq!(number(&all[says - 1]), sum_of(&bytes), "{name}");
+        seen += 1;
+    }
+    assert_eq!(seen, stated().len());
+}
+
+/// A change of a table: the place, the width and the value of a field.
+type Change = (usize, usize, i128);
+
+/// The changes up to the end of their list, as `with 56 2 0 ∷ below 76 4 5_000_001 ∷ []`.
+fn changes(mut words: &[String]) -> Vec<Change> {
+    let mut all = Vec::new();
+    loop {
+        match words {
+            [open, rest @ ..] if open == "(" || open == "∷" => words = rest,
+            [end, ..] if end == "[]" => return all,
+            [kind, place, width, value, rest @ ..] => {
+                let sign = if kind == "below" { -1 } else { 1 };
+                assert!(kind == "with" || kind == "below", "{kind}");
+                all.push((number(place) as usize, number(width) as usize, sign * number(value)));
+                words = rest;
+            }
+            _ => panic!("a list that does not end"),
+        }
+    }
+}
+
+fn changed(size: usize, changes: &[Change]) -> Vec<u8> {
+    let mut bytes = kept("every_field", "book");
+    bytes.truncate(size);
+    changes.iter().for_each(|&(place, width, value)| put(&mut bytes, place, width, value));
+    bytes
+}
+
+/// The number of the refusal, 0 where the book is taken.
+fn number_of(bytes: &[u8]) -> i128 {
+    refusal(bytes).map_or(0, i128::from)
+}
+
+#[test]
+fn tables_of_changes_are_refused_so() {
+    let (mut alone, mut together) = (0, 0);
+    for module in modules("refused") {
+        for (name, statement) in declarations(&theorems("refused", &module)) {
+            let all = words(&statement);
+            let [kind, _start, size, expected, list @ ..] = &all[..] else { continue };
+            let (size, expected) = match kind.as_str() {
+                "Alone" | "Together" => (number(size) as usize, number(expected)),
+                _ => continue,
+            };
+            let list = changes(list);
+            if kind == "Together" {
+                assert_eq!(number_of(&changed(size, &list)), expected, "{module} {name}");
+                together += 1;
+                continue;
+            }
+            for change in list {
+                assert_eq!(number_of(&changed(size, &[change])), expected, "{module} {name} {change:?}");
+                alone += 1;
+            }
+        }
+    }
+    assert!(alone > 150 && together > 8, "{alone} alone, {together} together");
+}
+
+/// The table of contents of a book with so many units and requirements.
+fn table(units: usize, requirements: usize) -> Vec<u8> {
+    let mut book = base_book();
+    book.units = (0..units).map(|place| Unit { number: place as i128, ..base_unit(0, 0) }).collect();
+    book.requirements = (0..requirements)
+        .map(|place| Requirement { number: place as i128, ..base_requirement(0, 1, Direction::Raise) })
+        .collect();
+    to_bytes(&book)[..CONTENTS_SIZE].to_vec()
+}
+
+#[test]
+fn tables_of_contents_are_refused_so() {
+    let all = words(&theorems("refused", "TableFields"));
+    let mut seen = 0;
+    for at in 0..all.len() {
+        if let [is, open, word, units, requirements, close, same, expected, ..] = &all[at..] {
+            if [is, open, word, close, same].map(String::as_str) == ["refusal", "(", "table", ")", "≡"] {
+                let bytes = table(number(units) as usize, number(requirements) as usize);
+                assert_eq!(number_of(&bytes), number(expected), "{units} {requirements}");
+                seen += 1;
+            }
+        }
+    }
+    assert_eq!(seen, 6);
+}
+
+#[test]
+fn shares_are_refused_so() {
+    let all = words(&theorems("refused", "ShareLimits"));
+    let mut seen = 0;
+    for at in 0..all.len() {
+        let [call, total, open, rest @ ..] = &all[at..] else { continue };
+        if call != "share-reply" || open != "(" {
+            continue;
+        }
+        let end = rest.iter().position(|word| word == "[]").expect("the end of the weights");
+        let weights: Vec<i128> =
+            rest[..end].iter().filter(|word| *word != "∷").map(|word| number(word)).collect();
+        let room = number(&rest[end + 2]) as usize;
+        let answer = if room < weights.len() { Err(Refusal(12)) } else { share(number(total), &weights) };
+        let same = rest.iter().position(|word| word == "≡").expect("what it is");
+        match (&rest[same + 1], answer) {
+            (word, Ok(shared)) if word == "taken" => {
+                assert_eq!(number(&rest[same + 2]), shared.unplaced, "{at}")
+            }
+            (word, Ok(_)) => assert_eq!(number(word), 0, "{at}"),
+            (word, Err(Refusal(refused))) => assert_eq!(number(word), i128::from(refused), "{at}"),
+        }
+        seen += 1;
+    }
+    assert_eq!(seen, 10);
+}
+
+/// The bytes of a term such as `with 2276 1 (with 2279 2 paper)` and the words behind it.
+fn term(all: &[String]) -> (Vec<u8>, &[String]) {
+    let (mut bytes, mut rest) = match all {
+        [word, rest @ ..] if word == "paper" => (kept("listing", "book"), rest),
+        [word, place, byte, rest @ ..] if word == "with" => {
+            let (mut bytes, rest) = term(rest);
+            bytes[number(place) as usize] = number(byte) as u8;
+            (bytes, rest)
+        }
+        [open, rest @ ..] if open == "(" => {
+            let (bytes, rest) = term(rest);
+            assert_eq!(rest[0], ")");
+            (bytes, &rest[1..])
+        }
+        _ => panic!("no term: {:?}", all.first()),
+    };
+    if let [plus, open, byte, ..] = rest {
+        if plus == "++" && open == "(" {
+            bytes.push(number(byte) as u8);
+            rest = &rest[6..];
+        }
+    }
+    (bytes, rest)
+}
+
+#[test]
+fn refused_books_are_refused_so() {
+    let text = theorems("paper", "RefusedBooks");
+    let all = words(text.split("pub record RefusedBooks").nth(1).expect("the record"));
+    let mut seen = 0;
+    for at in 0..all.len() {
+        if all[at..].len() > 3 && all[at] == "number-of" && all[at + 1] == "(" && all[at + 2] == "book" {
+            let (bytes, rest) = term(&all[at + 3..]);
+            assert_eq!((rest[0].as_str(), rest[1].as_str()), (")", "≡"), "{}", all[at - 2]);
+            assert_eq!(number_of(&bytes), number(&rest[2]), "{}", all[at - 2]);
+            seen += 1;
+        }
+    }
+    assert_eq!(seen, 19);
+}
