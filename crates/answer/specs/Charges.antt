@@ -6,8 +6,8 @@ use Prim.Native.Nat.{ℕ, _-_, _≤_, _<_}
 use lib.IntN.{ℤ}
 use Rattle.rules.specs.Quantities.{cost-limit, amount-limit}
 use Rattle.book.specs.declared.RequirementFields.{RequirementFields}
-use Rattle.members.specs.declared.Field.the-variants.{Used, Unused}
-use Rattle.members.specs.Lists.{headed}
+use Rattle.answer.specs.declared.Field.the-variants.{Used, Unused}
+use Rattle.answer.specs.Lists.{headed}
 use Rattle.answer.specs.declared.charges.Charges.{Charges}
 use Rattle.answer.specs.Pools.{used-cents}
 use Rattle.answer.specs.Shares.{numbers, MembersReady, MembersCharged}

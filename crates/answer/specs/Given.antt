@@ -29,21 +29,21 @@ use Rattle.interval.specs.Lent.{series-start}
 use Rattle.kept.specs.Kept.{Kept, kept-members, kept-rcr, kept-reliable, kept-few-bad, kept-weighed, kept-positive, kept-negative, kept-response, kept-answer, residual-row, row-member, rows}
 use Rattle.kept.specs.Range.{series-fine, figures-fine, rows-fine, kept-fine, measures-fine, sums-fine}
 use Rattle.book.specs.declared.RequirementFields.{RequirementFields}
-use Rattle.ranges.specs.Lent.{lent, asked, kept-rows}
-use Rattle.ranges.specs.Places.{places-fine}
-use Rattle.ranges.specs.Rows.{rows-room, row-fine, rows-all-fine, rows-fine-is}
-use Rattle.response.specs.declared.Found.{Found}
-use Rattle.response.specs.declared.Response.{Response}
-use Rattle.response.specs.declared.Response.the-variants.{Is, Refused}
-use Rattle.response.specs.Promises.{room, lent-fine, rcr-reply, responded, RcrPromise}
+use Rattle.answer.specs.Asked.{lent, asked, kept-rows}
+use Rattle.answer.specs.Places.{places-fine}
+use Rattle.answer.specs.Rows.{rows-room, row-fine, rows-all-fine, rows-fine-is}
+use Rattle.answer.specs.declared.rcr.Found.{Found}
+use Rattle.answer.specs.declared.rcr.Response.{Response}
+use Rattle.answer.specs.declared.rcr.Response.the-variants.{Is, Refused}
+use Rattle.answer.specs.Rcr.{room, lent-fine, rcr-reply, responded, RcrPromise}
 use Rattle.rules.specs.declared.Refusal.{Refusal}
 use Rattle.rules.specs.Refusals.{taken}
 use Rattle.share.specs.Signs.{signs-at}
-use Rattle.members.specs.declared.Field.{Field}
-use Rattle.members.specs.declared.Field.the-variants.{Payment, Used, Unused}
-use Rattle.members.specs.Made.{field-of}
-use Rattle.members.specs.Lists.{headed}
-use Rattle.members.specs.Values.{values-room, values-of-kept, many-of-kept, last-of-kept}
+use Rattle.answer.specs.declared.Field.{Field}
+use Rattle.answer.specs.declared.Field.the-variants.{Payment, Used, Unused}
+use Rattle.answer.specs.Made.{field-of}
+use Rattle.answer.specs.Lists.{headed}
+use Rattle.answer.specs.Values.{values-room, values-of-kept, many-of-kept, last-of-kept}
 use Rattle.answer.specs.declared.Answer.{Answer}
 use Rattle.answer.specs.declared.charges.Charges.{Charges}
 use Rattle.answer.specs.declared.shares.Paid.{Paid}

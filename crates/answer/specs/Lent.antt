@@ -12,10 +12,10 @@ use Rattle.rules.specs.Quantities.{most-units}
 use Rattle.interval.specs.Lent.{series-length, figures-length}
 use Rattle.kept.specs.Kept.{Kept}
 use Rattle.kept.specs.Range.{series-fine, figures-fine, rows-fine}
-use Rattle.ranges.specs.Lent.{lent}
-use Rattle.ranges.specs.Series.{SeriesPromise}
-use Rattle.ranges.specs.Figures.{FiguresPromise}
-use Rattle.ranges.specs.Rows.{rows-room, rows-in-range, RowsPromise}
+use Rattle.answer.specs.Asked.{lent}
+use Rattle.answer.specs.Series.{SeriesPromise}
+use Rattle.answer.specs.Figures.{FiguresPromise}
+use Rattle.answer.specs.Rows.{rows-room, rows-in-range, RowsPromise}
 use Rattle.answer.specs.Promises.{kept-lists, lists-long, LentReady}
 
 module _ {n : ℕ} {ms ps ns fs : List ℤ} {qs : List ℕ} {xs ys ds : List ℤ} (h : LentReady n ms ps ns fs qs xs ys ds) where

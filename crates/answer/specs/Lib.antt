@@ -1,4 +1,19 @@
 -- The answer to a requirement
+pub mod Asked
+pub mod Sizes
+pub mod Defaults
+pub mod Series
+pub mod Figures
+pub mod Places
+pub mod Rows
+pub mod Rcr
+pub mod RcrLaws
+pub mod Made
+pub mod Residual
+pub mod Lists
+pub mod Values
+pub mod Roster
+pub mod Weights
 pub mod Pools
 pub mod Shares
 pub mod Promises

@@ -20,8 +20,8 @@ use Rattle.interval.specs.Tally.{in-range, answer-turn}
 use Rattle.interval.specs.Lent.{series-length, figures-length}
 use Rattle.kept.specs.Kept.{Kept, kept-answer}
 use Rattle.kept.specs.Range.{kept-fine}
-use Rattle.ranges.specs.Rows.{rows-room}
-use Rattle.members.specs.Lists.{headed}
+use Rattle.answer.specs.Rows.{rows-room}
+use Rattle.answer.specs.Lists.{headed}
 use Rattle.answer.specs.declared.Answer.{Answer}
 use Rattle.answer.specs.declared.Answered.{Answered}
 use Rattle.answer.specs.declared.Answered.the-variants.{Given, Refused}

@@ -22,7 +22,7 @@ use Rattle.rules.specs.ShareLaws.{never-left-overs}
 use Rattle.rules.specs.RequirementRecord.{set-fine}
 use Rattle.kept.specs.Kept.{Kept, residual-row, kept-members}
 use Rattle.kept.specs.Range.{figures-fine, rows-fine}
-use Rattle.ranges.specs.Lent.{kept-rows, asked}
+use Rattle.answer.specs.Asked.{kept-rows, asked}
 use Rattle.rules.specs.declared.Refusal.{Refusal}
 use Rattle.rules.specs.Members.{Member as Sharer}
 use Rattle.share.specs.declared.Shared.{Shared}
@@ -32,14 +32,14 @@ use Rattle.share.specs.declared.SharedSigns.{SharedSigns}
 use Rattle.share.specs.declared.SharedSigns.the-variants as ss
 use Rattle.share.specs.Promises.{debit, answered, where-taken, SharedOut}
 use Rattle.share.specs.Signs.{signs-at, answered-signs, SignsOut}
-use Rattle.members.specs.declared.Gathered.{Gathered}
-use Rattle.members.specs.declared.Gathered.the-variants.{Are, Refused}
-use Rattle.members.specs.declared.Field.{Field}
-use Rattle.members.specs.declared.Field.the-variants.{Payment}
-use Rattle.members.specs.Made.{field-of}
-use Rattle.members.specs.Lists.{headed, headed-length, headed-take}
-use Rattle.members.specs.Values.{values-room, Roomy, values-room-means, values-reply, values-taken, gathered-of, column-of, ValuesPromise, Fine, all-fine, members-few}
-use Rattle.members.specs.Sizes.{members-size}
+use Rattle.answer.specs.declared.Gathered.{Gathered}
+use Rattle.answer.specs.declared.Gathered.the-variants.{Are, Refused}
+use Rattle.answer.specs.declared.Field.{Field}
+use Rattle.answer.specs.declared.Field.the-variants.{Payment}
+use Rattle.answer.specs.Made.{field-of}
+use Rattle.answer.specs.Lists.{headed, headed-length, headed-take}
+use Rattle.answer.specs.Values.{values-room, Roomy, values-room-means, values-reply, values-taken, gathered-of, column-of, ValuesPromise, Fine, all-fine, members-few}
+use Rattle.answer.specs.Weights.{members-size}
 use Rattle.answer.specs.declared.shares.Payees.{Payees}
 use Rattle.answer.specs.declared.shares.Sides.{Sides}
 use Rattle.answer.specs.declared.shares.Paid.{Paid}

@@ -3,10 +3,10 @@ ghost use mathlib.Core.Path.{_≡_};
 ghost use lib.ListN.{length};
 ghost use Rattle.answer.specs.Charges.{CostReady, CostCharged};
 use super::Charge;
+use super::Field;
 use super::pools::used_pool;
 use super::shares::charge_members;
 use book::RequirementFields;
-use members::Field;
 
 // What is charged of a requirement's cost.
 pub(crate) struct Charges {

@@ -5,11 +5,12 @@ ghost use Rattle.answer.specs.Given.{FoundReady, found-is, gathered-answ
 use super::Answer;
 use super::charges::Charges;
 use super::charges::charge_cost;
+use super::rcr::Found;
+use super::rcr::Response;
+use super::rcr::rcr;
 use super::shares::Paid;
 use super::shares::pay;
 use book::RequirementFields;
-use response::Found;
-use response::Response;
 use rules::Direction;
 
 // RCR, and whether all regions are reliable. It has been tested that nothing is refused.
@@ -27,7 +28,7 @@ fn found_of(
     requires { ⌜ FoundReady units percent set (now measures) (now positive) (now negative) (now figures) (now places) ⌝ }
     ensures { λ r. ⌜ r ≡ found-is units percent direction set (now (measures .entry)) (now (positive .entry)) (now (negative .entry)) (now (figures .entry)) (now (places .entry)) ⌝ }
 {
-    let response = response::rcr(
+    let response = rcr(
         units,
         percent,
         direction,

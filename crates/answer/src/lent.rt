@@ -5,13 +5,11 @@ ghost use Prim.Native.Nat.{_*_, _≤_};
 ghost use lib.ListN.{length};
 ghost use Rattle.kept.specs.Range.{kept-fine};
 ghost use Rattle.answer.specs.Promises.{lists-long, columns-long, kept-lists, LentReady};
-use ranges::figures::figures_in_range;
-use ranges::rows::rows_in_range;
-use ranges::series::series_in_range;
-
-const SERIES_LENGTH: usize = 375;
-
-const FIGURES_LENGTH: usize = 45;
+use super::FIGURES_LENGTH;
+use super::SERIES_LENGTH;
+use super::figures::figures_in_range;
+use super::rows::rows_in_range;
+use super::series::series_in_range;
 
 // The series and figures of five regions, and a row for each unit: by the lengths of the lists.
 pub(crate) fn lists_long(

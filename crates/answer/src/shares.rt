@@ -4,9 +4,10 @@ ghost use Prim.Native.Nat.{_≤_, _<_};
 ghost use lib.ListN.{length, take};
 ghost use Rattle.integers.specs.Pairs.{gain, loss};
 ghost use Rattle.answer.specs.Shares.{MembersReady, Listed, WeightsFit, Charged, SignsShared, MembersCharged, MembersPaid};
+use super::Field;
+use super::Gathered;
 use super::pools::pool;
-use members::Field;
-use members::Gathered;
+use super::values::values;
 use rules::Direction;
 use rules::Standing;
 use share::Shared;
@@ -43,7 +44,7 @@ pub(crate) fn gather(
     requires { ⌜ MembersReady units direction set (now figures) (now places) (now raise) (now lower) (now defaults) (length (now column)) ⌝ }
     ensures { λ r. ⌜ Listed field units direction set (now (figures .entry)) (now (places .entry)) (now (raise .entry)) (now (lower .entry)) (now (defaults .entry)) (now (column .entry)) r (now (column .exit)) ⌝ }
 {
-    let gathered = members::values::values(
+    let gathered = values(
         field,
         units,
         direction,

@@ -3,7 +3,7 @@ use mathlib.Core.Path.{_≡_, refl, _∙_, ap}
 use Prim.Native.Nat.{_≤_}
 use lib.ListN.{length}
 use native.Mathlib.Omega.{arith}
-use Rattle.members.specs.Lists.{headed-length}
+use Rattle.answer.specs.Lists.{headed-length}
 use Rattle.answer.specs.Pools.{used-cents-≤}
 use Rattle.answer.specs.Charges.{cost-charged}
 use borrow.Author.Needs.{needs}

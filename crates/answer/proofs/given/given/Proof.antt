@@ -3,7 +3,7 @@ use mathlib.Core.Path.{_≡_, _∙_, ap}
 use Prim.Native.Nat.{_≤_}
 use lib.ListN.{length}
 use native.Mathlib.Omega.{arith}
-use Rattle.members.specs.Lists.{headed-length}
+use Rattle.answer.specs.Lists.{headed-length}
 use Rattle.answer.specs.Given.{rcr-ready, rcr-small, Rooms, rooms, members-ready, cost-ready, given-is}
 use borrow.Author.Needs.{needs}
 use Rattle.answer.proofs.given.given.Statement.{statement}
