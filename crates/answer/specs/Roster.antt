@@ -27,7 +27,7 @@ use Rattle.interval.specs.Lent.{figures-each, figures-length}
 use Rattle.kept.specs.Kept.{Kept, figure, region-of, row-standing, row-member, residual-row, rows, kept-members}
 use Rattle.kept.specs.Range.{from-0, figures-fine, rows-fine}
 use Rattle.answer.specs.Asked.{asked}
-use Rattle.answer.specs.Rows.{row-fine, rows-all-fine, rows-fine-is}
+use Rattle.answer.specs.Ranges.{row-fine}
 use Rattle.answer.specs.declared.Row.{Row}
 use Rattle.answer.specs.declared.Row.the-variants.{Unit, Other, Refused}
 use Rattle.answer.specs.Made.{reliable-at, flag}
@@ -146,8 +146,8 @@ module _ (k : Kept) (q : Requirement) (i : ℕ) where
       go Lower = both (from-0 k 1 (figure k r 2)) _ (both (from-0 k 1 (figure k r 1)) _ first .1) .0
 
   pub member-taken : (leb (k .units) most-units && set-fine (q .set)) ≡ true → i < k .units → figures-length ≤ length (k .figures) → k .units ≤ length (k .numbers) → k .units ≤ length (k .places) → figures-fine k ≡ true → rows-fine k ≡ true → member-reply k q i ≡ taken (row-of k q i)
-  unfolding member-reply rows-all-fine
+  unfolding member-reply rows-fine
   member-taken a l fs us qs f r =
-      let row = every-at (k .units) (λ j. row-fine j (k .places) (k .raise) (k .lower) (k .defaults)) (sym (rows-fine-is k) ∙ r) i l in
+      let row = every-at (k .units) (λ j. row-fine j (k .places) (k .raise) (k .lower) (k .defaults)) r i l in
       let place = both (ltb (getD (k .places) i 0) (2 * regions)) _ row .0 in
       rw (a, lt-ltb i (k .units) l, le-leb figures-length (length (k .figures)) fs, le-leb (k .units) (length (k .numbers)) us, le-leb (k .units) (length (k .places)) qs, place, figure-fine (q .direction) (ltb-true _ _ place) f)

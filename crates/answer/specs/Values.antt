@@ -1,92 +1,36 @@
--- What `values` promises: the members' numbers of one field, in roster order, then the residual's (01, Members).
+-- The members' numbers of one field, in roster order, then the residual's (01, Members): what the functions that gather them promise each other.
 use mathlib.Core.Path.{_≡_, refl, sym, _∙_, ap, ap₂}
 use mathlib.Core.Bool.{Bool, true, false, cond, _&&_}
 use mathlib.Core.List.{List, [], _∷_, _++_, map, map-append, append-nil}
 use Prim.Native.Nat.{ℕ, _+_, _*_, _≤_, _<_}
 use native.Mathlib.Omega.{arith}
-use lib.Dec.{leb, ltb}
+use lib.Dec.{ltb}
 use lib.IntN.{ℤ, pos}
 use lib.ListN.{length, getD, set, length-append, length-map}
-use borrow.Author.Tests.{leb-true, ltb-true}
+use borrow.Author.Tests.{ltb-true}
 use Rattle.integers.specs.Bounds.{Within, within-both}
 use Rattle.integers.specs.Order.{≤ℤ-trans}
 use Rattle.integers.specs.Pairs.{le-out}
 use Rattle.integers.specs.Tests.{leZ-true}
 use Rattle.integers.specs.Sums.{both, every-at}
 use Rattle.rules.specs.declared.Direction.{Direction}
-use Rattle.rules.specs.declared.Refusal.the-variants.{OutOfTurn, TooShort}
-use Rattle.rules.specs.declared.Standing.{Standing}
-use Rattle.rules.specs.Quantities.{regions, most-units, amount-limit, performance-limit, unit-default-limit, residual-default-limit}
-use Rattle.rules.specs.Refusals.{Reply, taken, refused, unless}
+use Rattle.rules.specs.Quantities.{regions, amount-limit, performance-limit, unit-default-limit, residual-default-limit}
 use Rattle.rules.specs.Bytes.{bit}
 use Rattle.rules.specs.Book.{Requirement}
-use Rattle.rules.specs.RequirementRecord.{set-fine}
 use Rattle.rules.specs.Fields.{sized, default-fine}
 use Rattle.rules.specs.LimitsLaws.{size-fits}
-use Rattle.rules.specs.Members.{Member as Sharer}
-use Rattle.interval.specs.Lent.{figures-each, figures-length}
+use Rattle.interval.specs.Lent.{figures-each}
 use Rattle.kept.specs.Kept.{Kept, figure, row-member, residual-row, rows, kept-members}
-use Rattle.kept.specs.Range.{from-0, figures-fine, rows-fine}
+use Rattle.kept.specs.Range.{from-0, series-fine, figures-fine, rows-fine, kept-fine}
 use Rattle.answer.specs.Asked.{kept-rows, asked}
-use Rattle.answer.specs.Rows.{rows-room, room-means, row-fine, rows-all-fine, rows-fine-is}
+use Rattle.answer.specs.Ranges.{row-fine}
+use Rattle.answer.specs.Lent.{Long}
 use Rattle.answer.specs.declared.Field.{Field}
 use Rattle.answer.specs.declared.Field.the-variants.{Payment}
-use Rattle.answer.specs.declared.Gathered.{Gathered}
-use Rattle.answer.specs.declared.Gathered.the-variants.{Are, Refused}
 use Rattle.answer.specs.declared.Member.{Member}
 use Rattle.answer.specs.Made.{picked, field-of, field-shown, place-region, unit-made, row-shown, RowReady, residual-to, residual-shown}
 use Rattle.answer.specs.Residual.{RegionsFit}
 use Rattle.answer.specs.Lists.{headed, headed-none, headed-more, gathered, gathered-none, gathered-more, gathered-length}
-
--- ---- room, by the lengths of the lists: the column takes one number more than there are units
-abbrev pub values-room : ℕ → ℕ → ℕ → ℕ → ℕ → ℕ → ℕ → Bool
-values-room units figures places raise lower defaults column =
-    leb figures-length figures && (ltb units column && rows-room units places raise lower defaults)
-
-pub record Roomy (n fs qs xs ys ds c : ℕ) : Type 0 where
-  pub figures : figures-length ≤ fs
-  pub column : n < c
-  pub rows : rows-room n qs xs ys ds ≡ true
-
-pub values-room-means : (units figures places raise lower defaults column : ℕ) → values-room units figures places raise lower defaults column ≡ true → Roomy units figures places raise lower defaults column
-values-room-means units figures places raise lower defaults column e =
-    let a = both (leb figures-length figures) _ e in
-    let b = both (ltb units column) _ (a .1) in
-    record { figures = leb-true _ _ (a .0); column = ltb-true _ _ (b .0); rows = b .1 }
-
--- 11 for fields that break their rule, 12 for a short list, 11 for a lent number out of range; else the members
-unfoldable pub values-reply : Kept → Requirement → ℕ → Reply (List Sharer)
-values-reply k q room =
-    unless (leb (k .units) most-units && set-fine (q .set)) OutOfTurn
-    (unless (values-room (k .units) (length (k .figures)) (length (k .places)) (length (k .raise)) (length (k .lower)) (length (k .defaults)) room) TooShort
-    (unless (figures-fine k && rows-fine k) OutOfTurn (taken (kept-members k q))))
-
--- a call that passes its tests
-pub values-taken : (k : Kept) (q : Requirement) (room : ℕ) → (leb (k .units) most-units && set-fine (q .set)) ≡ true → values-room (k .units) (length (k .figures)) (length (k .places)) (length (k .raise)) (length (k .lower)) (length (k .defaults)) room ≡ true → (figures-fine k && rows-fine k) ≡ true → values-reply k q room ≡ taken (kept-members k q)
-unfolding values-reply
-values-taken k q room a b c = rw (a, b, c)
-
-abbrev pub gathered-of : Standing → Reply (List Sharer) → Gathered
-gathered-of s (taken ms) = Are (length ms) s
-gathered-of s (refused r) = Refused r
-
-abbrev pub column-of : Field → Reply (List Sharer) → List ℤ → List ℤ
-column-of f (taken ms) old = headed (map (field-of f) ms) old
-column-of f (refused r) old = old
-
-module _ (f : Field) (units : ℕ) (d : Direction) (set : ℕ) (figures : List ℤ) (places : List ℕ) (raise lower defaults old : List ℤ) where
-  abbrev pub all-kept : Kept
-  all-kept = kept-rows units figures places raise lower defaults
-
-  abbrev pub reply-of : Reply (List Sharer)
-  reply-of = values-reply all-kept (asked d set) (length old)
-
-  pub record ValuesPromise (r : Gathered) (new : List ℤ) : Type 0 where
-    pub reply : r ≡ gathered-of (residual-row all-kept (asked d set) .standing) reply-of
-    pub column : new ≡ column-of f reply-of old
-
-  pub values-only : {r r′ : Gathered} {new new′ : List ℤ} → ValuesPromise r new → ValuesPromise r′ new′ → (r ≡ r′) × (new ≡ new′)
-  values-only a b = (a .reply ∙ sym (b .reply), a .column ∙ sym (b .column))
 
 -- ---- what the parts promise each other
 module _ (f : Field) (d : Direction) (set : ℕ) (figures : List ℤ) (places : List ℕ) (raise lower defaults : List ℤ) where
@@ -190,54 +134,70 @@ pub record Fine (units : ℕ) (fs : List ℤ) (qs : List ℕ) (xs ys ds : List �
   pub regions : RegionsFit units fs qs xs ys
   pub defaults : (i f : ℕ) → i < units → f < 6 → Within unit-default-limit (getD ds (6 * i + f) (pos 0))
 
-module _ (k : Kept) (few : k .units ≤ most-units) (long : figures-length ≤ length (k .figures)) (room : rows-room (k .units) (length (k .places)) (length (k .raise)) (length (k .lower)) (length (k .defaults)) ≡ true) (fine : (figures-fine k && rows-fine k) ≡ true) where
-  row-is : (i : ℕ) → i < k .units → row-fine i (k .places) (k .raise) (k .lower) (k .defaults) ≡ true
-  unfolding rows-all-fine
-  row-is i l = every-at (k .units) (λ i. row-fine i (k .places) (k .raise) (k .lower) (k .defaults)) (sym (rows-fine-is k) ∙ both (figures-fine k) (rows-fine k) fine .1) i l
+module _ (k : Kept) (long : Long k) (fine : kept-fine k ≡ true) where
+  lent : (figures-fine k ≡ true) × (rows-fine k ≡ true)
+  lent = both (figures-fine k) (rows-fine k) (both (series-fine k) _ fine .1)
 
-  parts : (i : ℕ) → i < k .units → (getD (k .places) i 0 < 10) × Within performance-limit (getD (k .raise) i (pos 0)) × Within performance-limit (getD (k .lower) i (pos 0)) × ((f : ℕ) → f < 6 → Within unit-default-limit (getD (k .defaults) (6 * i + f) (pos 0)))
+  parts :
+      (i : ℕ) → i < k .units →
+      (getD (k .places) i 0 < 10) × Within performance-limit (getD (k .raise) i (pos 0)) × Within performance-limit (getD (k .lower) i (pos 0))
+      × ((f : ℕ) → f < 6 → Within unit-default-limit (getD (k .defaults) (6 * i + f) (pos 0)))
+  unfolding rows-fine
   parts i l =
-      let a = both (ltb (getD (k .places) i 0) (2 * regions)) _ (row-is i l) in
+      let row = every-at (k .units) (λ i. row-fine i (k .places) (k .raise) (k .lower) (k .defaults)) (lent .1) i l in
+      let a = both (ltb (getD (k .places) i 0) (2 * regions)) _ row in
       let b = both (sized performance-limit (getD (k .raise) i (pos 0))) _ (a .1) in
       let c = both (sized performance-limit (getD (k .lower) i (pos 0))) _ (b .1) in (
         ltb-true _ _ (a .0),
         size-fits performance-limit _ (b .0),
         size-fits performance-limit _ (c .0),
-        λ f m. default-within unit-default-limit _ (every-at 6 (λ f. default-fine unit-default-limit (getD (k .defaults) (6 * i + f) (pos 0))) (c .1) f m),
+        λ f m.
+            default-within unit-default-limit _
+            (every-at 6 (λ f. default-fine unit-default-limit (getD (k .defaults) (6 * i + f) (pos 0))) (c .1) f m),
       )
 
   default-is : (r f : ℕ) → r < regions → f < 6 → Within residual-default-limit (getD (k .figures) (figures-each * r + (3 + f)) (pos 0))
   unfolding figures-fine
   default-is r f l m =
-      let region = every-at regions _ (both (figures-fine k) (rows-fine k) fine .0) r l in
+      let region = every-at regions _ (lent .0) r l in
       let after = both (from-0 k 1 (figure k r 1)) _ (both (from-0 k amount-limit (figure k r 0)) _ region .1) .1 in
-      default-within residual-default-limit _ (every-at 6 (λ i. default-fine residual-default-limit (figure k r (3 + i))) (both (from-0 k 1 (figure k r 2)) _ after .1) f m)
+      default-within residual-default-limit _
+      (every-at 6 (λ i. default-fine residual-default-limit (figure k r (3 + i))) (both (from-0 k 1 (figure k r 2)) _ after .1) f m)
 
   pub all-fine : Fine (k .units) (k .figures) (k .places) (k .raise) (k .lower) (k .defaults)
   all-fine =
-      let m = room-means (k .units) (length (k .places)) (length (k .raise)) (length (k .lower)) (length (k .defaults)) room in
       record {
         rows = record {
           ready =
               λ i l.
               record {
-                few = omega arith;
-                figures = long;
-                places = omega (arith, m .0);
-                raise = omega (arith, m .1);
-                lower = omega (arith, m .2);
-                defaults = omega (arith, m .3);
+                few = omega (arith, long .few);
+                figures = long .figures;
+                places = omega (arith, long .places);
+                raise = omega (arith, long .raise);
+                lower = omega (arith, long .lower);
+                defaults = omega (arith, long .defaults);
                 place = parts i l .0;
               };
         };
         regions = record {
-          figures = long;
-          raise = record { few = few; places = m .0; room = m .1; within = λ i l. parts i l .1 };
-          lower = record { few = few; places = m .0; room = m .2; within = λ i l. parts i l .2 };
+          figures = long .figures;
+          raise = record { few = long .few; places = long .places; room = long .raise; within = λ i l. parts i l .1 };
+          lower = record { few = long .few; places = long .places; room = long .lower; within = λ i l. parts i l .2 };
           defaults = default-is;
         };
         defaults = λ i f l m. parts i l .3 f m;
       }
+
+-- the members' numbers can be listed: the rows and the residual are there, and the column takes one number more than there are units
+pub record MembersReady (units : ℕ) (d : Direction) (set : ℕ) (fs : List ℤ) (qs : List ℕ) (xs ys ds : List ℤ) (residual : Member) (room : ℕ) : Type 0 where
+  pub fine : Fine units fs qs xs ys ds
+  pub last : residual ≡ residual-to d set units fs qs xs ys regions
+  pub column : units < room
+
+pub record Listed (f : Field) (units : ℕ) (d : Direction) (set : ℕ) (fs : List ℤ) (qs : List ℕ) (xs ys ds old : List ℤ) (r : ℕ) (new : List ℤ) : Type 0 where
+  pub many : r ≡ length (kept-members (kept-rows units fs qs xs ys ds) (asked d set))
+  pub column : new ≡ headed (map (field-of f) (kept-members (kept-rows units fs qs xs ys ds) (asked d set))) old
 
 -- ---- the residual's number behind those of the rows
 module _ (f : Field) (k : Kept) (q : Requirement) (old : List ℤ) where

@@ -2,7 +2,7 @@
 ghost use mathlib.Core.Path.{_≡_};
 ghost use Prim.Native.Nat.{_+_, _≤_};
 ghost use lib.ListN.{length};
-ghost use Rattle.answer.specs.Defaults.{six-fine};
+ghost use Rattle.answer.specs.Ranges.{six-fine};
 use super::sizes::between;
 
 // Are six numbers from a place on at most 0, and at least `least`?

@@ -2,9 +2,8 @@
 ghost use mathlib.Core.Path.{_≡_};
 ghost use Prim.Native.Nat.{_≤_, _+_};
 ghost use lib.ListN.{length};
-ghost use Rattle.answer.specs.Figures.{region-here, figures-here, FiguresPromise};
+ghost use Rattle.answer.specs.Ranges.{region-here, figures-here};
 use super::FIGURES;
-use super::FIGURES_LENGTH;
 use super::GENERATION;
 use super::REGIONS;
 use super::defaults::six_in_range;
@@ -30,7 +29,8 @@ fn region_within(start: usize, figures: &[i64]) -> bool
     six_in_range(LEAST_DEFAULT, start + 3, figures)
 }
 
-fn regions_within(figures: &[i64]) -> bool
+// Are the figures of all five regions within the limits of their fields?
+pub(crate) fn figures_in_range(figures: &[i64]) -> bool
     requires { ⌜ 45 ≤ length (now figures) ⌝ }
     ensures { λ r. ⌜ r ≡ figures-here (now (figures .entry)) ⌝ }
 {
@@ -42,14 +42,4 @@ fn regions_within(figures: &[i64]) -> bool
         region += 1;
     }
     true
-}
-
-// Are the figures of all five regions within the limits of their fields?
-pub(crate) fn figures_in_range(figures: &[i64]) -> bool
-    ensures { λ r. ⌜ FiguresPromise (now (figures .entry)) r ⌝ }
-{
-    if figures.len() < FIGURES_LENGTH {
-        return false;
-    }
-    regions_within(figures)
 }

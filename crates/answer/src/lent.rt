@@ -4,7 +4,8 @@ ghost use mathlib.Core.List.{[]};
 ghost use Prim.Native.Nat.{_*_, _≤_};
 ghost use lib.ListN.{length};
 ghost use Rattle.kept.specs.Range.{kept-fine};
-ghost use Rattle.answer.specs.Promises.{lists-long, columns-long, kept-lists, LentReady};
+ghost use Rattle.answer.specs.Lent.{Long};
+ghost use Rattle.answer.specs.Promises.{lists-long, columns-long, kept-lists};
 use super::FIGURES_LENGTH;
 use super::SERIES_LENGTH;
 use super::figures::figures_in_range;
@@ -89,7 +90,7 @@ pub(crate) fn lent_in_range(
     lower: &[i64],
     defaults: &[i64],
 ) -> bool
-    requires { ⌜ LentReady units (now measures) (now positive) (now negative) (now figures) (now places) (now raise) (now lower) (now defaults) ⌝ }
+    requires { ⌜ Long (kept-lists units 0 (now measures) (now positive) (now negative) (now figures) [] (now places) (now raise) (now lower) (now defaults)) ⌝ }
     ensures { λ r. ⌜ r ≡ kept-fine (kept-lists units 0 (now (measures .entry)) (now (positive .entry)) (now (negative .entry)) (now (figures .entry)) [] (now (places .entry)) (now (raise .entry)) (now (lower .entry)) (now (defaults .entry))) ⌝ }
 {
     if !series_in_range(units, measures, positive, negative) {
@@ -98,5 +99,5 @@ pub(crate) fn lent_in_range(
     if !figures_in_range(figures) {
         return false;
     }
-    rows_in_range(units, places, raise, lower, defaults)
+    rows_in_range(units as usize, places, raise, lower, defaults)
 }

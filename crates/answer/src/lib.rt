@@ -59,12 +59,6 @@ pub(crate) struct Member {
     pub(crate) unused: i64,
 }
 
-// How many members there are, with the residual's standing, or the refusal.
-pub(crate) enum Gathered {
-    Are(usize, Standing),
-    Refused(Refusal),
-}
-
 // Who stands in a row: a member's number and standing, a unit of another region, or the refusal.
 pub enum Row {
     Unit(u16, Standing),

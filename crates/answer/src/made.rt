@@ -1,39 +1,21 @@
 // A unit's row as a member: live, or default with its reason. One path for raise and lower: the direction picks a column and two places.
 ghost use mathlib.Core.Path.{_≡_};
-ghost use Prim.Native.Nat.{_+_, _*_, _/_, _%_, _<_, _≤_};
+ghost use Prim.Native.Nat.{_+_, _/_, _%_, _<_, _≤_};
 ghost use lib.Dec.{eqb};
 ghost use lib.IntN.{pos};
 ghost use lib.ListN.{length, getD};
 ghost use Rattle.rules.specs.declared.Reason.the-variants.{BadUnit};
-ghost use Rattle.rules.specs.Bytes.{bit};
 ghost use Rattle.rules.specs.Standings.{standing};
-ghost use Rattle.answer.specs.Made.{reliable-at, defaults-at, side, flag, made, made-at, picked, unit-made, RowReady};
-use super::FIGURES;
+ghost use Rattle.answer.specs.Made.{defaults-at, side, flag, made, made-at, picked, unit-made, RowReady};
 use super::Field;
 use super::Member;
+use super::places::is_good;
+use super::regions::reliable;
 use rules::Direction;
 use rules::Reason;
 use rules::Standing;
 
 const DEFAULTS_EACH: usize = 6;
-
-// Is the region one of the set's?
-pub(crate) fn covers(set: u8, region: u8) -> bool
-    requires { ⌜ region < 5 ⌝ }
-    ensures { λ r. ⌜ r ≡ bit region set ⌝ }
-{
-    (set >> region) & 1 == 1
-}
-
-// Where among a region's figures its reliability stands.
-fn reliable_place(direction: Direction) -> usize
-    ensures { λ r. ⌜ r ≡ reliable-at direction ⌝ }
-{
-    match direction {
-        Direction::Raise => 1,
-        Direction::Lower => 2,
-    }
-}
 
 // Where among six defaults the three of a direction start.
 fn defaults_place(direction: Direction) -> usize
@@ -43,21 +25,6 @@ fn defaults_place(direction: Direction) -> usize
         Direction::Raise => 0,
         Direction::Lower => 3,
     }
-}
-
-// The figure that tells a region's reliability.
-pub(crate) fn figure_of(direction: Direction, region: u8, figures: &[i64]) -> i64
-    requires { ⌜ (region < 5) × (45 ≤ length (now figures)) ⌝ }
-    ensures { λ r. ⌜ r ≡ getD (now (figures .entry)) (9 * region + reliable-at direction) (pos 0) ⌝ }
-{
-    figures[FIGURES * (region as usize) + reliable_place(direction)]
-}
-
-pub(crate) fn reliable(direction: Direction, region: u8, figures: &[i64]) -> bool
-    requires { ⌜ (region < 5) × (45 ≤ length (now figures)) ⌝ }
-    ensures { λ r. ⌜ r ≡ flag direction region (now (figures .entry)) ⌝ }
-{
-    0 < figure_of(direction, region, figures)
 }
 
 // Unreliable is named first.
@@ -139,8 +106,8 @@ pub(crate) fn row_standing(direction: Direction, place: u8, figures: &[i64]) -> 
     requires { ⌜ (place < 10) × (45 ≤ length (now figures)) ⌝ }
     ensures { λ r. ⌜ r ≡ standing (flag direction (place / 2) (now (figures .entry))) (eqb (place % 2) 1) BadUnit ⌝ }
 {
-    let sound = reliable(direction, place / 2, figures);
-    standing_of(sound, place % 2 == 1, Reason::BadUnit)
+    let sound = reliable(direction, (place / 2) as usize, figures);
+    standing_of(sound, is_good(place), Reason::BadUnit)
 }
 
 pub(crate) fn row_member(

@@ -3,16 +3,16 @@ ghost use mathlib.Core.Path.{_≡_};
 ghost use Prim.Native.Nat.{_<_, max};
 ghost use lib.IntN.{pos};
 ghost use lib.Signed.{ltZ};
-ghost use Rattle.integers.specs.Sums.{when};
 ghost use Rattle.rules.specs.Book.{toward};
-ghost use Rattle.answer.specs.RcrLaws.{Ready, Summed, point-response, points-largest};
+ghost use Rattle.answer.specs.Rcr.{Ready, Summed, point-response, points-largest};
 use super::FIGURES;
 use super::GENERATION;
 use super::POINTS;
 use super::REGIONS;
-use super::regions::covered;
+use super::regions::covers;
 use super::sizes::above;
 use super::sizes::below;
+use super::sizes::part;
 use rules::Direction;
 
 // Over the set's regions, at one point: generation times FM, and the sums of positive and of negative deviations.
@@ -20,16 +20,6 @@ pub(crate) struct Sums {
     pub weighed: i64,
     pub positive: i64,
     pub negative: i64,
-}
-
-// A number that counts, or 0.
-fn part(counts: bool, x: i64) -> i64
-    ensures { λ r. ⌜ r ≡ when counts x ⌝ }
-{
-    if counts {
-        return x;
-    }
-    0
 }
 
 // Is the requirement's FM sign that of the direction?
@@ -68,7 +58,7 @@ fn sums_at(
     let mut region: usize = 0;
     while region < REGIONS {
         let at = POINTS * region + t;
-        let counts = covered(set, region);
+        let counts = covers(set, region);
         weighed += part(
             counts,
             figures[FIGURES * region + GENERATION] * (measures[at] as i64),

@@ -4,62 +4,53 @@ ghost use mathlib.Core.Bool.{_&&_, _||_};
 ghost use Prim.Native.Nat.{_+_, _*_, _/_, _%_, _<_, _≤_};
 ghost use lib.Dec.{eqb, leb};
 ghost use lib.ListN.{length};
-ghost use Rattle.integers.specs.Sums.{one, when};
 ghost use Rattle.answer.specs.Made.{side, region-made, worse-of, residual-to};
 ghost use Rattle.answer.specs.Residual.{RowsFit, Holds, RegionsFit};
 use super::FIGURES;
 use super::Member;
-use super::made::covers;
+use super::REGIONS;
 use super::made::member_at;
-use super::made::reliable;
 use super::made::standing_of;
+use super::places::is_good;
+use super::regions::covers;
+use super::regions::reliable;
+use super::sizes::counted;
+use super::sizes::part;
 use rules::Direction;
 use rules::Reason;
 use rules::Standing;
 
 // What the rows of a region hold: how many they are, how many of them good, and the performances of the good ones together.
 struct Held {
-    units: u16,
-    good: u16,
+    units: u32,
+    good: u32,
     sum: i64,
 }
 
-fn counted(test: bool) -> u16
-    ensures { λ r. ⌜ r ≡ one test ⌝ }
-{
-    if test { 1 } else { 0 }
-}
-
-fn performed(test: bool, performance: i64) -> i64
-    ensures { λ r. ⌜ r ≡ when test performance ⌝ }
-{
-    if test { performance } else { 0 }
-}
-
 // A good unit of the region?
-fn good_there(place: u8, region: u8) -> bool
+fn good_there(place: u8, region: usize) -> bool
     ensures { λ r. ⌜ r ≡ (eqb region (place / 2) && eqb (place % 2) 1) ⌝ }
 {
-    if region != place / 2 {
+    if region != (place / 2) as usize {
         return false;
     }
-    place % 2 == 1
+    is_good(place)
 }
 
-fn rows_held(region: u8, units: usize, places: &[u8], performances: &[i64]) -> Held
+fn rows_held(region: usize, units: usize, places: &[u8], performances: &[i64]) -> Held
     requires { ⌜ RowsFit units (now places) (now performances) ⌝ }
     ensures { λ r. ⌜ Holds region units (now (places .entry)) (now (performances .entry)) r ⌝ }
 {
-    let mut rows: u16 = 0;
-    let mut good: u16 = 0;
+    let mut rows: u32 = 0;
+    let mut good: u32 = 0;
     let mut sum: i64 = 0;
     let mut i: usize = 0;
     while i < units {
         let place = places[i];
         let fine = good_there(place, region);
-        rows += counted(region == place / 2);
+        rows += counted(region == (place / 2) as usize);
         good += counted(fine);
-        sum += performed(fine, performances[i]);
+        sum += part(fine, performances[i]);
         i += 1;
     }
     Held {
@@ -71,7 +62,7 @@ fn rows_held(region: u8, units: usize, places: &[u8], performances: &[i64]) -> H
 
 fn rows_toward(
     direction: Direction,
-    region: u8,
+    region: usize,
     units: usize,
     places: &[u8],
     raise: &[i64],
@@ -86,7 +77,7 @@ fn rows_toward(
     }
 }
 
-fn some_good_or_none(good: u16, units: u16) -> bool
+fn some_good_or_none(good: u32, units: u32) -> bool
     ensures { λ r. ⌜ r ≡ (leb 1 good || eqb units 0) ⌝ }
 {
     if 1 <= good {
@@ -98,7 +89,7 @@ fn some_good_or_none(good: u16, units: u16) -> bool
 // A region's residual: minus the performances of its good units.
 fn region_member(
     direction: Direction,
-    region: u8,
+    region: usize,
     units: usize,
     figures: &[i64],
     places: &[u8],
@@ -112,7 +103,7 @@ fn region_member(
     let sound = reliable(direction, region, figures);
     let fine = some_good_or_none(rows.good, rows.units);
     let standing = standing_of(sound, fine, Reason::NoGoodUnit);
-    let start = FIGURES * (region as usize) + 3;
+    let start = FIGURES * region + 3;
     member_at(direction, standing, -rows.sum, start, figures)
 }
 
@@ -138,7 +129,7 @@ fn with_region(
     sum: Member,
     direction: Direction,
     set: u8,
-    region: u8,
+    region: usize,
     units: usize,
     figures: &[i64],
     places: &[u8],
@@ -180,8 +171,8 @@ pub(crate) fn residual_member(
         used: 0,
         unused: 0,
     };
-    let mut region: u8 = 0;
-    while region < 5 {
+    let mut region: usize = 0;
+    while region < REGIONS {
         sum = with_region(
             sum,
             direction,

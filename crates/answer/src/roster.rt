@@ -1,17 +1,33 @@
 // Who stands in a row of the roster, by a few numbers of the row and its region: a listing walks the rows with it.
 ghost use mathlib.Core.Path.{_≡_};
+ghost use mathlib.Core.Bool.{_&&_};
 ghost use Prim.Native.Nat.{_<_, _≤_};
+ghost use lib.Dec.{leb};
 ghost use lib.ListN.{length};
+ghost use Rattle.rules.specs.RequirementRecord.{set-fine};
 ghost use Rattle.answer.specs.Roster.{roster-room, place-fine, row-told, row-answer, MemberPromise};
 use super::FIGURES_LENGTH;
+use super::MOST_UNITS;
 use super::PLACES;
 use super::Row;
-use super::made::covers;
-use super::made::figure_of;
 use super::made::row_standing;
-use super::values::asked_in_range;
+use super::places::in_set;
+use super::regions::figure_of;
 use rules::Direction;
 use rules::Refusal;
+
+// At most 512 units, and a set of one or more of the bits 0 to 4.
+fn asked_in_range(units: u16, set: u8) -> bool
+    ensures { λ r. ⌜ r ≡ (leb units 512 && set-fine set) ⌝ }
+{
+    if MOST_UNITS < units {
+        return false;
+    }
+    if set >> 5 != 0 {
+        return false;
+    }
+    set & 0x1f != 0
+}
 
 // The figures of five regions, a number and a place for each unit: by the lengths of the lists.
 fn roster_long(units: usize, figures: usize, numbers: usize, places: usize) -> bool
@@ -34,7 +50,7 @@ fn place_in_range(direction: Direction, place: u8, figures: &[i64]) -> bool
     if PLACES <= place {
         return false;
     }
-    let figure = figure_of(direction, place / 2, figures);
+    let figure = figure_of(direction, (place / 2) as usize, figures);
     if figure < 0 {
         return false;
     }
@@ -49,7 +65,7 @@ fn unit_or_other(direction: Direction, set: u8, number: u16, place: u8, figures:
     if !place_in_range(direction, place, figures) {
         return Row::Refused(Refusal::OutOfTurn);
     }
-    if !covers(set, place / 2) {
+    if !in_set(set, place) {
         return Row::Other;
     }
     Row::Unit(number, row_standing(direction, place, figures))

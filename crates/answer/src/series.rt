@@ -3,10 +3,9 @@ ghost use mathlib.Core.Path.{_≡_};
 ghost use mathlib.Core.Bool.{_&&_};
 ghost use Prim.Native.Nat.{_<_, _≤_, _^_};
 ghost use lib.ListN.{length};
-ghost use Rattle.answer.specs.Series.{measures-here, sums-here, series-here, SeriesPromise};
+ghost use Rattle.answer.specs.Ranges.{measures-here, sums-here, series-here};
 use super::POINTS;
 use super::REGIONS;
-use super::SERIES_LENGTH;
 use super::sizes::between;
 use super::sizes::size;
 
@@ -63,7 +62,13 @@ fn point_within(most: u64, t: usize, measures: &[i32], positive: &[i64], negativ
     sums_within(most, t, negative)
 }
 
-fn points_within(units: u16, measures: &[i32], positive: &[i64], negative: &[i64]) -> bool
+// Are measures within their limit, and sums within 15,000,000 for each unit taken?
+pub(crate) fn series_in_range(
+    units: u16,
+    measures: &[i32],
+    positive: &[i64],
+    negative: &[i64],
+) -> bool
     requires { ⌜ (375 ≤ length (now measures)) × (375 ≤ length (now positive)) × (375 ≤ length (now negative)) ⌝ }
     ensures { λ r. ⌜ r ≡ series-here units (now (measures .entry)) (now (positive .entry)) (now (negative .entry)) ⌝ }
 {
@@ -76,25 +81,4 @@ fn points_within(units: u16, measures: &[i32], positive: &[i64], negative: &[i64
         t += 1;
     }
     true
-}
-
-// Are measures within their limit, and sums within 15,000,000 for each unit taken?
-pub(crate) fn series_in_range(
-    units: u16,
-    measures: &[i32],
-    positive: &[i64],
-    negative: &[i64],
-) -> bool
-    ensures { λ r. ⌜ SeriesPromise units (now (measures .entry)) (now (positive .entry)) (now (negative .entry)) r ⌝ }
-{
-    if measures.len() < SERIES_LENGTH {
-        return false;
-    }
-    if positive.len() < SERIES_LENGTH {
-        return false;
-    }
-    if negative.len() < SERIES_LENGTH {
-        return false;
-    }
-    points_within(units, measures, positive, negative)
 }

@@ -1,13 +1,27 @@
-// Parts and sizes of a number, as naturals, and the numbers from one to another.
+// What counts, parts and sizes of a number, and the numbers from one to another.
 ghost use mathlib.Core.Path.{_≡_};
 ghost use mathlib.Core.Bool.{_&&_};
 ghost use lib.IntN.{natAbs};
 ghost use lib.Signed.{leZ};
-ghost use Rattle.answer.specs.Sizes.{AbovePromise, BelowPromise};
+ghost use Rattle.integers.specs.Pairs.{gain, loss};
+ghost use Rattle.integers.specs.Sums.{one, when};
+
+pub(crate) fn counted(test: bool) -> u32
+    ensures { λ r. ⌜ r ≡ one test ⌝ }
+{
+    if test { 1 } else { 0 }
+}
+
+// A number that counts, or 0.
+pub(crate) fn part(counts: bool, x: i64) -> i64
+    ensures { λ r. ⌜ r ≡ when counts x ⌝ }
+{
+    if counts { x } else { 0 }
+}
 
 // What stands above zero.
 pub(crate) fn above(x: i64) -> u64
-    ensures { λ r. ⌜ AbovePromise x r ⌝ }
+    ensures { λ r. ⌜ r ≡ gain x ⌝ }
 {
     if x < 0 {
         return 0;
@@ -17,7 +31,7 @@ pub(crate) fn above(x: i64) -> u64
 
 // The size of what stands below zero. The least i64 has no negative of its own.
 pub(crate) fn below(x: i64) -> u64
-    ensures { λ r. ⌜ BelowPromise x r ⌝ }
+    ensures { λ r. ⌜ r ≡ loss x ⌝ }
 {
     if x < 0 {
         return (-(x + 1)) as u64 + 1;

@@ -1,25 +1,19 @@
-// The units of a requirement's regions, by their places: a place is twice the region, and 1 more where the unit is good.
+// The units of a requirement's regions, by their places.
 ghost use mathlib.Core.Path.{_≡_};
 ghost use mathlib.Core.Bool.{not, _&&_};
 ghost use Prim.Native.Nat.{_<_, _≤_, _*_, _/_, _%_};
 ghost use lib.Dec.{eqb, leb};
 ghost use lib.ListN.{length};
-ghost use Rattle.integers.specs.Sums.{one};
 ghost use Rattle.rules.specs.Bytes.{bit};
-ghost use Rattle.answer.specs.RcrLaws.{PlacesFine, units-there, bad-there, Counted};
-use super::regions::covered;
+ghost use Rattle.answer.specs.Rcr.{PlacesFine, units-there, bad-there, Counted};
+use super::places::in_set;
+use super::places::is_good;
+use super::sizes::counted;
 
 // How many of the set's units there are, and how many of them are bad.
 pub(crate) struct Units {
     pub all: u32,
     pub bad: u32,
-}
-
-fn in_set(set: u8, place: u8) -> bool
-    requires { ⌜ place < 10 ⌝ }
-    ensures { λ r. ⌜ r ≡ bit (place / 2) set ⌝ }
-{
-    covered(set, (place >> 1) as usize)
 }
 
 fn bad_in_set(set: u8, place: u8) -> bool
@@ -29,16 +23,7 @@ fn bad_in_set(set: u8, place: u8) -> bool
     if !in_set(set, place) {
         return false;
     }
-    place & 1 != 1
-}
-
-fn counted(test: bool) -> u32
-    ensures { λ r. ⌜ r ≡ one test ⌝ }
-{
-    if test {
-        return 1;
-    }
-    0
+    !is_good(place)
 }
 
 fn count_units(units: usize, set: u8, places: &[u8]) -> Units

@@ -9,7 +9,7 @@ use mir.Syntax.{w64}
 use mir.Val.{toZ}
 use mir.Facts.{toZ-ofZ}
 use Rattle.integers.specs.Sums.{every, every-step, every-none, every-fails}
-use Rattle.answer.specs.Defaults.{fine-from}
+use Rattle.answer.specs.Ranges.{fine-from}
 use Rattle.answer.proofs.defaults.six_in_range.Statement.{statement}
 use Rattle.answer.proofs.defaults.six_in_range.Tie as tie
 

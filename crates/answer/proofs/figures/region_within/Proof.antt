@@ -7,8 +7,8 @@ use lib.IntN.{pos, negℤ}
 use lib.ListN.{getD}
 use mir.Facts.{toZ-ofZ}
 use Rattle.rules.specs.Quantities.{amount-limit, residual-default-limit}
-use Rattle.answer.specs.Defaults.{six-behind}
-use Rattle.answer.specs.Figures.{up-to}
+use Rattle.answer.specs.Ranges.{six-behind}
+use Rattle.answer.specs.Ranges.{up-to}
 use Rattle.answer.proofs.figures.region_within.Statement.{statement}
 use Rattle.answer.proofs.figures.region_within.Tie as tie
 

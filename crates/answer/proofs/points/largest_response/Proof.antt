@@ -6,7 +6,7 @@ use borrow.Author.Needs.{needs}
 use Rattle.integers.specs.Sums as sums
 use Rattle.integers.specs.Sums.{largest-step, largest-none}
 use Rattle.rules.specs.Quantities.{points}
-use Rattle.answer.specs.RcrLaws.{point-response}
+use Rattle.answer.specs.Rcr.{point-response}
 use Rattle.answer.proofs.points.largest_response.Statement.{statement}
 use Rattle.answer.proofs.points.largest_response.Tie as tie
 

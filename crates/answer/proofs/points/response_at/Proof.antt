@@ -10,7 +10,7 @@ use Rattle.integers.specs.Pairs.{gain, loss}
 use Rattle.integers.specs.Sums.{sum}
 use Rattle.rules.specs.Quantities.{regions}
 use Rattle.rules.specs.Book.{toward}
-use Rattle.answer.specs.RcrLaws.{weighed-part}
+use Rattle.answer.specs.Rcr.{weighed-part}
 use Rattle.answer.proofs.points.response_at.Statement.{statement}
 use Rattle.answer.proofs.points.response_at.Tie as tie
 
@@ -46,8 +46,8 @@ returns-2 c =
     let a = b .before .before in
     let e = a .before .before in
     let sums = e .before .before .before .sums-at .ensures in
-    let positive = rw (toZ-ofZ (sfits-of (a .before .struct-told2 .given .1 .0 .1))) at (a .above .ensures .part) in
-    let negative = rw (toZ-ofZ (sfits-of (b .before .struct-told3 .given .1 .1 .0 .1))) at (b .below .ensures .part) in
+    let positive = rw (toZ-ofZ (sfits-of (a .before .struct-told2 .given .1 .0 .1))) at (a .above .ensures) in
+    let negative = rw (toZ-ofZ (sfits-of (b .before .struct-told3 .given .1 .1 .0 .1))) at (b .below .ensures) in
     rw (signed (e .before) ∙ not-false _ (e .if1 .left)) (c .larger .ensures ∙ ap₂ max (positive ∙ ap gain (sums .positive)) (negative ∙ ap loss (sums .negative)))
 
 pub response-at-spec : {M : Type 1} → statement M

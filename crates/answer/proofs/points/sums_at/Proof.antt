@@ -11,8 +11,8 @@ use mir.Val.{SFits, toZ}
 use mir.Facts.{toZ-ofZ, sfits-widen}
 use Rattle.integers.specs.Sums.{sum, sum-none, when}
 use Rattle.rules.specs.Quantities.{regions}
-use Rattle.answer.specs.Series.{there}
-use Rattle.answer.specs.RcrLaws.{weighed-part, sum-part, Turn, product-fits, weighed-turn, positive-turn, negative-turn}
+use Rattle.answer.specs.Ranges.{there}
+use Rattle.answer.specs.Rcr.{weighed-part, sum-part, Turn, product-fits, weighed-turn, positive-turn, negative-turn}
 use Rattle.answer.proofs.points.sums_at.Statement.{statement}
 use Rattle.answer.proofs.points.sums_at.Tie as tie
 
@@ -22,19 +22,19 @@ Inv-loop set t measures positive negative figures weighed₀ risen₀ fallen₀ 
 abbrev μ-loop : tie.MeasureT-loop
 μ-loop set t measures positive negative figures weighed₀ risen₀ fallen₀ region₀ weighed risen fallen region = 5 - region
 
-abbrev L : tie.After-covered Inv-loop μ-loop → tie.At-loop Inv-loop μ-loop
+abbrev L : tie.After-covers Inv-loop μ-loop → tie.At-loop Inv-loop μ-loop
 L c = c .before .before
 
-abbrev S : tie.After-covered Inv-loop μ-loop → tie.Start Inv-loop μ-loop
+abbrev S : tie.After-covers Inv-loop μ-loop → tie.Start Inv-loop μ-loop
 S c = L c .before
 
-abbrev generated : tie.After-covered Inv-loop μ-loop → ℤ
+abbrev generated : tie.After-covers Inv-loop μ-loop → ℤ
 generated c = getD (S c .args .figures .now) (9 * L c .loop .region + 0) (pos 0)
 
-abbrev measured : tie.After-covered Inv-loop μ-loop → ℤ
+abbrev measured : tie.After-covers Inv-loop μ-loop → ℤ
 measured c = there (S c .args .measures .now) (S c .args .t) (L c .loop .region)
 
-whole-fits : (c : tie.After-covered Inv-loop μ-loop) → SFits w64 (generated c *ℤ measured c)
+whole-fits : (c : tie.After-covers Inv-loop μ-loop) → SFits w64 (generated c *ℤ measured c)
 whole-fits c = product-fits (S c .pre .1) (S c .args .set) (S c .args .t) (S c .pre .0) (L c .loop .region) (omega arith)
 
 generated-fits : (c : tie.After-part-arg2 Inv-loop μ-loop) → SFits w64 (generated (c .before .before))
@@ -50,17 +50,17 @@ weighing : (c : tie.After-part Inv-loop μ-loop) → Turn (weighed-part (S (c .b
 weighing c =
     let d = c .before .before .before in
     let a = c .before in
-    weighed-turn (S d .pre .1) (S d .args .set) (S d .args .t) (S d .pre .0) _ _ _ (omega arith) (L d .loop .inv .1) (simp (toZ-ofZ, generated-fits a, narrow a, measure-fits a, whole-fits d) at (c .part .ensures) ∙ ap (λ (s : Bool). when s (generated d *ℤ measured d)) (d .covered .ensures))
+    weighed-turn (S d .pre .1) (S d .args .set) (S d .args .t) (S d .pre .0) _ _ _ (omega arith) (L d .loop .inv .1) (simp (toZ-ofZ, generated-fits a, narrow a, measure-fits a, whole-fits d) at (c .part .ensures) ∙ ap (λ (s : Bool). when s (generated d *ℤ measured d)) (d .covers .ensures))
 
 rising : (c : tie.After-part2 Inv-loop μ-loop) → Turn (sum-part (S (c .before .before .before .before .before) .args .set) (S (c .before .before .before .before .before) .args .positive .now) (S (c .before .before .before .before .before) .args .t)) (L (c .before .before .before .before .before) .loop .region) (toZ w64 (L (c .before .before .before .before .before) .loop .risen)) (c .part2 .result)
 rising c =
     let d = c .before .before .before .before .before in
-    positive-turn (S d .pre .1) (S d .args .set) (S d .args .t) (S d .pre .0) _ _ _ (omega arith) (L d .loop .inv .2) (rw (toZ-ofZ (sfits-of (c .before .part-arg3 .given))) at (c .part2 .ensures) ∙ ap (λ (s : Bool). when s (there (S d .args .positive .now) (S d .args .t) (L d .loop .region))) (d .covered .ensures))
+    positive-turn (S d .pre .1) (S d .args .set) (S d .args .t) (S d .pre .0) _ _ _ (omega arith) (L d .loop .inv .2) (rw (toZ-ofZ (sfits-of (c .before .part-arg3 .given))) at (c .part2 .ensures) ∙ ap (λ (s : Bool). when s (there (S d .args .positive .now) (S d .args .t) (L d .loop .region))) (d .covers .ensures))
 
 falling : (c : tie.After-part3 Inv-loop μ-loop) → Turn (sum-part (S (c .before .before .before .before .before .before .before) .args .set) (S (c .before .before .before .before .before .before .before) .args .negative .now) (S (c .before .before .before .before .before .before .before) .args .t)) (L (c .before .before .before .before .before .before .before) .loop .region) (toZ w64 (L (c .before .before .before .before .before .before .before) .loop .fallen)) (c .part3 .result)
 falling c =
     let d = c .before .before .before .before .before .before .before in
-    negative-turn (S d .pre .1) (S d .args .set) (S d .args .t) (S d .pre .0) _ _ _ (omega arith) (L d .loop .inv .3) (rw (toZ-ofZ (sfits-of (c .before .part-arg4 .given))) at (c .part3 .ensures) ∙ ap (λ (s : Bool). when s (there (S d .args .negative .now) (S d .args .t) (L d .loop .region))) (d .covered .ensures))
+    negative-turn (S d .pre .1) (S d .args .set) (S d .args .t) (S d .pre .0) _ _ _ (omega arith) (L d .loop .inv .3) (rw (toZ-ofZ (sfits-of (c .before .part-arg4 .given))) at (c .part3 .ensures) ∙ ap (λ (s : Bool). when s (there (S d .args .negative .now) (S d .args .t) (L d .loop .region))) (d .covers .ensures))
 
 loop-holds : tie.Need-loop-holds Inv-loop μ-loop
 loop-holds c = (omega arith, sym (sum-none _), sym (sum-none _), sym (sum-none _))
@@ -71,8 +71,8 @@ mul-at c = omega arith
 add-at : tie.Need-add-at Inv-loop μ-loop
 add-at c = omega arith
 
-covered-requires : tie.Need-covered-requires Inv-loop μ-loop
-covered-requires c κs = omega arith
+covers-requires : tie.Need-covers-requires Inv-loop μ-loop
+covers-requires c κs = omega arith
 
 mul-part : tie.Need-mul-part Inv-loop μ-loop
 mul-part c = omega arith
@@ -156,7 +156,7 @@ sums-at-spec =
     loop-holds
     mul-at
     add-at
-    covered-requires
+    covers-requires
     mul-part
     add-part
     mul-part-2

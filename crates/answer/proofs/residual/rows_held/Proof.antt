@@ -49,24 +49,24 @@ good-more c =
     let l = c .before .before .before .before .before in
     ap₂ _+_ (l .loop .inv .good-counted) (c .counted2 .ensures ∙ ap one (c .before .before .good-there .ensures)) ∙ sym (sumℕ-step (l .loop .i) (λ j. one (fine (start l .args .region) (start l .args .places .now) j)))
 
-abbrev at-turn : tie.After-performed Inv-loop μ-loop → tie.At-loop Inv-loop μ-loop
+abbrev at-turn : tie.After-part Inv-loop μ-loop → tie.At-loop Inv-loop μ-loop
 at-turn c = c .before .before .before .before .before .before .before
 
 -- what the row adds, and the sum with it
-part : (c : tie.After-performed Inv-loop μ-loop) → let a = start (at-turn c) .args in c .performed .result ≡ adds (a .region) (a .places .now) (a .performances .now) (at-turn c .loop .i)
+part : (c : tie.After-part Inv-loop μ-loop) → let a = start (at-turn c) .args in c .part .result ≡ adds (a .region) (a .places .now) (a .performances .now) (at-turn c .loop .i)
 part c =
     let a = start (at-turn c) .args in
     let i = at-turn c .loop .i in
-    c .performed .ensures
-    ∙ ap₂ (λ (t : Bool) (z : ℤ). when t z) (c .before .before .before .before .good-there .ensures) (toZ-ofZ (sfits-of (c .before .performed-arg .given)))
+    c .part .ensures
+    ∙ ap₂ (λ (t : Bool) (z : ℤ). when t z) (c .before .before .before .before .good-there .ensures) (toZ-ofZ (sfits-of (c .before .part-arg .given)))
     ∙ when-both (there (a .region) (a .places .now) i) (place-good i (a .places .now)) (getD (a .performances .now) i (pos 0))
 
-sum-more : (c : tie.After-performed Inv-loop μ-loop) → let a = start (at-turn c) .args in toZ w64 (at-turn c .loop .sum) +ℤ toZ w64 (ofZ w64 (c .performed .result)) ≡ sum (at-turn c .loop .i + 1) (adds (a .region) (a .places .now) (a .performances .now))
+sum-more : (c : tie.After-part Inv-loop μ-loop) → let a = start (at-turn c) .args in toZ w64 (at-turn c .loop .sum) +ℤ toZ w64 (ofZ w64 (c .part .result)) ≡ sum (at-turn c .loop .i + 1) (adds (a .region) (a .places .now) (a .performances .now))
 sum-more c =
     let a = start (at-turn c) .args in
-    ap₂ _+ℤ_ (at-turn c .loop .inv .summed) (toZ-ofZ (sfits-of (c .performed .ok)) ∙ part c) ∙ sym (sum-step (at-turn c .loop .i) (adds (a .region) (a .places .now) (a .performances .now)))
+    ap₂ _+ℤ_ (at-turn c .loop .inv .summed) (toZ-ofZ (sfits-of (c .part .ok)) ∙ part c) ∙ sym (sum-step (at-turn c .loop .i) (adds (a .region) (a .places .now) (a .performances .now)))
 
-sum-fits : (c : tie.After-performed Inv-loop μ-loop) → let a = start (at-turn c) .args in SFits w64 (sum (at-turn c .loop .i + 1) (adds (a .region) (a .places .now) (a .performances .now)))
+sum-fits : (c : tie.After-part Inv-loop μ-loop) → let a = start (at-turn c) .args in SFits w64 (sum (at-turn c .loop .i + 1) (adds (a .region) (a .places .now) (a .performances .now)))
 sum-fits c =
     let s = start (at-turn c) in
     fits-within tt (held-within (s .pre) (s .args .region) (at-turn c .loop .i + 1) (omega arith))
@@ -80,6 +80,9 @@ shared-slice-read-place c = omega arith
 good-there-requires : tie.Need-good-there-requires Inv-loop μ-loop
 good-there-requires c κs = tt
 
+cast-counted : tie.Need-cast-counted Inv-loop μ-loop
+cast-counted c = omega (arith, c .before .shared-slice-known2 .given (c .before .before .before .loop .i))
+
 counted-requires : tie.Need-counted-requires Inv-loop μ-loop
 counted-requires c κs = tt
 
@@ -92,14 +95,14 @@ counted-requires-2 c κs = tt
 add-good : tie.Need-add-good Inv-loop μ-loop
 add-good c = omega (arith, good-more c, count-≤ (c .before .before .before .before .before .loop .i + 1) (fine (start (c .before .before .before .before .before) .args .region) (start (c .before .before .before .before .before) .args .places .now)))
 
-mul-performed : tie.Need-mul-performed Inv-loop μ-loop
-mul-performed c = omega arith
+mul-part : tie.Need-mul-part Inv-loop μ-loop
+mul-part c = omega arith
 
-shared-slice-copy-out-performed : tie.Need-shared-slice-copy-out-performed Inv-loop μ-loop
-shared-slice-copy-out-performed c = omega arith
+shared-slice-copy-out-part : tie.Need-shared-slice-copy-out-part Inv-loop μ-loop
+shared-slice-copy-out-part c = omega arith
 
-performed-requires : tie.Need-performed-requires Inv-loop μ-loop
-performed-requires c κs = tt
+part-requires : tie.Need-part-requires Inv-loop μ-loop
+part-requires c κs = tt
 
 add-sum : tie.Need-add-sum Inv-loop μ-loop
 add-sum c = rw (sum-more c) (sum-fits c)
@@ -128,13 +131,14 @@ rows-held-spec =
     loop-holds
     shared-slice-read-place
     good-there-requires
+    cast-counted
     counted-requires
     add-rows
     counted-requires-2
     add-good
-    mul-performed
-    shared-slice-copy-out-performed
-    performed-requires
+    mul-part
+    shared-slice-copy-out-part
+    part-requires
     add-sum
     add-i
     loop-less

@@ -27,6 +27,9 @@ tested c t e = leZ-not (figure c) (pos 0) ∙ ap not (rw (read c) at e)
 returns : tie.Need-returns
 returns c = rw (le-ltb _ _ (c .if1 .taken))
 
+cast-figure-of : tie.Need-cast-figure-of
+cast-figure-of c = search needs
+
 figure-of-requires : tie.Need-figure-of-requires
 figure-of-requires c κs = search needs
 
@@ -37,4 +40,4 @@ returns-3 : tie.Need-returns-3
 returns-3 c = rw (lt-ltb _ _ (c .before .before .if1 .left), tested (c .before) false (c .if2 .left), read (c .before))
 
 pub place-in-range-spec : {M : Type 1} → statement M
-place-in-range-spec = tie.close (tie.spec returns figure-of-requires returns-2 returns-3)
+place-in-range-spec = tie.close (tie.spec returns cast-figure-of figure-of-requires returns-2 returns-3)

@@ -26,11 +26,11 @@ place-in-range-requires c κs = search needs
 returns : tie.Need-returns
 returns c = rw (sym (c .before .place-in-range .ensures) ∙ not-true _ (c .if1 .taken))
 
-covers-requires : tie.Need-covers-requires
-covers-requires c κs = omega (arith, placed c)
+in-set-requires : tie.Need-in-set-requires
+in-set-requires c κs = omega (arith, placed c)
 
 returns-2 : tie.Need-returns-2
-returns-2 c = rw (fine (c .before .before), sym (c .before .covers .ensures) ∙ not-true _ (c .if2 .taken))
+returns-2 c = rw (fine (c .before .before), sym (c .before .in-set .ensures) ∙ not-true _ (c .if2 .taken))
 
 row-standing-requires : tie.Need-row-standing-requires
 row-standing-requires c κs = (placed (c .before .before), S (c .before .before) .pre)
@@ -39,7 +39,7 @@ returns-3 : tie.Need-returns-3
 returns-3 c =
     let h = c .before in
     let g = h .before .before in
-    rw (fine g, sym (h .before .covers .ensures) ∙ not-false _ (h .if2 .left)) (ap (λ (s : Standing). Unit (S g .args .number) s) (c .row-standing .ensures))
+    rw (fine g, sym (h .before .in-set .ensures) ∙ not-false _ (h .if2 .left)) (ap (λ (s : Standing). Unit (S g .args .number) s) (c .row-standing .ensures))
 
 pub unit-or-other-spec : {M : Type 1} → statement M
 unit-or-other-spec =
@@ -47,7 +47,7 @@ unit-or-other-spec =
     (tie.spec
     place-in-range-requires
     returns
-    covers-requires
+    in-set-requires
     returns-2
     row-standing-requires
     returns-3)

@@ -1,37 +1,62 @@
--- Too many units, then a short list, then the rows.
+-- Before a row every one passed is in range; the first that is not ends the loop.
 use mathlib.Core.Path.{_≡_, sym, _∙_}
-use mathlib.Core.Bool.{true}
-use lib.ListN.{length}
-use borrow.Author.Tests.{le-leb, lt-leb, not-true, not-false}
+use mathlib.Core.Bool.{Bool, true}
+use Prim.Native.Nat.{ℕ, _-_, _≤_}
 use native.Mathlib.Omega.{arith}
-use Rattle.answer.specs.Rows.{rows-room, room-means, rows-fine-is, rows-in-range}
-use borrow.Author.Needs.{needs}
+use borrow.Author.Tests.{not-true, not-false}
+use Rattle.integers.specs.Sums.{every, every-step, every-none, every-fails}
+use Rattle.kept.specs.Range.{rows-fine}
+use Rattle.answer.specs.Ranges.{row-fine}
 use Rattle.answer.proofs.rows.rows_in_range.Statement.{statement}
 use Rattle.answer.proofs.rows.rows_in_range.Tie as tie
 
-roomy : (c : tie.Else2) → let a = c .before .before .before .before .args in rows-room (a .units) (length (a .places .now)) (length (a .raise .now)) (length (a .lower .now)) (length (a .defaults .now)) ≡ true
-roomy c = sym (c .before .rows-fit .ensures .told) ∙ not-false _ (c .if2 .left)
+abbrev Inv-loop : tie.InvT-loop
+Inv-loop units places raise lower defaults row₀ row = (row ≤ units) × (every row (λ i. row-fine i places raise lower defaults) ≡ true)
 
-returns : tie.Need-returns
-unfolding rows-in-range
-returns c = record { told = rw (lt-leb _ _ (c .if1 .taken)) }
+abbrev μ-loop : tie.MeasureT-loop
+μ-loop units places raise lower defaults row₀ row = units - row
 
-rows-fit-requires : tie.Need-rows-fit-requires
-rows-fit-requires c κs = search needs
+abbrev L : tie.After-row-in-range Inv-loop μ-loop → tie.At-loop Inv-loop μ-loop
+L c = c .before .before
 
-returns-2 : tie.Need-returns-2
-unfolding rows-in-range
-returns-2 c = record { told = rw (le-leb _ _ (c .before .before .if1 .left), sym (c .before .rows-fit .ensures .told) ∙ not-true _ (c .if2 .taken)) }
+abbrev tests : tie.After-row-in-range Inv-loop μ-loop → ℕ → Bool
+tests c i =
+    let a = L c .before .before .args in
+    row-fine i (a .places .now) (a .raise .now) (a .lower .now) (a .defaults .now)
 
-all-in-range-requires : tie.Need-all-in-range-requires
-all-in-range-requires c κs = let m = room-means _ _ _ _ _ (roomy c) in (omega arith, m .0, m .1, m .2, m .3)
+loop-holds : tie.Need-loop-holds Inv-loop μ-loop
+loop-holds c = (omega arith, every-none _)
 
-returns-3 : tie.Need-returns-3
-unfolding rows-in-range
-returns-3 c =
-    let d = c .before in
-    record { told = rw (le-leb _ _ (d .before .before .if1 .left), roomy d, rows-fine-is) (c .all-in-range .ensures) }
+row-in-range-requires : tie.Need-row-in-range-requires Inv-loop μ-loop
+row-in-range-requires c κs = record { few = omega arith; places = omega arith; raise = omega arith; lower = omega arith; defaults = omega arith }
+
+returns : tie.Need-returns Inv-loop μ-loop
+unfolding rows-fine
+returns c = sym (every-fails _ (tests (c .before)) (L (c .before) .loop .row) (omega arith) (sym (c .before .row-in-range .ensures) ∙ not-true _ (c .if1 .taken)))
+
+add-row : tie.Need-add-row Inv-loop μ-loop
+add-row c = omega arith
+
+loop-less : tie.Need-loop-less Inv-loop μ-loop
+loop-less c = omega arith
+
+loop-again : tie.Need-loop-again Inv-loop μ-loop
+loop-again c = (omega arith, every-step _ (tests (c .before)) (L (c .before) .loop .inv .1) (sym (c .before .row-in-range .ensures) ∙ not-false _ (c .if1 .left)))
+
+returns-2 : tie.Need-returns-2 Inv-loop μ-loop
+unfolding rows-fine
+returns-2 c = let e : c .before .loop .row ≡ c .before .before .before .args .units = omega arith in sym (rw e at (c .before .loop .inv .1))
 
 pub rows-in-range-spec : {M : Type 1} → statement M
 rows-in-range-spec =
-    tie.close (tie.spec returns rows-fit-requires returns-2 all-in-range-requires returns-3)
+    tie.close
+    (tie.spec
+    Inv-loop
+    μ-loop
+    loop-holds
+    row-in-range-requires
+    returns
+    add-row
+    loop-less
+    loop-again
+    returns-2)

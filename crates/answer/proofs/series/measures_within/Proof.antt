@@ -12,8 +12,8 @@ use mir.Facts.{toZ-ofZ, sfits-widen}
 use Rattle.integers.specs.Sums.{every, every-step, every-none, every-fails}
 use Rattle.rules.specs.Quantities.{regions, measure-limit}
 use Rattle.rules.specs.Fields.{sized}
-use Rattle.answer.specs.Sizes.{sized-between}
-use Rattle.answer.specs.Series.{there}
+use Rattle.answer.specs.Ranges.{sized-between}
+use Rattle.answer.specs.Ranges.{there}
 use Rattle.answer.proofs.series.measures_within.Statement.{statement}
 use Rattle.answer.proofs.series.measures_within.Tie as tie
 

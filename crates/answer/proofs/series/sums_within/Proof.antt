@@ -8,7 +8,7 @@ use lib.IntN.{natAbs}
 use mir.Facts.{toZ-ofZ}
 use Rattle.integers.specs.Sums.{sumℕ, sumℕ-step, sumℕ-none, sumℕ-prefix}
 use Rattle.rules.specs.Quantities.{regions}
-use Rattle.answer.specs.Series.{there}
+use Rattle.answer.specs.Ranges.{there}
 use Rattle.answer.proofs.series.sums_within.Statement.{statement}
 use Rattle.answer.proofs.series.sums_within.Tie as tie
 

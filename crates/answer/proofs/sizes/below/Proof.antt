@@ -44,11 +44,11 @@ add-result-2 c =
 
 returns : tie.Need-returns
 returns c =
-    record { part = simp (toZ-ofZ, c .before .fits .x, up c, down c) (rw (turned (x c) (under c)) (omega (arith, some-loss (x c) (under c)))) }
+    simp (toZ-ofZ, c .before .fits .x, up c, down c) (rw (turned (x c) (under c)) (omega (arith, some-loss (x c) (under c))))
 
 returns-2 : tie.Need-returns-2
 returns-2 c =
-    record { part = sym (no-loss (c .before .args .x) (ltZ-false (simp (toZ-ofZ, c .before .fits .x) at (c .if1 .left)))) }
+    sym (no-loss (c .before .args .x) (ltZ-false (simp (toZ-ofZ, c .before .fits .x) at (c .if1 .left))))
 
 pub below-spec : {M : Type 1} → statement M
 below-spec =

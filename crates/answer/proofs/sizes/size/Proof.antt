@@ -19,7 +19,7 @@ returns c =
     let s = c .before .before in
     let x = s .args .x in
     let h : x <ℤ pos 0 = ltZ-true (rw (toZ-ofZ (s .fits .x)) at (c .before .if1 .taken)) in
-    omega (arith, rw (toZ-ofZ (s .fits .x)) at (c .below .ensures .part), abs-is x, no-gain x (<ℤ-≤ℤ h))
+    omega (arith, rw (toZ-ofZ (s .fits .x)) at (c .below .ensures), abs-is x, no-gain x (<ℤ-≤ℤ h))
 
 above-requires : tie.Need-above-requires
 above-requires c κs = search needs
@@ -29,7 +29,7 @@ returns-2 c =
     let s = c .before .before in
     let x = s .args .x in
     let h : pos 0 ≤ℤ x = ltZ-false (rw (toZ-ofZ (s .fits .x)) at (c .before .if1 .left)) in
-    omega (arith, rw (toZ-ofZ (s .fits .x)) at (c .above .ensures .part), abs-is x, no-loss x h)
+    omega (arith, rw (toZ-ofZ (s .fits .x)) at (c .above .ensures), abs-is x, no-loss x h)
 
 pub size-spec : {M : Type 1} → statement M
 size-spec = tie.close (tie.spec below-requires returns above-requires returns-2)

@@ -1,9 +1,8 @@
--- The place's lowest bit says that its unit is good.
+-- The set first; then whether the unit is good.
 use mathlib.Core.Path.{sym, _∙_, ap}
-use mathlib.Core.Bool.{Bool, not}
+use mathlib.Core.Bool.{not}
 use borrow.Author.Tests.{not-true, not-false}
 use borrow.Author.Needs.{needs}
-use Rattle.answer.specs.RcrLaws.{place-masked}
 use Rattle.answer.proofs.units.bad_in_set.Statement.{statement}
 use Rattle.answer.proofs.units.bad_in_set.Tie as tie
 
@@ -13,8 +12,11 @@ in-set-requires c κs = search needs
 returns : tie.Need-returns
 returns c = rw (sym (c .before .in-set .ensures) ∙ not-true _ (c .if1 .taken))
 
+is-good-requires : tie.Need-is-good-requires
+is-good-requires c κs = search needs
+
 returns-2 : tie.Need-returns-2
-returns-2 c = rw (sym (c .before .in-set .ensures) ∙ not-false _ (c .if1 .left)) (ap (λ (t : Bool). not t) (place-masked (c .before .before .args .place)))
+returns-2 c = rw (sym (c .before .before .in-set .ensures) ∙ not-false _ (c .before .if1 .left)) (ap not (c .is-good .ensures))
 
 pub bad-in-set-spec : {M : Type 1} → statement M
-bad-in-set-spec = tie.close (tie.spec in-set-requires returns returns-2)
+bad-in-set-spec = tie.close (tie.spec in-set-requires returns is-good-requires returns-2)

@@ -4,8 +4,8 @@ use lib.IntN.{ℤ, pos}
 use lib.Signed.{ltZ}
 use borrow.Author.Needs.{needs, sfits-of}
 use mir.Facts.{toZ-ofZ}
-use Rattle.answer.proofs.made.reliable.Statement.{statement}
-use Rattle.answer.proofs.made.reliable.Tie as tie
+use Rattle.answer.proofs.regions.reliable.Statement.{statement}
+use Rattle.answer.proofs.regions.reliable.Tie as tie
 
 figure-of-requires : tie.Need-figure-of-requires
 figure-of-requires c κs = search needs

@@ -2,8 +2,8 @@
 use mathlib.Core.Path.{sym}
 use borrow.Author.Tests.{le-leb, lt-leb}
 use Rattle.rules.specs.RecordLaws.{set-high, set-low}
-use Rattle.answer.proofs.values.asked_in_range.Statement.{statement}
-use Rattle.answer.proofs.values.asked_in_range.Tie as tie
+use Rattle.answer.proofs.roster.asked_in_range.Statement.{statement}
+use Rattle.answer.proofs.roster.asked_in_range.Tie as tie
 
 returns : tie.Need-returns
 returns c = rw (lt-leb _ _ (c .if1 .taken))

@@ -7,8 +7,8 @@ use lib.IntN.{pos}
 use lib.ListN.{getD}
 use mir.Facts.{toZ-ofZ}
 use Rattle.answer.specs.Made.{reliable-at-≤}
-use Rattle.answer.proofs.made.figure_of.Statement.{statement}
-use Rattle.answer.proofs.made.figure_of.Tie as tie
+use Rattle.answer.proofs.regions.figure_of.Statement.{statement}
+use Rattle.answer.proofs.regions.figure_of.Tie as tie
 
 place : (c : tie.After-reliable-place) → c .reliable-place .result ≤ 2
 place c = rw (c .reliable-place .ensures) (reliable-at-≤ (c .before .args .direction))
