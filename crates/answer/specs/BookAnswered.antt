@@ -31,9 +31,9 @@ use Rattle.chain.specs.Keeps.{kept-of, BookMeans}
 use Rattle.chain.specs.BookChain.{book-of}
 use Rattle.chain.specs.Spelled.{spelled, book-means, spelled-hands, chain-book}
 use Rattle.chain.specs.Ready.{Ready, chain-ready, units-ready, ended-ready, requirement-read}
-use Rattle.members.specs.declared.Row.{Row}
-use Rattle.members.specs.Lists.{headed, gathered}
-use Rattle.members.specs.Roster.{Named, named, walk, row-of, row-answer, MemberPromise, member-of-kept, member-taken}
+use Rattle.answer.specs.declared.Row.{Row}
+use Rattle.answer.specs.Lists.{headed, gathered}
+use Rattle.answer.specs.Roster.{Named, named, walk, row-of, row-answer, MemberPromise, member-of-kept, member-taken}
 use Rattle.answer.specs.declared.Answered.{Answered}
 use Rattle.answer.specs.declared.Answered.the-variants.{Given}
 use Rattle.answer.specs.Promises.{lists-long, answer-reply, replied, lined, shown, AnswerPromise}

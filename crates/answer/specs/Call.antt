@@ -24,8 +24,9 @@ use Rattle.interval.specs.TallyLaws.{settings-stay}
 use Rattle.book.specs.declared.RequirementFields.{RequirementFields}
 use Rattle.book.specs.declared.RequirementRead.the-variants as read
 use Rattle.book.specs.Requirement.{requirement-of, requirement-answer}
-use Rattle.answer.specs.declared.Answer.{Answer}
-use Rattle.answer.specs.declared.Answered.the-variants.{Given, Refused}
+use Rattle.answer.specs.declared.Answered.{Answered}
+use Rattle.answer.specs.declared.Answered.the-variants.{Refused}
+use Rattle.answer.specs.Lent.{long-means}
 use Rattle.answer.specs.Promises.{AnswerPromise}
 use Rattle.answer.specs.Tested.{tested-requirement, Tested, fine-any, units-few, tested-answer}
 use Rattle.answer.specs.Given.{required, GivenReady, GivenAll}
@@ -75,13 +76,12 @@ given-ready {t} part {f} {ms} {ps} {ns} {fs} {qs} {xs} {ys} {ds} h r =
     let begun : 1 ≤ t .records = omega (arith, leb-true (units-end t) (t .records) (turn .1)) in
     let fields = record-fine part (required f) r in
     record {
-      few = units-few t (h .turn);
       percent = settings-stay t (turn .0) begun .percent;
       set = fields .set;
       price = fields .price;
       cost = fields .cost;
       enabled = fields .enabled;
-      long = h .lists;
+      long = long-means _ (units-few t (h .turn)) (h .lists);
       columns = h .columns;
       fine = fine-any (t .units) (t .percent) ms ps ns fs [] qs xs ys ds ∙ h .fine;
     }
@@ -97,7 +97,7 @@ module _ {t : Tally} {part : List ℕ} {ms ps ns fs : List ℤ} {qs : List ℕ} 
             record { reply = rw e; performances = rw e; factors = rw e; payments = rw e; used = rw e; unused = rw e };
       }
 
-  pub gives : (f : RequirementFields) {a : Answer} {new₁ new₂ new₃ new₄ new₅ : List ℤ} → tested-requirement t part ms ps ns fs qs xs ys ds (length old₁) (length old₂) (length old₃) (length old₄) (length old₅) ≡ taken (required f) → GivenAll f (t .units) (t .percent) ms ps ns fs qs xs ys ds old₁ old₂ old₃ old₄ old₅ a new₁ new₂ new₃ new₄ new₅ → AnswerPromise t part ms ps ns fs qs xs ys ds old₁ old₂ old₃ old₄ old₅ (Given a) new₁ new₂ new₃ new₄ new₅
+  pub gives : (f : RequirementFields) {a : Answered} {new₁ new₂ new₃ new₄ new₅ : List ℤ} → tested-requirement t part ms ps ns fs qs xs ys ds (length old₁) (length old₂) (length old₃) (length old₄) (length old₅) ≡ taken (required f) → GivenAll f (t .units) (t .percent) ms ps ns fs qs xs ys ds old₁ old₂ old₃ old₄ old₅ a new₁ new₂ new₃ new₄ new₅ → AnswerPromise t part ms ps ns fs qs xs ys ds old₁ old₂ old₃ old₄ old₅ a new₁ new₂ new₃ new₄ new₅
   gives f r g =
       record {
         whatever =
@@ -105,7 +105,7 @@ module _ {t : Tally} {part : List ℕ} {ms ps ns fs : List ℤ} {qs : List ℕ} 
             let e = tested-answer t part ms ps ns fs us qs xs ys ds (length old₁) (length old₂) (length old₃) (length old₄) (length old₅) r in
             let w = g .whatever us in
             record {
-              reply = rw e (ap Given (w .figures));
+              reply = rw e (w .figures);
               performances = rw e (w .performances);
               factors = rw e (w .factors);
               payments = rw e (w .payments);

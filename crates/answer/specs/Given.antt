@@ -3,16 +3,16 @@
 use mathlib.Core.Path.{_≡_, refl, sym, _∙_, ap, ap₂}
 use mathlib.Core.Bool.{Bool, true, false, cond, _&&_}
 use mathlib.Core.List.{List, [], _∷_, _++_, map, map-map}
-use Prim.Native.Nat.{ℕ, zero, suc, _+_, _*_, _-_, _≤_, _<_, max}
+use Prim.Native.Nat.{ℕ, suc, _+_, _*_, _-_, _≤_, _<_}
 use native.Mathlib.Omega.{arith}
-use lib.Dec.{leb, ltb}
+use lib.Dec.{ltb}
 use lib.IntN.{ℤ, pos, negℤ, natAbs, _-ℤ_}
 use lib.ListN.{length, getD, length-map}
 use lib.Signed.{ltZ}
-use borrow.Author.Tests.{leb-true, le-leb, ltb-true, lt-ltb}
+use borrow.Author.Tests.{leb-true, ltb-true}
 use Rattle.integers.specs.Pairs.{gain, loss}
 use Rattle.integers.specs.Bounds.{gain-≤, loss-≤}
-use Rattle.integers.specs.Sums.{sum, sumℕ, every, when, both, every-at, every-all, sum-size, largest, largest-≤}
+use Rattle.integers.specs.Sums.{sum, when, both, every-at, sum-size, largest-≤}
 use Rattle.integers.specs.Fills.{filled, filled-none, filled-ext}
 use Rattle.integers.specs.Totals.{numbered, numbered-length}
 use Rattle.rules.specs.declared.Direction.{Direction}
@@ -22,59 +22,40 @@ use Rattle.rules.specs.Book.{Requirement, covers, toward}
 use Rattle.rules.specs.RequirementRecord.{set-fine}
 use Rattle.rules.specs.Members.{Member}
 use Rattle.rules.specs.Share.{share-of, unplaced-of}
-use Rattle.rules.specs.Factors.{helpful, unhelpful, both-signs, factor}
+use Rattle.rules.specs.Factors.{both-signs, factor}
 use Rattle.rules.specs.Cents.{any-weight, pool-of, used-pool-of, used-weights, unused-weights, charge}
 use Rattle.rules.specs.Answer.{Line, lines-of, answered, Answer as Full}
 use Rattle.interval.specs.Lent.{series-start}
 use Rattle.kept.specs.Kept.{Kept, kept-members, kept-rcr, kept-reliable, kept-few-bad, kept-weighed, kept-positive, kept-negative, kept-response, kept-answer, residual-row, row-member, rows}
-use Rattle.kept.specs.Range.{series-fine, figures-fine, rows-fine, kept-fine, measures-fine, sums-fine}
+use Rattle.kept.specs.Range.{series-fine, kept-fine, measures-fine, sums-fine}
 use Rattle.book.specs.declared.RequirementFields.{RequirementFields}
-use Rattle.ranges.specs.Lent.{lent, asked, kept-rows}
-use Rattle.ranges.specs.Places.{places-fine}
-use Rattle.ranges.specs.Rows.{rows-room, row-fine, rows-all-fine, rows-fine-is}
-use Rattle.response.specs.declared.Found.{Found}
-use Rattle.response.specs.declared.Response.{Response}
-use Rattle.response.specs.declared.Response.the-variants.{Is, Refused}
-use Rattle.response.specs.Promises.{room, lent-fine, rcr-reply, responded, RcrPromise}
-use Rattle.rules.specs.declared.Refusal.{Refusal}
-use Rattle.rules.specs.Refusals.{taken}
+use Rattle.share.specs.declared.Shared.{Shared}
+use Rattle.share.specs.declared.Shared.the-variants.{Placed}
+use Rattle.share.specs.declared.Shared.the-variants as sh
 use Rattle.share.specs.Signs.{signs-at}
-use Rattle.members.specs.declared.Field.{Field}
-use Rattle.members.specs.declared.Field.the-variants.{Payment, Used, Unused}
-use Rattle.members.specs.Made.{field-of}
-use Rattle.members.specs.Lists.{headed}
-use Rattle.members.specs.Values.{values-room, values-of-kept, many-of-kept, last-of-kept}
+use Rattle.answer.specs.Asked.{lent, asked}
+use Rattle.answer.specs.Lent.{Long}
+use Rattle.answer.specs.Lists.{headed}
 use Rattle.answer.specs.declared.Answer.{Answer}
+use Rattle.answer.specs.declared.Answered.{Answered}
+use Rattle.answer.specs.declared.Answered.the-variants.{Given, Refused}
+use Rattle.answer.specs.declared.Field.{Field}
+use Rattle.answer.specs.declared.Field.the-variants.{Payment, Used, Unused}
+use Rattle.answer.specs.declared.Member.{Member as Sharer}
 use Rattle.answer.specs.declared.charges.Charges.{Charges}
-use Rattle.answer.specs.declared.shares.Paid.{Paid}
+use Rattle.answer.specs.declared.rcr.Found.{Found}
+use Rattle.answer.specs.declared.shares.Paying.{Paying}
+use Rattle.answer.specs.declared.shares.Paying.the-variants.{Made}
+use Rattle.answer.specs.declared.shares.Paying.the-variants as pay
+use Rattle.answer.specs.Rcr.{FoundReady, found-ready, found-is}
+use Rattle.answer.specs.Made.{field-of, residual-to, residual-shown}
+use Rattle.answer.specs.Values.{Fine, all-fine, MembersReady, values-of-kept}
 use Rattle.answer.specs.Pools.{pool-cents, used-cents}
-use Rattle.answer.specs.Shares.{numbers, MembersReady, MembersPaid, pool-over}
+use Rattle.answer.specs.Shares.{numbers, MembersPaid, pool-over}
 use Rattle.answer.specs.Charges.{CostReady, CostCharged}
-use Rattle.answer.specs.Promises.{kept-lists, lists-long, columns-long, last-standing, shown}
+use Rattle.answer.specs.Promises.{kept-lists, columns-long, last-standing, shown}
 
--- ---- RCR: no test that has been passed is refused, and it is at most 7,680,000,000
-pub record FoundReady (n p s : ℕ) (ms ps ns fs : List ℤ) (qs : List ℕ) : Type 0 where
-  pub fields : (leb n most-units && (leb p 100 && set-fine s)) ≡ true
-  pub long : room n (length ms) (length ps) (length ns) (length fs) (length qs) ≡ true
-  pub fine : lent-fine (lent n p ms ps ns fs qs) ≡ true
-
-abbrev pub found-is : ℕ → ℕ → Direction → ℕ → List ℤ → List ℤ → List ℤ → List ℤ → List ℕ → Found
-found-is n p d s ms ps ns fs qs = record { rcr = kept-rcr (lent n p ms ps ns fs qs) (asked d s); reliable = kept-reliable (lent n p ms ps ns fs qs) (asked d s) }
-
-module _ {n p : ℕ} {d : Direction} {s : ℕ} {ms ps ns fs : List ℤ} {qs : List ℕ} {r : Response} (h : FoundReady n p s ms ps ns fs qs) (e : RcrPromise n p d s ms ps ns fs qs r) where
-  found-reply : r ≡ Is (found-is n p d s ms ps ns fs qs)
-  unfolding rcr-reply
-  found-reply = e .reply ∙ rw (h .fields, h .long, h .fine)
-
-  pub found : (x : Found) → r ≡ Is x → x ≡ found-is n p d s ms ps ns fs qs
-  found x f = let same : Is x ≡ Is (found-is n p d s ms ps ns fs qs) = sym f ∙ found-reply in cc
-
-  pub never-refused : {A : Type 0} (x : Refusal) → r ≡ Refused x → A
-  never-refused x f =
-      let same : Refused x ≡ Is (found-is n p d s ms ps ns fs qs) = sym f ∙ found-reply in
-      let z : _≡_ {A = ℕ} 0 1 = cc in
-      absurd (omega arith)
-
+-- ---- RCR is at most 7,680,000,000
 when-≤ : (t : Bool) (x : ℤ) → natAbs (when t x) ≤ natAbs x
 when-≤ true x = omega arith
 when-≤ false x = omega arith
@@ -129,20 +110,35 @@ headed-again (x ∷ xs) (y ∷ ys) [] e = refl
 headed-again (x ∷ xs) (y ∷ ys) (z ∷ zs) e = ap (λ (l : List ℤ). x ∷ l) (headed-again xs ys zs (omega arith))
 
 -- ---- the whole answer
-abbrev pub gathered-answer : RequirementFields → Found → Charges → Paid → Answer
-gathered-answer f x c paid = record { number = f .number; direction = f .direction; members = paid .members; residual = paid .residual; rcr = x .rcr; pool = paid .pool; used = c .used; unused = c .unused }
+abbrev pub gathered-of : RequirementFields → ℕ → Standing → ℕ → ℕ → Shared → Shared → Paying → Answered
+gathered-of f rcr s u v (Placed a) (Placed b) (Made p) =
+    Given (record {
+      number = f .number;
+      direction = f .direction;
+      members = p .members;
+      residual = s;
+      rcr = rcr;
+      pool = p .pool;
+      used = record { pool = u; unplaced = a };
+      unused = record { pool = v; unplaced = b };
+    })
+gathered-of f rcr s u v (Placed a) (Placed b) (pay.Refused x) = Refused x
+gathered-of f rcr s u v (Placed a) (sh.Refused x) p = Refused x
+gathered-of f rcr s u v (sh.Refused x) b p = Refused x
+
+abbrev pub gathered-answer : RequirementFields → Found → Sharer → Charges → Paying → Answered
+gathered-answer f x m c p = gathered-of f (x .rcr) (m .standing) (c .used .pool) (c .unused .pool) (c .used .reply) (c .unused .reply) p
 
 abbrev pub required : RequirementFields → Requirement
 required f = record { number = f .number; set = f .set; direction = f .direction; price = f .price; cost = f .cost; enabled = f .enabled; used = f .used }
 
 pub record GivenReady (f : RequirementFields) (n p : ℕ) (ms ps ns fs : List ℤ) (qs : List ℕ) (xs ys ds : List ℤ) (a b c d e : ℕ) : Type 0 where
-  pub few : n ≤ most-units
   pub percent : p ≤ 100
   pub set : set-fine (f .set) ≡ true
   pub price : f .price ≤ price-limit
   pub cost : f .cost ≤ cost-limit
   pub enabled : f .enabled ≤ amount-limit
-  pub long : lists-long n (length ms) (length ps) (length ns) (length fs) (length qs) (length xs) (length ys) (length ds) ≡ true
+  pub long : Long (kept-lists n p ms ps ns fs [] qs xs ys ds)
   pub columns : columns-long n a b c d e ≡ true
   pub fine : kept-fine (kept-lists n p ms ps ns fs [] qs xs ys ds) ≡ true
 
@@ -153,15 +149,15 @@ module _ (f : RequirementFields) (n p : ℕ) (ms ps ns fs : List ℤ) (us qs : L
   abbrev pub full : Full
   full = kept-answer all (required f)
 
-  pub record GivenIs (old₁ old₂ old₃ old₄ old₅ : List ℤ) (r : Answer) (new₁ new₂ new₃ new₄ new₅ : List ℤ) : Type 0 where
-    pub figures : r ≡ shown full
+  pub record GivenIs (old₁ old₂ old₃ old₄ old₅ : List ℤ) (r : Answered) (new₁ new₂ new₃ new₄ new₅ : List ℤ) : Type 0 where
+    pub figures : r ≡ Given (shown full)
     pub performances : new₁ ≡ headed (map (λ l. l .performance) (full .lines)) old₁
     pub factors : new₂ ≡ headed (map (λ l. l .factor) (full .lines)) old₂
     pub payments : new₃ ≡ headed (map (λ l. l .payment) (full .lines)) old₃
     pub used : new₄ ≡ headed (map (λ l. l .used) (full .lines)) old₄
     pub unused : new₅ ≡ headed (map (λ l. l .unused) (full .lines)) old₅
 
-pub record GivenAll (f : RequirementFields) (n p : ℕ) (ms ps ns fs : List ℤ) (qs : List ℕ) (xs ys ds old₁ old₂ old₃ old₄ old₅ : List ℤ) (r : Answer) (new₁ new₂ new₃ new₄ new₅ : List ℤ) : Type 0 where
+pub record GivenAll (f : RequirementFields) (n p : ℕ) (ms ps ns fs : List ℤ) (qs : List ℕ) (xs ys ds old₁ old₂ old₃ old₄ old₅ : List ℤ) (r : Answered) (new₁ new₂ new₃ new₄ new₅ : List ℤ) : Type 0 where
   pub whatever : (us : List ℕ) → GivenIs f n p ms ps ns fs us qs xs ys ds old₁ old₂ old₃ old₄ old₅ r new₁ new₂ new₃ new₄ new₅
 
 -- ---- what the tests give to each part
@@ -172,31 +168,15 @@ module _ {f : RequirementFields} {n p : ℕ} {ms ps ns fs : List ℤ} {qs : List
   series-is : series-fine lists ≡ true
   series-is = both (series-fine lists) _ (h .fine) .0
 
-  pub rest-is : (figures-fine lists && rows-fine lists) ≡ true
-  rest-is = both (series-fine lists) _ (h .fine) .1
+  pub rcr-ready : FoundReady n p ms ps ns fs qs
+  rcr-ready = found-ready lists (h .long) (h .fine) (h .percent)
 
-  places-are : places-fine n qs ≡ true
-  unfolding places-fine rows-all-fine
-  places-are =
-      every-all n _ (λ i l. both (ltb (getD qs i 0) (2 * regions)) _ (every-at n (λ i. row-fine i qs xs ys ds) (sym (rows-fine-is lists) ∙ both (figures-fine lists) (rows-fine lists) rest-is .1) i l) .0)
-
-  pub rcr-ready : FoundReady n p (f .set) ms ps ns fs qs
-  unfolding lent-fine series-fine figures-fine
-  rcr-ready =
-      let x = both (leb 375 (length ms)) _ (h .long) in
-      let y = both (leb 375 (length ps)) _ (x .1) in
-      let z = both (leb 375 (length ns)) _ (y .1) in
-      let w = both (leb 45 (length fs)) _ (z .1) in
-      let q = both (leb n (length qs)) _ (w .1) in
-      record {
-        fields = rw (le-leb n most-units (h .few), le-leb p 100 (h .percent)) (h .set);
-        long = rw (x .0, y .0, z .0, w .0) (q .0);
-        fine = rw (series-is, both (figures-fine lists) (rows-fine lists) rest-is .0) places-are;
-      }
+  pub numbers-fine : Fine n fs qs xs ys ds
+  numbers-fine = all-fine lists (h .long) (h .fine)
 
   pub rcr-small : (d : Direction) → kept-rcr (lent n p ms ps ns fs qs) (asked d (f .set)) ≤ 7_680_000_000
   unfolding series-fine
-  rcr-small d = rcr-within (lent n p ms ps ns fs qs) (asked d (f .set)) (h .few) series-is
+  rcr-small d = rcr-within (lent n p ms ps ns fs qs) (asked d (f .set)) (h .long .few) series-is
 
   pub record Rooms : Type 0 where
     pub performances : n < a
@@ -219,22 +199,19 @@ module _ {f : RequirementFields} {n p : ℕ} {ms ps ns fs : List ℤ} {qs : List
         unused = ltb-true _ _ (w .1);
       }
 
-  -- a column of at least one number more than units
-  pub members-ready : (d : Direction) (room : ℕ) → n < room → MembersReady n d (f .set) fs qs xs ys ds room
-  unfolding figures-fine rows-fine
-  members-ready d room l =
-      let x = both (leb 375 (length ms)) _ (h .long) in
-      let y = both (leb 375 (length ps)) _ (x .1) in
-      let z = both (leb 375 (length ns)) _ (y .1) in
-      let w = both (leb 45 (length fs)) _ (z .1) in
-      record {
-        fields = rw (le-leb n most-units (h .few)) (h .set);
-        long = rw (w .0, lt-ltb n room l) (w .1);
-        fine = rest-is;
-      }
+  module _ {m : Sharer} (last : m ≡ residual-to (f .direction) (f .set) n fs qs xs ys regions) where
+    pub members-ready : (room : ℕ) → n < room → MembersReady n (f .direction) (f .set) fs qs xs ys ds m room
+    members-ready room l = record { fine = numbers-fine; last = last; column = l }
 
-  pub cost-ready : CostReady f n fs qs xs ys ds a d e
-  cost-ready = record { cost = h .cost; enabled = h .enabled; used = rooms .used; unused = rooms .unused; members = members-ready (f .direction) a (rooms .performances) }
+    pub cost-ready : CostReady f n fs qs xs ys ds m a d e
+    cost-ready =
+        record {
+          cost = h .cost;
+          enabled = h .enabled;
+          used = rooms .used;
+          unused = rooms .unused;
+          members = members-ready a (rooms .performances);
+        }
 
 -- ---- the parts together
 -- the sides and the weights of a requirement's members, by their numbers
@@ -341,9 +318,9 @@ module _ (f : RequirementFields) (n p : ℕ) (ms ps ns fs : List ℤ) (us qs : L
       ∙ ap (λ (l : List ℤ). headed (listed k q Payment) l) a
       ∙ headed-again (listed k q Payment) (listed k q Unused) old (listed-many k q Payment ∙ sym (listed-many k q Unused))
 
-  pub given-is : {x : Found} {charges : Charges} {paid : Paid} {old₁ old₂ old₃ old₄ old₅ middle new₁ new₂ new₃ new₄ new₅ : List ℤ} → x ≡ found-is n p (f .direction) (f .set) ms ps ns fs qs → CostCharged f (x .reliable) n fs qs xs ys ds old₁ old₄ old₅ charges middle new₄ new₅ → MembersPaid (f .price) (x .rcr) n (f .direction) (f .set) fs qs xs ys ds middle old₂ old₃ paid new₁ new₂ new₃ → GivenIs f n p ms ps ns fs us qs xs ys ds old₁ old₂ old₃ old₄ old₅ (gathered-answer f x charges paid) new₁ new₂ new₃ new₄ new₅
+  pub given-is : {x : Found} {m : Sharer} {charges : Charges} {paying : Paying} {old₁ old₂ old₃ old₄ old₅ middle new₁ new₂ new₃ new₄ new₅ : List ℤ} → x ≡ found-is n p (f .direction) (f .set) ms ps ns fs qs → m ≡ residual-to (f .direction) (f .set) n fs qs xs ys regions → CostCharged f (x .reliable) n fs qs xs ys ds old₁ old₄ old₅ charges middle new₄ new₅ → MembersPaid (f .price) (x .rcr) n (f .direction) (f .set) fs qs xs ys ds middle old₂ old₃ paying new₁ new₂ new₃ → GivenIs f n p ms ps ns fs us qs xs ys ds old₁ old₂ old₃ old₄ old₅ (gathered-answer f x m charges paying) new₁ new₂ new₃ new₄ new₅
   unfolding kept-answer answered kept-rcr
-  given-is {x} {charges} {paid} {old₁} {old₂} {old₃} {old₄} {old₅} ex costs c =
+  given-is {x} {m} {charges} {paying} {old₁} {old₂} {old₃} {old₄} {old₅} ex em costs c =
       let u = charges .used .pool in
       let v = charges .unused .pool in
       let a = costs .over-unused in
@@ -352,17 +329,20 @@ module _ (f : RequirementFields) (n p : ℕ) (ms ps ns fs : List ℤ) (us qs : L
       let used-up : u ≡ the-used = costs .used ∙ ap (λ (t : Bool). used-cents (f .cost) (f .enabled) (f .used) t) (ap (λ (y : Found). y .reliable) ex) in
       let rest : v ≡ the-unused = costs .unused ∙ ap (λ (z : ℕ). f .cost - z) used-up in
       let pooled : pool-over (f .price) (x .rcr) (listed k q Payment) ≡ the-pool = pool-same rcr in
+      let last : m .standing ≡ residual-row k q .standing = ap (λ (y : Sharer). y .standing) (em ∙ sym (residual-shown k q)) in
       record {
         figures =
-            answer-same
-            (c .many ∙ many-lines k q the-pool the-used the-unused)
-            (c .last ∙ last-of-kept k q ∙ sym (last-is k q the-pool the-used the-unused))
+            rw (b .reply, a .reply, c .reply)
+            (ap Given
+            (answer-same
+            (many-lines k q the-pool the-used the-unused)
+            (last ∙ sym (last-is k q the-pool the-used the-unused))
             rcr
-            (c .pool ∙ pooled)
+            pooled
             used-up
-            (b .unplaced ∙ ap₂ (λ (z : ℕ) (ws : List ℕ). unplaced-of z ws) used-up (sides k q Used loss))
+            (ap₂ (λ (z : ℕ) (ws : List ℕ). unplaced-of z ws) used-up (sides k q Used loss))
             rest
-            (a .unplaced ∙ ap₂ (λ (z : ℕ) (ws : List ℕ). unplaced-of z ws) rest (sides k q Unused loss));
+            (ap₂ (λ (z : ℕ) (ws : List ℕ). unplaced-of z ws) rest (sides k q Unused loss))));
         performances = settles old₁ (a .column) (b .column) (c .performances) ∙ ap (λ (l : List ℤ). headed l old₁) (performances-are k q the-pool the-used the-unused);
         factors = c .factors ∙ factors-are k q the-pool the-used the-unused old₂;
         payments = c .payments ∙ ap (λ (z : ℕ). filled (length (listed k q Payment)) (signs-at z (listed k q Payment)) old₃) pooled ∙ payments-are k q the-pool the-used the-unused old₃;

@@ -1,49 +1,48 @@
--- Of lists that are long enough the tests tell the range alone.
-use mathlib.Core.Path.{_≡_, sym, _∙_}
-use mathlib.Core.Bool.{Bool, true, _&&_}
-use mathlib.Core.List.{List, []}
-use Prim.Native.Nat.{ℕ}
+-- Lists that are long enough for what they keep, by the test of their lengths.
+use mathlib.Core.Path.{_≡_}
+use mathlib.Core.Bool.{true}
+use Prim.Native.Nat.{_*_, _≤_}
 use lib.Dec.{leb}
-use lib.IntN.{ℤ}
 use lib.ListN.{length}
-use borrow.Author.Tests.{le-leb}
+use borrow.Author.Tests.{leb-true}
 use Rattle.integers.specs.Sums.{both}
 use Rattle.rules.specs.Quantities.{most-units}
 use Rattle.interval.specs.Lent.{series-length, figures-length}
 use Rattle.kept.specs.Kept.{Kept}
-use Rattle.kept.specs.Range.{series-fine, figures-fine, rows-fine}
-use Rattle.ranges.specs.Lent.{lent}
-use Rattle.ranges.specs.Series.{SeriesPromise}
-use Rattle.ranges.specs.Figures.{FiguresPromise}
-use Rattle.ranges.specs.Rows.{rows-room, rows-in-range, RowsPromise}
-use Rattle.answer.specs.Promises.{kept-lists, lists-long, LentReady}
+use Rattle.answer.specs.Promises.{lists-long}
 
-module _ {n : ℕ} {ms ps ns fs : List ℤ} {qs : List ℕ} {xs ys ds : List ℤ} (h : LentReady n ms ps ns fs qs xs ys ds) where
-  abbrev lists : Kept
-  lists = kept-lists n 0 ms ps ns fs [] qs xs ys ds
+pub record Long (k : Kept) : Type 0 where
+  pub few : k .units ≤ most-units
+  pub measures : series-length ≤ length (k .measures)
+  pub positive : series-length ≤ length (k .positive)
+  pub negative : series-length ≤ length (k .negative)
+  pub figures : figures-length ≤ length (k .figures)
+  pub places : k .units ≤ length (k .places)
+  pub raise : k .units ≤ length (k .raise)
+  pub lower : k .units ≤ length (k .lower)
+  pub defaults : 6 * k .units ≤ length (k .defaults)
 
-  pub series-told : {r : Bool} → SeriesPromise n ms ps ns r → series-fine lists ≡ r
-  unfolding series-fine
-  series-told p =
-      let a = both (leb series-length (length ms)) _ (h .long) in
-      let b = both (leb series-length (length ps)) _ (a .1) in
-      let c = both (leb series-length (length ns)) _ (b .1) in
-      sym (rw (a .0, b .0, c .0) at (p .reply))
-
-  pub figures-told : {r : Bool} → FiguresPromise fs r → figures-fine lists ≡ r
-  unfolding figures-fine
-  figures-told p =
-      let a = both (leb series-length (length ms)) _ (h .long) in
-      let b = both (leb series-length (length ps)) _ (a .1) in
-      let c = both (leb series-length (length ns)) _ (b .1) in
-      let d = both (leb figures-length (length fs)) _ (c .1) in
-      sym (rw (d .0) at (p .reply))
-
-  pub rows-told : {r : Bool} → RowsPromise n qs xs ys ds r → rows-fine lists ≡ r
-  unfolding rows-in-range rows-fine
-  rows-told p =
-      let a = both (leb series-length (length ms)) _ (h .long) in
-      let b = both (leb series-length (length ps)) _ (a .1) in
-      let c = both (leb series-length (length ns)) _ (b .1) in
-      let d = both (leb figures-length (length fs)) _ (c .1) in
-      sym (rw (le-leb n most-units (h .few), d .1) at (p .told))
+pub long-means :
+    (k : Kept) → k .units ≤ most-units →
+    lists-long (k .units) (length (k .measures)) (length (k .positive)) (length (k .negative)) (length (k .figures)) (length (k .places))
+    (length (k .raise)) (length (k .lower)) (length (k .defaults)) ≡ true →
+    Long k
+long-means k few e =
+    let m = both (leb series-length (length (k .measures))) _ e in
+    let p = both (leb series-length (length (k .positive))) _ (m .1) in
+    let n = both (leb series-length (length (k .negative))) _ (p .1) in
+    let f = both (leb figures-length (length (k .figures))) _ (n .1) in
+    let q = both (leb (k .units) (length (k .places))) _ (f .1) in
+    let r = both (leb (k .units) (length (k .raise))) _ (q .1) in
+    let l = both (leb (k .units) (length (k .lower))) _ (r .1) in
+    record {
+      few = few;
+      measures = leb-true _ _ (m .0);
+      positive = leb-true _ _ (p .0);
+      negative = leb-true _ _ (n .0);
+      figures = leb-true _ _ (f .0);
+      places = leb-true _ _ (q .0);
+      raise = leb-true _ _ (r .0);
+      lower = leb-true _ _ (l .0);
+      defaults = leb-true _ _ (l .1);
+    }

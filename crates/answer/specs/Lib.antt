@@ -1,8 +1,17 @@
 -- The answer to a requirement
-pub mod Pools
-pub mod Shares
+pub mod Asked
+pub mod Ranges
+pub mod Lists
 pub mod Promises
 pub mod Lent
+pub mod Made
+pub mod Rcr
+pub mod Residual
+pub mod Values
+pub mod Roster
+pub mod Weights
+pub mod Pools
+pub mod Shares
 pub mod Tested
 pub mod Charges
 pub mod Given

@@ -4,14 +4,13 @@
 use mathlib.Core.Path.{_≡_, sym, _∙_}
 use mathlib.Core.Bool.{Bool, true, false, _&&_}
 use mathlib.Core.List.{List, [], _∷_, map}
-use Prim.Native.Nat.{ℕ, _*_, _≤_}
+use Prim.Native.Nat.{ℕ}
 use lib.Dec.{leb, ltb}
 use lib.IntN.{ℤ}
 use lib.ListN.{length}
 use Rattle.rules.specs.declared.Refusal.the-variants.{OutOfTurn, TooShort}
 use Rattle.rules.specs.declared.Standing.{Standing}
 use Rattle.rules.specs.declared.Standing.the-variants.{Live}
-use Rattle.rules.specs.Quantities.{most-units}
 use Rattle.rules.specs.Refusals.{Reply, taken, refused, unless, _>>=_}
 use Rattle.rules.specs.RequirementRecord.{requirement-record}
 use Rattle.rules.specs.Answer.{Line, Answer as Full}
@@ -20,8 +19,8 @@ use Rattle.interval.specs.Tally.{in-range, answer-turn}
 use Rattle.interval.specs.Lent.{series-length, figures-length}
 use Rattle.kept.specs.Kept.{Kept, kept-answer}
 use Rattle.kept.specs.Range.{kept-fine}
-use Rattle.ranges.specs.Rows.{rows-room}
-use Rattle.members.specs.Lists.{headed}
+use Rattle.answer.specs.Ranges.{rows-room}
+use Rattle.answer.specs.Lists.{headed}
 use Rattle.answer.specs.declared.Answer.{Answer}
 use Rattle.answer.specs.declared.Answered.{Answered}
 use Rattle.answer.specs.declared.Answered.the-variants.{Given, Refused}
@@ -51,10 +50,6 @@ lists-long units measures positive negative figures places raise lower defaults 
 abbrev pub columns-long : ℕ → ℕ → ℕ → ℕ → ℕ → ℕ → Bool
 columns-long units performances factors payments used unused =
     ltb units performances && (ltb units factors && (ltb units payments && (ltb units used && ltb units unused)))
-
-pub record LentReady (n : ℕ) (ms ps ns fs : List ℤ) (qs : List ℕ) (xs ys ds : List ℤ) : Type 0 where
-  pub few : n ≤ most-units
-  pub long : lists-long n (length ms) (length ps) (length ns) (length fs) (length qs) (length xs) (length ys) (length ds) ≡ true
 
 -- ---- the reply: 11 out of turn, 12 for a short list, 11 for a lent number out of range, then what comes past these tests
 abbrev pub past-tests : {A : Type 0} → Tally → Kept → ℕ → ℕ → ℕ → ℕ → ℕ → Reply A → Reply A

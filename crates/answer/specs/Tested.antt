@@ -18,7 +18,8 @@ use Rattle.interval.specs.Tally.{in-range, answer-turn}
 use Rattle.interval.specs.TallyLaws.{ranged}
 use Rattle.kept.specs.Kept.{kept-answer}
 use Rattle.kept.specs.Range.{series-fine, figures-fine, rows-fine, kept-fine}
-use Rattle.answer.specs.Promises.{kept-lists, lists-long, columns-long, LentReady, past-tests, answer-reply}
+use Rattle.answer.specs.Lent.{Long, long-means}
+use Rattle.answer.specs.Promises.{kept-lists, lists-long, columns-long, past-tests, answer-reply}
 
 -- the requirement's record, where no test refuses
 unfoldable pub tested-requirement : Tally → List ℕ → List ℤ → List ℤ → List ℤ → List ℤ → List ℕ → List ℤ → List ℤ → List ℤ → ℕ → ℕ → ℕ → ℕ → ℕ → Reply Requirement
@@ -40,8 +41,11 @@ fine-any n p ms ps ns fs us qs xs ys ds = refl
 pub units-few : (t : Tally) → (in-range t && answer-turn t) ≡ true → t .units ≤ most-units
 units-few t e = ranged t (both (in-range t) (answer-turn t) e .0) .units
 
-pub lent-ready : (t : Tally) {ms ps ns fs : List ℤ} {qs : List ℕ} {xs ys ds : List ℤ} → (in-range t && answer-turn t) ≡ true → lists-long (t .units) (length ms) (length ps) (length ns) (length fs) (length qs) (length xs) (length ys) (length ds) ≡ true → LentReady (t .units) ms ps ns fs qs xs ys ds
-lent-ready t e f = record { few = units-few t e; long = f }
+pub lent-long :
+    (t : Tally) {ms ps ns fs : List ℤ} {qs : List ℕ} {xs ys ds : List ℤ} → (in-range t && answer-turn t) ≡ true →
+    lists-long (t .units) (length ms) (length ps) (length ns) (length fs) (length qs) (length xs) (length ys) (length ds) ≡ true →
+    Long (kept-lists (t .units) 0 ms ps ns fs [] qs xs ys ds)
+lent-long t e f = long-means _ (units-few t e) f
 
 -- past the tests the record decides
 pub past-all : (t : Tally) (part : List ℕ) (ms ps ns fs : List ℤ) (qs : List ℕ) (xs ys ds : List ℤ) (a b c d e : ℕ) → Tested t ms ps ns fs qs xs ys ds a b c d e → tested-requirement t part ms ps ns fs qs xs ys ds a b c d e ≡ requirement-record 0 false part

@@ -46,9 +46,9 @@ pub fn answer(
         unused.len(),
     );
     match read {
-        RequirementRead::Taken(fields) => Answered::Given(given(
+        RequirementRead::Taken(fields) => given(
             fields,
-            tally.units,
+            tally.units as usize,
             tally.percent,
             measures,
             positive,
@@ -63,7 +63,7 @@ pub fn answer(
             payments,
             used,
             unused,
-        )),
+        ),
         RequirementRead::Refused(refusal) => Answered::Refused(refusal),
     }
 }

@@ -2,23 +2,31 @@
 ghost use mathlib.Core.Path.{_≡_};
 ghost use lib.ListN.{length};
 ghost use Rattle.answer.specs.Charges.{CostReady, CostCharged};
-use super::Charge;
+use super::Field;
+use super::Member;
 use super::pools::used_pool;
 use super::shares::charge_members;
 use book::RequirementFields;
-use members::Field;
+use share::Shared;
+
+// A pool, and what its share replied.
+pub(crate) struct Pooled {
+    pub(crate) pool: u64,
+    pub(crate) reply: Shared,
+}
 
 // What is charged of a requirement's cost.
 pub(crate) struct Charges {
-    pub(crate) used: Charge,
-    pub(crate) unused: Charge,
+    pub(crate) used: Pooled,
+    pub(crate) unused: Pooled,
 }
 
 // The members' numbers stand in `values` while a pool is shared over them.
 pub(crate) fn charge_cost(
     fields: RequirementFields,
     reliable: bool,
-    units: u16,
+    units: usize,
+    residual: Member,
     figures: &[i64],
     places: &[u8],
     raise: &[i64],
@@ -28,19 +36,20 @@ pub(crate) fn charge_cost(
     used: &mut [i64],
     unused: &mut [i64],
 ) -> Charges
-    requires { ⌜ CostReady fields units (now figures) (now places) (now raise) (now lower) (now defaults) (length (now values)) (length (now used)) (length (now unused)) ⌝ }
+    requires { ⌜ CostReady fields units (now figures) (now places) (now raise) (now lower) (now defaults) residual (length (now values)) (length (now used)) (length (now unused)) ⌝ }
     ensures { λ r. ⌜ CostCharged fields reliable units (now (figures .entry)) (now (places .entry)) (now (raise .entry)) (now (lower .entry)) (now (defaults .entry)) (now (values .entry)) (now (used .entry)) (now (unused .entry)) r (now (values .exit)) (now (used .exit)) (now (unused .exit)) ⌝ }
 {
     let direction = fields.direction;
     let set = fields.set;
     let used_cents = used_pool(fields.cost, fields.enabled, fields.used, reliable);
     let unused_cents = fields.cost - used_cents;
-    let unused_left = charge_members(
+    let unused_reply = charge_members(
         Field::Unused,
         unused_cents,
         units,
         direction,
         set,
+        residual,
         figures,
         places,
         raise,
@@ -49,12 +58,13 @@ pub(crate) fn charge_cost(
         values,
         unused,
     );
-    let used_left = charge_members(
+    let used_reply = charge_members(
         Field::Used,
         used_cents,
         units,
         direction,
         set,
+        residual,
         figures,
         places,
         raise,
@@ -64,13 +74,13 @@ pub(crate) fn charge_cost(
         used,
     );
     Charges {
-        used: Charge {
+        used: Pooled {
             pool: used_cents,
-            unplaced: used_left,
+            reply: used_reply,
         },
-        unused: Charge {
+        unused: Pooled {
             pool: unused_cents,
-            unplaced: unused_left,
+            reply: unused_reply,
         },
     }
 }

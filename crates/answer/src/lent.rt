@@ -4,14 +4,13 @@ ghost use mathlib.Core.List.{[]};
 ghost use Prim.Native.Nat.{_*_, _≤_};
 ghost use lib.ListN.{length};
 ghost use Rattle.kept.specs.Range.{kept-fine};
-ghost use Rattle.answer.specs.Promises.{lists-long, columns-long, kept-lists, LentReady};
-use ranges::figures::figures_in_range;
-use ranges::rows::rows_in_range;
-use ranges::series::series_in_range;
-
-const SERIES_LENGTH: usize = 375;
-
-const FIGURES_LENGTH: usize = 45;
+ghost use Rattle.answer.specs.Lent.{Long};
+ghost use Rattle.answer.specs.Promises.{lists-long, columns-long, kept-lists};
+use super::FIGURES_LENGTH;
+use super::SERIES_LENGTH;
+use super::figures::figures_in_range;
+use super::rows::rows_in_range;
+use super::series::series_in_range;
 
 // The series and figures of five regions, and a row for each unit: by the lengths of the lists.
 pub(crate) fn lists_long(
@@ -91,7 +90,7 @@ pub(crate) fn lent_in_range(
     lower: &[i64],
     defaults: &[i64],
 ) -> bool
-    requires { ⌜ LentReady units (now measures) (now positive) (now negative) (now figures) (now places) (now raise) (now lower) (now defaults) ⌝ }
+    requires { ⌜ Long (kept-lists units 0 (now measures) (now positive) (now negative) (now figures) [] (now places) (now raise) (now lower) (now defaults)) ⌝ }
     ensures { λ r. ⌜ r ≡ kept-fine (kept-lists units 0 (now (measures .entry)) (now (positive .entry)) (now (negative .entry)) (now (figures .entry)) [] (now (places .entry)) (now (raise .entry)) (now (lower .entry)) (now (defaults .entry))) ⌝ }
 {
     if !series_in_range(units, measures, positive, negative) {
@@ -100,5 +99,5 @@ pub(crate) fn lent_in_range(
     if !figures_in_range(figures) {
         return false;
     }
-    rows_in_range(units, places, raise, lower, defaults)
+    rows_in_range(units as usize, places, raise, lower, defaults)
 }

@@ -6,11 +6,65 @@ use rules::Standing;
 
 pub mod call;
 mod charges;
+mod defaults;
+mod figures;
 mod given;
 mod lent;
+mod made;
+mod places;
+mod points;
 mod pools;
+mod rcr;
+mod regions;
+mod residual;
+pub mod roster;
+mod rows;
+mod series;
 mod shares;
+mod sizes;
 mod tested;
+mod units;
+mod values;
+
+const POINTS: usize = 75;
+
+const REGIONS: usize = 5;
+
+const SERIES_LENGTH: usize = 375;
+
+// A region has nine figures: its generation, whether raise and lower are reliable, six defaults.
+const FIGURES: usize = 9;
+
+const GENERATION: usize = 0;
+
+const FIGURES_LENGTH: usize = 45;
+
+const MOST_UNITS: u16 = 512;
+
+// Two places for each region: of its bad units and of its good ones.
+const PLACES: u8 = 10;
+
+// Which number of a member a share goes by.
+pub(crate) enum Field {
+    Payment,
+    Used,
+    Unused,
+}
+
+// A member: its standing, its performance or the default that stands in, for payment and for use, and its unused default.
+pub(crate) struct Member {
+    pub(crate) standing: Standing,
+    pub(crate) payment: i64,
+    pub(crate) used: i64,
+    pub(crate) unused: i64,
+}
+
+// Who stands in a row: a member's number and standing, a unit of another region, or the refusal.
+pub enum Row {
+    Unit(u16, Standing),
+    Other,
+    Refused(Refusal),
+}
 
 // A pool that is charged, and how much of it is unplaced.
 pub struct Charge {

@@ -20,8 +20,8 @@ use Rattle.rules.specs.Answer.{Line, lines-of, answered, answer}
 use Rattle.interval.specs.declared.Tally.{Tally}
 use Rattle.chain.specs.Chain.{Lent, Chain}
 use Rattle.chain.specs.BookWay.{records-in}
-use Rattle.members.specs.Lists.{headed, headed-take, gathered, gathered-length}
-use Rattle.members.specs.Roster.{Named}
+use Rattle.answer.specs.Lists.{headed, headed-take, gathered, gathered-length}
+use Rattle.answer.specs.Roster.{Named}
 use Rattle.answer.specs.declared.Answer.{Answer}
 use Rattle.answer.specs.declared.Answered.{Answered}
 use Rattle.answer.specs.declared.Answered.the-variants.{Given}

@@ -15,9 +15,9 @@ use Rattle.interval.specs.declared.Tally.{Tally}
 use Rattle.kept.specs.Kept.{rows}
 use Rattle.chain.specs.Chain.{Lent}
 use Rattle.chain.specs.Keeps.{kept-of}
-use Rattle.members.specs.declared.Row.the-variants as row
-use Rattle.members.specs.Lists.{headed, gathered}
-use Rattle.members.specs.Roster.{row-of}
+use Rattle.answer.specs.declared.Row.the-variants as row
+use Rattle.answer.specs.Lists.{headed, gathered}
+use Rattle.answer.specs.Roster.{row-of}
 use Rattle.answer.specs.Promises.{last-standing}
 use Rattle.answer.specs.BookAnswered.{Columns, ColumnsLong}
 use Rattle.dullavane.specs.Asked.{standing-number, member-words, row-after, MemberCalled}

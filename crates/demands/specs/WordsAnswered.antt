@@ -31,10 +31,10 @@ use Rattle.chain.specs.Taken.{requirement-is}
 use Rattle.chain.specs.Chain.{Lent}
 use Rattle.chain.specs.Keeps.{kept-of}
 use Rattle.chain.specs.Ready.{Ready}
-use Rattle.members.specs.declared.Row.{Row}
-use Rattle.members.specs.declared.Row.the-variants as row
-use Rattle.members.specs.Lists.{gathered, gathered-none, gathered-more}
-use Rattle.members.specs.Roster.{Named, row-of, MemberPromise}
+use Rattle.answer.specs.declared.Row.{Row}
+use Rattle.answer.specs.declared.Row.the-variants as row
+use Rattle.answer.specs.Lists.{gathered, gathered-none, gathered-more}
+use Rattle.answer.specs.Roster.{Named, row-of, MemberPromise}
 use Rattle.answer.specs.declared.Answered.{Answered}
 use Rattle.answer.specs.Promises.{last-standing}
 use Rattle.answer.specs.Call.{record-fine}

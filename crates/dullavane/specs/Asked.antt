@@ -18,9 +18,9 @@ use Rattle.rules.specs.declared.Refusal.the-variants.{OutOfTurn, TooShort}
 use Rattle.rules.specs.Refusals.{Reply, taken, refused, unless, number, _>>=_}
 use Rattle.interval.specs.declared.Tally.{Tally}
 use Rattle.interval.specs.Tally.{in-range, answer-turn}
-use Rattle.members.specs.declared.Row.{Row}
-use Rattle.members.specs.declared.Row.the-variants as w
-use Rattle.members.specs.Roster.{MemberPromise, member-only}
+use Rattle.answer.specs.declared.Row.{Row}
+use Rattle.answer.specs.declared.Row.the-variants as w
+use Rattle.answer.specs.Roster.{MemberPromise, member-only}
 use Rattle.dullavane.specs.Words.{held, reply-number, Held, held-means}
 use Rattle.dullavane.specs.Called.{Called, alone-only}
 

@@ -3,6 +3,7 @@
 ghost use Rattle.dullavane.specs.Answers.{AnswerCalled};
 ghost use Rattle.dullavane.specs.Asked.{MemberCalled};
 ghost use Rattle.dullavane.specs.Promises.{ContentsCalled, SettingsCalled, FrequencyCalled, UnitCalled, RequirementCalled};
+use answer::roster::member;
 use asked::direction_of;
 use asked::narrow_asked;
 use asked::tell_answer;
@@ -13,7 +14,6 @@ use interval::Opened;
 use interval::contents::contents;
 use interval::requirement::requirement;
 use interval::settings::settings;
-use members::roster::member;
 use rules::Refusal;
 use rules::refusal_number;
 use units::unit::unit;

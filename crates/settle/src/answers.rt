@@ -10,10 +10,10 @@ use super::records::tally_of;
 use super::records::within_room;
 use answer::Answer;
 use answer::Answered;
+use answer::Row;
 use listing::Amounts;
 use listing::Figures;
 use listing::Pool;
-use members::Row;
 use rules::Direction;
 
 const REQUIREMENT: usize = 24;
@@ -69,7 +69,7 @@ fn print_row(
     if MEMBERS <= place {
         return Printed::Stopped;
     }
-    let who = members::roster::member(row, units, direction, set, figures, numbers, places);
+    let who = answer::roster::member(row, units, direction, set, figures, numbers, places);
     match who {
         Row::Unit(number, standing) => {
             let shares = amounts(place, performances, factors, payments, used, unused);

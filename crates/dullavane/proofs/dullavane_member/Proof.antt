@@ -6,7 +6,7 @@ use lib.ListN.{length}
 use borrow.Author.Needs.{needs}
 use borrow.Author.Tests.{leb-true}
 use Rattle.rules.specs.declared.Direction.{Direction}
-use Rattle.members.specs.Roster.{MemberPromise}
+use Rattle.answer.specs.Roster.{MemberPromise}
 use Rattle.dullavane.specs.Words.{reply-number}
 use Rattle.dullavane.specs.Called.{was-held, was-unheld}
 use Rattle.dullavane.specs.Asked.{ready, asked-narrow, member-words, Ready, ready-means, AskedNarrow, asked-fits}

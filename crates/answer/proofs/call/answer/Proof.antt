@@ -33,9 +33,12 @@ tested-requirement-requires c κs = search needs
 enum-known-read : tie.Need-enum-known-read
 enum-known-read c = search needs
 
+cast-given : tie.Need-cast-given
+cast-given c = search needs
+
 given-requires : tie.Need-given-requires
 given-requires c κs =
-    let r = c .before .before .before .before .before .before in
+    let r = c .before .before .before .before .before .before .before in
     let a = start (tested r) .args in
     let passed = tests-passed (a .tally) (a .part .now) (read r) in
     given-ready (a .part .now) (passed .0) (passed .1)
@@ -61,7 +64,7 @@ same-length-5 c = search needs
 returns : tie.Need-returns
 returns c =
     let g = c .before .before .before .before .before in
-    let r = g .before .before .before .before .before .before .before in
+    let r = g .before .before .before .before .before .before .before .before in
     gives (r .read .given .0 .0) (read r) (g .given .ensures)
 
 returns-2 : tie.Need-returns-2
@@ -73,6 +76,7 @@ answer-spec =
     (tie.spec
     tested-requirement-requires
     enum-known-read
+    cast-given
     given-requires
     enum-known-read-2
     same-length

@@ -3,7 +3,7 @@ use mathlib.Core.Path.{_≡_, refl, _∙_, ap}
 use Prim.Native.Nat.{_≤_}
 use lib.ListN.{length}
 use native.Mathlib.Omega.{arith}
-use Rattle.members.specs.Lists.{headed-length}
+use Rattle.answer.specs.Lists.{headed-length}
 use Rattle.answer.specs.Pools.{used-cents-≤}
 use Rattle.answer.specs.Charges.{cost-charged}
 use borrow.Author.Needs.{needs}
@@ -22,7 +22,7 @@ within-cost c =
     let f = a .fields in
     omega (arith, c .used-pool .ensures, used-cents-≤ (f .cost) (f .enabled) (f .used) (a .reliable))
 
-same-room : (c : tie.After-charge-members) → length (c .charge-members .last .1 .1 .1 .1 .1 .1 .1 .1 .1 .1 .0) ≡ length (start (pooled c) .args .values .now)
+same-room : (c : tie.After-charge-members) → length (c .charge-members .last .1 .1 .1 .1 .1 .1 .1 .1 .1 .1 .1 .0) ≡ length (start (pooled c) .args .values .now)
 same-room c = ap length (c .charge-members .ensures .column) ∙ headed-length _ _
 
 used-pool-requires : tie.Need-used-pool-requires

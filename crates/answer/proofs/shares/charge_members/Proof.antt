@@ -7,14 +7,14 @@ use borrow.Author.Needs.{needs}
 use Rattle.answer.proofs.shares.charge_members.Statement.{statement}
 use Rattle.answer.proofs.shares.charge_members.Tie as tie
 
-gather-requires : tie.Need-gather-requires
-gather-requires c κs = search needs
+put-members-requires : tie.Need-put-members-requires
+put-members-requires c κs = search needs
 
 charge-requires : tie.Need-charge-requires
 charge-requires c κs =
     let g = c .before .before .before in
     let s = g .before .before .before in
-    (front (s .pre .2) (g .gather .ensures) .0, front-fits (s .pre .2) (g .gather .ensures) (s .args .pool) loss loss-≤ (s .pre .0) _ (s .pre .1))
+    (front (s .pre .2) (g .put-members .ensures) .0, front-fits (s .pre .2) (g .put-members .ensures) (s .args .pool) loss loss-≤ (s .pre .0) _ (s .pre .1))
 
 same-length : tie.Need-same-length
 same-length c = search needs
@@ -25,8 +25,8 @@ same-length-2 c = search needs
 returns : tie.Need-returns
 returns c =
     let g = c .before .before .before .before .before in
-    members-charged (g .before .before .before .pre .2) (g .gather .ensures) (c .before .charge .ensures)
+    members-charged (g .before .before .before .pre .2) (g .put-members .ensures) (c .before .charge .ensures)
 
 pub charge-members-spec : {M : Type 1} → statement M
 charge-members-spec =
-    tie.close (tie.spec gather-requires charge-requires same-length same-length-2 returns)
+    tie.close (tie.spec put-members-requires charge-requires same-length same-length-2 returns)

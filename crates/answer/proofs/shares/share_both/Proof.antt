@@ -1,7 +1,7 @@
--- No share refuses: its limits are kept.
-use mathlib.Core.Path.{_≡_, sym}
+-- The share refuses nothing: its limits are kept on both sides.
+use mathlib.Core.Path.{sym}
 use lib.Seq.{length-take-le}
-use Rattle.answer.specs.Shares.{signs-shared, signs-taken}
+use Rattle.answer.specs.Shares.{signs-shared}
 use borrow.Author.Needs.{needs}
 use Rattle.answer.proofs.shares.share_both.Statement.{statement}
 use Rattle.answer.proofs.shares.share_both.Tie as tie
@@ -12,39 +12,15 @@ slice-aggregate-share-signs c = sym (length-take-le (c .before .args .n) (c .bef
 share-signs-requires : tie.Need-share-signs-requires
 share-signs-requires c κs = search needs
 
-enum-known-shared : tie.Need-enum-known-shared
-enum-known-shared c = search needs
-
-enum-told : tie.Need-enum-told
-enum-told c = search needs
-
 same-length : tie.Need-same-length
 same-length c = search needs
 
 returns : tie.Need-returns
 returns c =
-    let v = c .before .before .before .before in
+    let v = c .before in
     let s = v .before .before .before in
-    signs-shared (s .pre .1) (s .pre .2) (v .share-signs .ensures) (c .before .shared .given .0 .0) (c .before .shared .given .0 .1 .0) (c .before .shared .given .1)
-
-same-length-2 : tie.Need-same-length-2
-same-length-2 c = search needs
-
-returns-2 : tie.Need-returns-2
-returns-2 c =
-    let v = c .before .before .before in
-    let s = v .before .before .before in
-    signs-taken (s .pre .1) (s .pre .2) (v .share-signs .ensures) (c .enum-told .given .0 .0) (c .enum-told .given .1)
+    signs-shared (s .pre .1) (s .pre .2) (v .share-signs .ensures)
 
 pub share-both-spec : {M : Type 1} → statement M
 share-both-spec =
-    tie.close
-    (tie.spec
-    slice-aggregate-share-signs
-    share-signs-requires
-    enum-known-shared
-    enum-told
-    same-length
-    returns
-    same-length-2
-    returns-2)
+    tie.close (tie.spec slice-aggregate-share-signs share-signs-requires same-length returns)

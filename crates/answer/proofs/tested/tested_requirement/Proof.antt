@@ -6,7 +6,7 @@ use borrow.Author.Needs.{needs}
 use borrow.Author.Tests.{not-true, not-false}
 use Rattle.interval.specs.Tally.{in-range, answer-turn}
 use Rattle.answer.specs.Promises.{lists-long, columns-long}
-use Rattle.answer.specs.Tested.{tested-requirement, lent-ready}
+use Rattle.answer.specs.Tested.{tested-requirement, lent-long}
 use Rattle.answer.proofs.tested.tested_requirement.Statement.{statement}
 use Rattle.answer.proofs.tested.tested_requirement.Tie as tie
 
@@ -46,7 +46,7 @@ returns-3 c =
     rw (in-turn (e .before .before), long e, sym (c .before .columns-long .ensures) ∙ not-true _ (c .if3 .taken))
 
 lent-in-range-requires : tie.Need-lent-in-range-requires
-lent-in-range-requires c κs = let e = c .before .before in lent-ready (start (e .before .before) .args .tally) (in-turn (e .before .before)) (long e)
+lent-in-range-requires c κs = let e = c .before .before in lent-long (start (e .before .before) .args .tally) (in-turn (e .before .before)) (long e)
 
 returns-4 : tie.Need-returns-4
 unfolding tested-requirement

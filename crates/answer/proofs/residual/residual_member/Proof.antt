@@ -1,0 +1,45 @@
+-- Before a region the residual is that of the regions passed.
+use mathlib.Core.Path.{_≡_}
+use Prim.Native.Nat.{_-_, _≤_}
+use native.Mathlib.Omega.{arith}
+use Rattle.answer.specs.Made.{residual-to}
+use Rattle.answer.specs.Residual.{none-yet}
+use Rattle.answer.proofs.residual.residual_member.Statement.{statement}
+use Rattle.answer.proofs.residual.residual_member.Tie as tie
+
+abbrev Inv-loop : tie.InvT-loop
+Inv-loop direction set units figures places raise lower sum₀ region₀ sum region = (region ≤ 5) × (sum ≡ residual-to direction set units figures places raise lower region)
+
+abbrev μ-loop : tie.MeasureT-loop
+μ-loop direction set units figures places raise lower sum₀ region₀ sum region = 5 - region
+
+loop-holds : tie.Need-loop-holds Inv-loop μ-loop
+loop-holds c = let a = c .before .args in (omega arith, none-yet (a .direction) (a .set) (a .units) (a .figures .now) (a .places .now) (a .raise .now) (a .lower .now))
+
+with-region-requires : tie.Need-with-region-requires Inv-loop μ-loop
+with-region-requires c κs = let s = c .before .before .before in (omega arith, s .pre, c .before .loop .inv .1)
+
+add-region : tie.Need-add-region Inv-loop μ-loop
+add-region c = omega arith
+
+loop-less : tie.Need-loop-less Inv-loop μ-loop
+loop-less c = omega arith
+
+loop-again : tie.Need-loop-again Inv-loop μ-loop
+loop-again c = (omega arith, c .with-region .ensures)
+
+returns : tie.Need-returns Inv-loop μ-loop
+returns c = let e : c .before .loop .region ≡ 5 = omega arith in rw e at (c .before .loop .inv .1)
+
+pub residual-member-spec : {M : Type 1} → statement M
+residual-member-spec =
+    tie.close
+    (tie.spec
+    Inv-loop
+    μ-loop
+    loop-holds
+    with-region-requires
+    add-region
+    loop-less
+    loop-again
+    returns)

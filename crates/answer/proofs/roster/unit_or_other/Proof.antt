@@ -1,0 +1,53 @@
+-- The place and its region's reliability first, then the set.
+use mathlib.Core.Path.{_≡_, sym, _∙_, ap}
+use mathlib.Core.Bool.{true}
+use Prim.Native.Nat.{_<_}
+use native.Mathlib.Omega.{arith}
+use borrow.Author.Needs.{needs}
+use borrow.Author.Tests.{not-true, not-false}
+use Rattle.rules.specs.declared.Standing.{Standing}
+use Rattle.answer.specs.declared.Row.the-variants.{Unit}
+use Rattle.answer.specs.Roster.{place-fine, place-means}
+use Rattle.answer.proofs.roster.unit_or_other.Statement.{statement}
+use Rattle.answer.proofs.roster.unit_or_other.Tie as tie
+
+abbrev S : tie.Else1 → tie.Start
+S c = c .before .before
+
+fine : (c : tie.Else1) → place-fine (S c .args .direction) (S c .args .place) (S c .args .figures .now) ≡ true
+fine c = sym (c .before .place-in-range .ensures) ∙ not-false _ (c .if1 .left)
+
+placed : (c : tie.Else1) → S c .args .place < 10
+placed c = place-means (S c .args .direction) (S c .args .place) (S c .args .figures .now) (fine c)
+
+place-in-range-requires : tie.Need-place-in-range-requires
+place-in-range-requires c κs = search needs
+
+returns : tie.Need-returns
+returns c = rw (sym (c .before .place-in-range .ensures) ∙ not-true _ (c .if1 .taken))
+
+in-set-requires : tie.Need-in-set-requires
+in-set-requires c κs = omega (arith, placed c)
+
+returns-2 : tie.Need-returns-2
+returns-2 c = rw (fine (c .before .before), sym (c .before .in-set .ensures) ∙ not-true _ (c .if2 .taken))
+
+row-standing-requires : tie.Need-row-standing-requires
+row-standing-requires c κs = (placed (c .before .before), S (c .before .before) .pre)
+
+returns-3 : tie.Need-returns-3
+returns-3 c =
+    let h = c .before in
+    let g = h .before .before in
+    rw (fine g, sym (h .before .in-set .ensures) ∙ not-false _ (h .if2 .left)) (ap (λ (s : Standing). Unit (S g .args .number) s) (c .row-standing .ensures))
+
+pub unit-or-other-spec : {M : Type 1} → statement M
+unit-or-other-spec =
+    tie.close
+    (tie.spec
+    place-in-range-requires
+    returns
+    in-set-requires
+    returns-2
+    row-standing-requires
+    returns-3)

@@ -1,0 +1,118 @@
+// RCR's 75 points. Every number has been tested, so these ask for bounds and test none again.
+ghost use mathlib.Core.Path.{_≡_};
+ghost use Prim.Native.Nat.{_<_, max};
+ghost use lib.IntN.{pos};
+ghost use lib.Signed.{ltZ};
+ghost use Rattle.rules.specs.Book.{toward};
+ghost use Rattle.answer.specs.Rcr.{Ready, Summed, point-response, points-largest};
+use super::FIGURES;
+use super::GENERATION;
+use super::POINTS;
+use super::REGIONS;
+use super::regions::covers;
+use super::sizes::above;
+use super::sizes::below;
+use super::sizes::part;
+use rules::Direction;
+
+// Over the set's regions, at one point: generation times FM, and the sums of positive and of negative deviations.
+pub(crate) struct Sums {
+    pub weighed: i64,
+    pub positive: i64,
+    pub negative: i64,
+}
+
+// Is the requirement's FM sign that of the direction?
+fn right_sign(direction: Direction, weighed: i64) -> bool
+    ensures { λ r. ⌜ r ≡ ltZ (pos 0) (toward direction weighed) ⌝ }
+{
+    match direction {
+        Direction::Raise => 0 < weighed,
+        Direction::Lower => weighed < 0,
+    }
+}
+
+fn larger(a: u64, b: u64) -> u64
+    ensures { λ r. ⌜ r ≡ max a b ⌝ }
+{
+    if a < b {
+        return b;
+    }
+    a
+}
+
+fn sums_at(
+    set: u8,
+    t: usize,
+    measures: &[i32],
+    positive: &[i64],
+    negative: &[i64],
+    figures: &[i64],
+) -> Sums
+    requires { ⌜ (t < 75) × Ready (now measures) (now positive) (now negative) (now figures) ⌝ }
+    ensures { λ r. ⌜ Summed set t (now (measures .entry)) (now (positive .entry)) (now (negative .entry)) (now (figures .entry)) r ⌝ }
+{
+    let mut weighed: i64 = 0;
+    let mut risen: i64 = 0;
+    let mut fallen: i64 = 0;
+    let mut region: usize = 0;
+    while region < REGIONS {
+        let at = POINTS * region + t;
+        let counts = covers(set, region);
+        weighed += part(
+            counts,
+            figures[FIGURES * region + GENERATION] * (measures[at] as i64),
+        );
+        risen += part(counts, positive[at]);
+        fallen += part(counts, negative[at]);
+        region += 1;
+    }
+    Sums {
+        weighed: weighed,
+        positive: risen,
+        negative: fallen,
+    }
+}
+
+// At a point of the right sign the larger of the two sums, at any other 0.
+fn response_at(
+    direction: Direction,
+    set: u8,
+    t: usize,
+    measures: &[i32],
+    positive: &[i64],
+    negative: &[i64],
+    figures: &[i64],
+) -> u64
+    requires { ⌜ (t < 75) × Ready (now measures) (now positive) (now negative) (now figures) ⌝ }
+    ensures { λ r. ⌜ r ≡ point-response direction set (now (measures .entry)) (now (positive .entry)) (now (negative .entry)) (now (figures .entry)) t ⌝ }
+{
+    let sums = sums_at(set, t, measures, positive, negative, figures);
+    if !right_sign(direction, sums.weighed) {
+        return 0;
+    }
+    larger(above(sums.positive), below(sums.negative))
+}
+
+pub(crate) fn largest_response(
+    direction: Direction,
+    set: u8,
+    measures: &[i32],
+    positive: &[i64],
+    negative: &[i64],
+    figures: &[i64],
+) -> u64
+    requires { ⌜ Ready (now measures) (now positive) (now negative) (now figures) ⌝ }
+    ensures { λ r. ⌜ r ≡ points-largest direction set (now (measures .entry)) (now (positive .entry)) (now (negative .entry)) (now (figures .entry)) ⌝ }
+{
+    let mut largest: u64 = 0;
+    let mut t: usize = 0;
+    while t < POINTS {
+        largest = larger(
+            largest,
+            response_at(direction, set, t, measures, positive, negative, figures),
+        );
+        t += 1;
+    }
+    largest
+}

@@ -1,0 +1,46 @@
+// RCR, the requirement for corrective response, from what the calls of `interval` have kept of a book (document 01, RCR): the reliability of
+// the set's regions, their bad units, and last the 75 points.
+ghost use mathlib.Core.Path.{_≡_};
+ghost use Rattle.answer.specs.Rcr.{FoundReady, found-is};
+use super::points::largest_response;
+use super::regions::all_reliable;
+use super::units::few_bad;
+use rules::Direction;
+
+// RCR in 75ths of a cMW, and whether every region of the set is reliable in the direction.
+pub(crate) struct Found {
+    pub(crate) rcr: u64,
+    pub(crate) reliable: bool,
+}
+
+pub(crate) fn rcr(
+    units: usize,
+    percent: u8,
+    direction: Direction,
+    set: u8,
+    measures: &[i32],
+    positive: &[i64],
+    negative: &[i64],
+    figures: &[i64],
+    places: &[u8],
+) -> Found
+    requires { ⌜ FoundReady units percent (now measures) (now positive) (now negative) (now figures) (now places) ⌝ }
+    ensures { λ r. ⌜ r ≡ found-is units percent direction set (now (measures .entry)) (now (positive .entry)) (now (negative .entry)) (now (figures .entry)) (now (places .entry)) ⌝ }
+{
+    if !all_reliable(direction, set, figures) {
+        return Found {
+            rcr: 0,
+            reliable: false,
+        };
+    }
+    if !few_bad(units, percent, set, places) {
+        return Found {
+            rcr: 0,
+            reliable: true,
+        };
+    }
+    Found {
+        rcr: largest_response(direction, set, measures, positive, negative, figures),
+        reliable: true,
+    }
+}
