@@ -35,7 +35,8 @@ pool-cents price rcr up down = cond (up && down) (priced price rcr) 0
 abbrev pub used-cents : ℕ → ℕ → ℕ → Bool → ℕ
 used-cents cost enabled used reliable = cond (reliable && not (eqb enabled 0)) (nearestℕ (cost * min used enabled) enabled) 0
 
-pub pool-is : (q : Requirement) (rcr : ℕ) (ms : List Member) → pool-cents (q .price) rcr (any-weight (helpful ms)) (any-weight (unhelpful ms)) ≡ pool-of q rcr ms
+pub pool-is :
+    (q : Requirement) (rcr : ℕ) (ms : List Member) → pool-cents (q .price) rcr (any-weight (helpful ms)) (any-weight (unhelpful ms)) ≡ pool-of q rcr ms
 pool-is q rcr ms = refl
 
 pub used-is : (q : Requirement) (reliable : Bool) → used-cents (q .cost) (q .enabled) (q .used) reliable ≡ used-pool-of q reliable
@@ -80,7 +81,8 @@ both-taken (refused f) y e = let z : _≡_ {A = ℕ} 0 1 = cc in absurd (omega a
 
 -- so a share over both signs tells, by what it leaves unplaced, which of them has a member
 module _ (T : ℕ) (h : 0 < T) where
-  pub signs-told : {ps old new : List ℤ} {u v : ℕ} → SignsOut T ps old (Placed u v) new → (eqb u 0 ≡ any-weight (map gain ps)) × (eqb v 0 ≡ any-weight (map loss ps))
+  pub signs-told :
+      {ps old new : List ℤ} {u v : ℕ} → SignsOut T ps old (Placed u v) new → (eqb u 0 ≡ any-weight (map gain ps)) × (eqb v 0 ≡ any-weight (map loss ps))
   signs-told {ps} {old} s =
       let t = both-taken (share-reply T (map gain ps) (length old)) (share-reply T (map loss ps) (length old)) (s .reply) in
       (told (map gain ps) (t .0), told (map loss ps) (t .1))
@@ -89,11 +91,15 @@ module _ (T : ℕ) (h : 0 < T) where
       told ws e = ap (λ (n : ℕ). eqb n 0) (sym (taken-unplaced T ws (length old) e)) ∙ placed-by-weight T ws h
 
   -- over the members' payment performances, these are the signs that the pool asks for
-  pub members-told : (ms : List Member) {old new : List ℤ} {u v : ℕ} → SignsOut T (map (λ m. m .payment) ms) old (Placed u v) new → (eqb u 0 ≡ any-weight (helpful ms)) × (eqb v 0 ≡ any-weight (unhelpful ms))
+  pub members-told :
+      (ms : List Member) {old new : List ℤ} {u v : ℕ} → SignsOut T (map (λ m. m .payment) ms) old (Placed u v) new → (eqb u 0 ≡ any-weight (helpful ms))
+      × (eqb v 0 ≡ any-weight (unhelpful ms))
   members-told ms s =
       let t = signs-told s in
       (t .0 ∙ ap any-weight (map-map gain (λ m. m .payment) ms), t .1 ∙ ap any-weight (map-map loss (λ m. m .payment) ms))
 
   -- and the pool is what the code makes of it
-  pub pool-told : (q : Requirement) (rcr : ℕ) (ms : List Member) {old new : List ℤ} {u v : ℕ} → SignsOut T (map (λ m. m .payment) ms) old (Placed u v) new → pool-cents (q .price) rcr (eqb u 0) (eqb v 0) ≡ pool-of q rcr ms
+  pub pool-told :
+      (q : Requirement) (rcr : ℕ) (ms : List Member) {old new : List ℤ} {u v : ℕ} → SignsOut T (map (λ m. m .payment) ms) old (Placed u v) new →
+      pool-cents (q .price) rcr (eqb u 0) (eqb v 0) ≡ pool-of q rcr ms
   pool-told q rcr ms s = let t = members-told ms s in rw (t .0, t .1)

@@ -27,7 +27,8 @@ use Rattle.answer.specs.declared.Field.{Field}
 use Rattle.answer.specs.declared.Field.the-variants.{Payment, Used, Unused}
 use Rattle.answer.specs.declared.Member.{Member}
 use Rattle.answer.specs.declared.residual.Held.{Held}
-use Rattle.answer.specs.Made.{side, flag, picked, defaults-at, place-region, place-good, rows-there, good-there, performances-there, region-made, joined, standing-joined, residual-to}
+use Rattle.answer.specs.Made.{side, flag, picked, defaults-at, place-region, place-good, rows-there, good-there, performances-there, region-made}
+use Rattle.answer.specs.Made.{joined, standing-joined, residual-to}
 
 -- a column of performances, with a place for each
 pub record RowsFit (units : ℕ) (qs : List ℕ) (xs : List ℤ) : Type 0 where
@@ -67,12 +68,15 @@ module _ {units : ℕ} {places : List ℕ} {xs : List ℤ} (h : RowsFit units pl
   pub held-size : (n : ℕ) → n ≤ units → natAbs (sum n (adds r places xs)) ≤ count n (λ i. eqb r (place-region i places)) * performance-limit
   held-size n l =
       rw (sumℕ-times n performance-limit (λ i. one (eqb r (place-region i places)))) at
-      (sum-size n (adds r places xs) (λ i. one (eqb r (place-region i places)) * performance-limit) (λ i k. when-size (eqb r (place-region i places)) (place-good i places) performance-limit (getD xs i (pos 0)) (h .within i (omega arith))))
+      (sum-size n (adds r places xs) (λ i. one (eqb r (place-region i places)) * performance-limit)
+      (λ i k. when-size (eqb r (place-region i places)) (place-good i places) performance-limit (getD xs i (pos 0)) (h .within i (omega arith))))
 
   pub held-within : (n : ℕ) → n ≤ units → Within 2_880_000_000_000_000_000 (sum n (adds r places xs))
   held-within n l = record { size = omega (arith, held-size n l, count-≤ n (λ i. eqb r (place-region i places)), h .few) }
 
-pub column-fits : (d : Direction) {units : ℕ} {places : List ℕ} {raise lower : List ℤ} → RowsFit units places raise → RowsFit units places lower → RowsFit units places (side d raise lower)
+pub column-fits :
+    (d : Direction) {units : ℕ} {places : List ℕ} {raise lower : List ℤ} → RowsFit units places raise → RowsFit units places lower →
+    RowsFit units places (side d raise lower)
 column-fits Raise r l = r
 column-fits Lower r l = l
 
@@ -103,10 +107,17 @@ in-one-region : (units : ℕ) (places : List ℕ) → sumℕ regions (λ r. rows
 unfolding sumℕ
 in-one-region zero places = omega arith
 in-one-region (suc n) places =
-    omega (arith, sumℕ-plus regions (λ r. rows-there r n places) (λ r. one (eqb r (place-region n places))), count-one regions (place-region n places), in-one-region n places)
+    omega (
+      arith,
+      sumℕ-plus regions (λ r. rows-there r n places) (λ r. one (eqb r (place-region n places))),
+      count-one regions (place-region n places),
+      in-one-region n places,
+    )
 
 -- ---- the residual of some regions
-pub same-member : {s s′ : Standing} {p p′ u u′ v v′ : ℤ} → s ≡ s′ → p ≡ p′ → u ≡ u′ → v ≡ v′ → _≡_ {A = Member} (record { standing = s; payment = p; used = u; unused = v }) (record { standing = s′; payment = p′; used = u′; unused = v′ })
+pub same-member :
+    {s s′ : Standing} {p p′ u u′ v v′ : ℤ} → s ≡ s′ → p ≡ p′ → u ≡ u′ → v ≡ v′ →
+    _≡_ {A = Member} (record { standing = s; payment = p; used = u; unused = v }) (record { standing = s′; payment = p′; used = u′; unused = v′ })
 same-member {s} {s′} {p} {p′} {u} {u′} {v} {v′} hs hp hu hv =
     ap₂ (λ (a : Standing) (b : ℤ). record { standing = a; payment = b; used = u; unused = v }) hs hp
     ∙ ap₂ (λ (a b : ℤ). record { standing = s′; payment = p′; used = a; unused = b }) hu hv
@@ -145,7 +156,8 @@ module _ (d : Direction) (set units : ℕ) (figures : List ℤ) (places : List �
   pub residual-more : (n : ℕ) → bit n set ≡ true → residual (n + 1) ≡ joined (residual n) (region n)
   residual-more n e =
       same-member
-      (standing-more n ∙ rw e (standing-joined (every n sound) (flag d n figures) (every n fine) (leb 1 (good-there n units places) || eqb (rows-there n units places) 0)))
+      (standing-more n ∙ rw e (standing-joined (every n sound) (flag d n figures) (every n fine)
+      (leb 1 (good-there n units places) || eqb (rows-there n units places) 0)))
       (sum-step n (λ r. when (bit r set) (region r .payment)) ∙ rw e)
       (sum-step n (λ r. when (bit r set) (region r .used)) ∙ rw e)
       (sum-step n (λ r. when (bit r set) (region r .unused)) ∙ rw e)
@@ -164,9 +176,11 @@ module _ (d : Direction) (set units : ℕ) (figures : List ℤ) (places : List �
       and-true false = refl
 
   module _ (h : RegionsFit units figures places raise lower) where
-    default-within : (d : Direction) (r f : ℕ) → r < regions → f < 3 → Within residual-default-limit (getD figures (figures-each * r + (3 + defaults-at d + f)) (pos 0))
+    default-within :
+        (d : Direction) (r f : ℕ) → r < regions → f < 3 → Within residual-default-limit (getD figures (figures-each * r + (3 + defaults-at d + f)) (pos 0))
     default-within Raise r f l k = h .defaults r f l (omega arith)
-    default-within Lower r f l k = let e : figures-each * r + (3 + 3 + f) ≡ figures-each * r + (3 + (3 + f)) = omega arith in rw e (h .defaults r (3 + f) l (omega arith))
+    default-within Lower r f l k =
+        let e : figures-each * r + (3 + 3 + f) ≡ figures-each * r + (3 + (3 + f)) = omega arith in rw e (h .defaults r (3 + f) l (omega arith))
 
     turned-size : (r : ℕ) → natAbs (negℤ (performances-there r units places (side d raise lower))) ≤ rows-there r units places * performance-limit
     turned-size r = rw abs-neg (held-size (column-fits d (h .raise) (h .lower)) r units (omega arith))
@@ -187,14 +201,16 @@ module _ (d : Direction) (set units : ℕ) (figures : List ℤ) (places : List �
     unused-sized r l = omega (arith, default-within d r 2 l (omega arith) .size)
 
     -- and all regions together
-    regions-within : (pick : Member → ℤ) → Sized pick → (n : ℕ) → n ≤ regions → Within 3_130_000_000_000_000_000 (sum n (λ r. when (bit r set) (pick (region r))))
+    regions-within :
+        (pick : Member → ℤ) → Sized pick → (n : ℕ) → n ≤ regions → Within 3_130_000_000_000_000_000 (sum n (λ r. when (bit r set) (pick (region r))))
     unfolding sumℕ
     regions-within pick s n l =
         record {
           size =
               omega (
                 arith,
-                sum-size n (λ r. when (bit r set) (pick (region r))) (λ r. rows-there r units places * performance-limit + residual-default-limit) (λ r k. when-≤ (bit r set) (pick (region r)) _ (s r (omega arith))),
+                sum-size n (λ r. when (bit r set) (pick (region r))) (λ r. rows-there r units places * performance-limit + residual-default-limit)
+                    (λ r k. when-≤ (bit r set) (pick (region r)) _ (s r (omega arith))),
                 sumℕ-prefix n regions (λ r. rows-there r units places * performance-limit + residual-default-limit) l,
                 sumℕ-plus regions (λ r. rows-there r units places * performance-limit) (λ r. residual-default-limit),
                 sumℕ-times regions performance-limit (λ r. rows-there r units places),
@@ -203,10 +219,14 @@ module _ (d : Direction) (set units : ℕ) (figures : List ℤ) (places : List �
               );
         }
 
-    adding : (pick : Member → ℤ) → Sized pick → (n : ℕ) → n < regions → bit n set ≡ true → Fitting (sum n (λ r. when (bit r set) (pick (region r)))) (pick (region n))
+    adding :
+        (pick : Member → ℤ) → Sized pick → (n : ℕ) → n < regions → bit n set ≡ true →
+        Fitting (sum n (λ r. when (bit r set) (pick (region r)))) (pick (region n))
     adding pick s n l e =
-        let more : sum (n + 1) (λ r. when (bit r set) (pick (region r))) ≡ sum n (λ r. when (bit r set) (pick (region r))) +ℤ pick (region n) = sum-step n (λ r. when (bit r set) (pick (region r))) ∙ rw e in
-        let size : Within 3_130_000_000_000_000_000 (pick (region n)) = record { size = omega (arith, s n l, count-≤ units (λ i. eqb n (place-region i places)), h .raise .few) } in
+        let more : sum (n + 1) (λ r. when (bit r set) (pick (region r))) ≡ sum n (λ r. when (bit r set) (pick (region r))) +ℤ pick (region n) = sum-step n
+        (λ r. when (bit r set) (pick (region r))) ∙ rw e in
+        let size : Within 3_130_000_000_000_000_000 (pick (region n)) = record
+        { size = omega (arith, s n l, count-≤ units (λ i. eqb n (place-region i places)), h .raise .few) } in
         record {
           first = fits-within tt (regions-within pick s n (omega arith));
           second = fits-within tt size;

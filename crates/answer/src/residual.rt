@@ -136,7 +136,8 @@ fn with_region(
     raise: &[i64],
     lower: &[i64],
 ) -> Member
-    requires { ⌜ (region < 5) × RegionsFit units (now figures) (now places) (now raise) (now lower) × (sum ≡ residual-to direction set units (now figures) (now places) (now raise) (now lower) region) ⌝ }
+    requires { ⌜ (region < 5) × RegionsFit units (now figures) (now places) (now raise) (now lower)
+        × (sum ≡ residual-to direction set units (now figures) (now places) (now raise) (now lower) region) ⌝ }
     ensures { λ r. ⌜ r ≡ residual-to direction set units (now (figures .entry)) (now (places .entry)) (now (raise .entry)) (now (lower .entry)) (region + 1) ⌝ }
 {
     if !covers(set, region) {

@@ -39,21 +39,29 @@ abbrev μ-loop : tie.MeasureT-loop
 abbrev start : tie.At-loop Inv-loop μ-loop → tie.Start Inv-loop μ-loop
 start l = l .before .before
 
-rows-more : (c : tie.After-counted Inv-loop μ-loop) → let l = c .before .before .before .before in l .loop .rows + c .counted .result ≡ count (l .loop .i + 1) (there (start l .args .region) (start l .args .places .now))
+rows-more :
+    (c : tie.After-counted Inv-loop μ-loop) → let l = c .before .before .before .before in l .loop .rows + c .counted .result ≡ count (l .loop .i + 1)
+    (there (start l .args .region) (start l .args .places .now))
 rows-more c =
     let l = c .before .before .before .before in
-    ap₂ _+_ (l .loop .inv .counted) (c .counted .ensures) ∙ sym (sumℕ-step (l .loop .i) (λ j. one (there (start l .args .region) (start l .args .places .now) j)))
+    ap₂ _+_ (l .loop .inv .counted) (c .counted .ensures) ∙ sym
+    (sumℕ-step (l .loop .i) (λ j. one (there (start l .args .region) (start l .args .places .now) j)))
 
-good-more : (c : tie.After-counted2 Inv-loop μ-loop) → let l = c .before .before .before .before .before in l .loop .good + c .counted2 .result ≡ count (l .loop .i + 1) (fine (start l .args .region) (start l .args .places .now))
+good-more :
+    (c : tie.After-counted2 Inv-loop μ-loop) → let l = c .before .before .before .before .before in l .loop .good + c .counted2 .result ≡ count
+    (l .loop .i + 1) (fine (start l .args .region) (start l .args .places .now))
 good-more c =
     let l = c .before .before .before .before .before in
-    ap₂ _+_ (l .loop .inv .good-counted) (c .counted2 .ensures ∙ ap one (c .before .before .good-there .ensures)) ∙ sym (sumℕ-step (l .loop .i) (λ j. one (fine (start l .args .region) (start l .args .places .now) j)))
+    ap₂ _+_ (l .loop .inv .good-counted) (c .counted2 .ensures ∙ ap one (c .before .before .good-there .ensures))
+    ∙ sym (sumℕ-step (l .loop .i) (λ j. one (fine (start l .args .region) (start l .args .places .now) j)))
 
 abbrev at-turn : tie.After-part Inv-loop μ-loop → tie.At-loop Inv-loop μ-loop
 at-turn c = c .before .before .before .before .before .before .before
 
 -- what the row adds, and the sum with it
-part : (c : tie.After-part Inv-loop μ-loop) → let a = start (at-turn c) .args in c .part .result ≡ adds (a .region) (a .places .now) (a .performances .now) (at-turn c .loop .i)
+part :
+    (c : tie.After-part Inv-loop μ-loop) → let a = start (at-turn c) .args in c .part .result ≡ adds (a .region) (a .places .now) (a .performances .now)
+    (at-turn c .loop .i)
 part c =
     let a = start (at-turn c) .args in
     let i = at-turn c .loop .i in
@@ -61,12 +69,17 @@ part c =
     ∙ ap₂ (λ (t : Bool) (z : ℤ). when t z) (c .before .before .before .before .good-there .ensures) (toZ-ofZ (sfits-of (c .before .part-arg .given)))
     ∙ when-both (there (a .region) (a .places .now) i) (place-good i (a .places .now)) (getD (a .performances .now) i (pos 0))
 
-sum-more : (c : tie.After-part Inv-loop μ-loop) → let a = start (at-turn c) .args in toZ w64 (at-turn c .loop .sum) +ℤ toZ w64 (ofZ w64 (c .part .result)) ≡ sum (at-turn c .loop .i + 1) (adds (a .region) (a .places .now) (a .performances .now))
+sum-more :
+    (c : tie.After-part Inv-loop μ-loop) → let a = start (at-turn c) .args in toZ w64 (at-turn c .loop .sum) +ℤ toZ w64 (ofZ w64 (c .part .result)) ≡ sum
+    (at-turn c .loop .i + 1) (adds (a .region) (a .places .now) (a .performances .now))
 sum-more c =
     let a = start (at-turn c) .args in
-    ap₂ _+ℤ_ (at-turn c .loop .inv .summed) (toZ-ofZ (sfits-of (c .part .ok)) ∙ part c) ∙ sym (sum-step (at-turn c .loop .i) (adds (a .region) (a .places .now) (a .performances .now)))
+    ap₂ _+ℤ_ (at-turn c .loop .inv .summed) (toZ-ofZ (sfits-of (c .part .ok)) ∙ part c)
+    ∙ sym (sum-step (at-turn c .loop .i) (adds (a .region) (a .places .now) (a .performances .now)))
 
-sum-fits : (c : tie.After-part Inv-loop μ-loop) → let a = start (at-turn c) .args in SFits w64 (sum (at-turn c .loop .i + 1) (adds (a .region) (a .places .now) (a .performances .now)))
+sum-fits :
+    (c : tie.After-part Inv-loop μ-loop) → let a = start (at-turn c) .args in SFits w64
+    (sum (at-turn c .loop .i + 1) (adds (a .region) (a .places .now) (a .performances .now)))
 sum-fits c =
     let s = start (at-turn c) in
     fits-within tt (held-within (s .pre) (s .args .region) (at-turn c .loop .i + 1) (omega arith))
@@ -87,13 +100,25 @@ counted-requires : tie.Need-counted-requires Inv-loop μ-loop
 counted-requires c κs = tt
 
 add-rows : tie.Need-add-rows Inv-loop μ-loop
-add-rows c = omega (arith, rows-more c, count-≤ (c .before .before .before .before .loop .i + 1) (there (start (c .before .before .before .before) .args .region) (start (c .before .before .before .before) .args .places .now)))
+add-rows c =
+    omega (
+      arith,
+      rows-more c,
+      count-≤ (c .before .before .before .before .loop .i + 1)
+          (there (start (c .before .before .before .before) .args .region) (start (c .before .before .before .before) .args .places .now)),
+    )
 
 counted-requires-2 : tie.Need-counted-requires-2 Inv-loop μ-loop
 counted-requires-2 c κs = tt
 
 add-good : tie.Need-add-good Inv-loop μ-loop
-add-good c = omega (arith, good-more c, count-≤ (c .before .before .before .before .before .loop .i + 1) (fine (start (c .before .before .before .before .before) .args .region) (start (c .before .before .before .before .before) .args .places .now)))
+add-good c =
+    omega (
+      arith,
+      good-more c,
+      count-≤ (c .before .before .before .before .before .loop .i + 1)
+          (fine (start (c .before .before .before .before .before) .args .region) (start (c .before .before .before .before .before) .args .places .now)),
+    )
 
 mul-part : tie.Need-mul-part Inv-loop μ-loop
 mul-part c = omega arith
@@ -114,7 +139,14 @@ loop-less : tie.Need-loop-less Inv-loop μ-loop
 loop-less c = omega arith
 
 loop-again : tie.Need-loop-again Inv-loop μ-loop
-loop-again c = record { in-order = omega arith; counted = rows-more (c .before .before .before); good-counted = good-more (c .before .before); summed = toZ-ofZ (rw (sum-more c) (sum-fits c)) ∙ sum-more c }
+loop-again c =
+    record {
+      in-order = omega arith;
+      counted = rows-more (c .before .before .before);
+      good-counted = good-more (c .before .before);
+      summed = toZ-ofZ
+          (rw (sum-more c) (sum-fits c)) ∙ sum-more c;
+    }
 
 returns : tie.Need-returns Inv-loop μ-loop
 returns c =
