@@ -314,52 +314,9 @@ answer-same :
       rcr = x;
       pool = y;
       used = record { pool = a; unplaced = b };
-      unused = record
-          { pool = c; unplaced = e };
-    }) (record {
-      number = number;
-      direction = d;
-      members = m′;
-      residual = s′;
-      rcr = x′;
-      pool = y′;
-      used = record { pool = a′; unplaced = b′ };
-      unused = record
-          { pool = c′; unplaced = e′ };
+      unused = record { pool = c; unplaced = e };
     })
-answer-same {number} {d} {m} {m′} {s} {s′} {x} {x′} {y} {y′} {a} {a′} {b} {b′} {c} {c′} {e} {e′} hm hs hx hy ha hb hc he =
-    ap₂ (λ (i : ℕ) (j : Standing). record {
-      number = number;
-      direction = d;
-      members = i;
-      residual = j;
-      rcr = x;
-      pool = y;
-      used = record { pool = a; unplaced = b };
-      unused = record
-          { pool = c; unplaced = e };
-    }) hm hs
-    ∙ ap₂ (λ (i j : ℕ). record {
-      number = number;
-      direction = d;
-      members = m′;
-      residual = s′;
-      rcr = i;
-      pool = j;
-      used = record { pool = a; unplaced = b };
-      unused = record { pool = c; unplaced = e };
-    }) hx hy
-    ∙ ap₂ (λ (i j : ℕ). record {
-      number = number;
-      direction = d;
-      members = m′;
-      residual = s′;
-      rcr = x′;
-      pool = y′;
-      used = record { pool = i; unplaced = j };
-      unused = record { pool = c; unplaced = e };
-    }) ha hb
-    ∙ ap₂ (λ (i j : ℕ). record {
+    (record {
       number = number;
       direction = d;
       members = m′;
@@ -367,8 +324,9 @@ answer-same {number} {d} {m} {m′} {s} {s′} {x} {x′} {y} {y′} {a} {a′} 
       rcr = x′;
       pool = y′;
       used = record { pool = a′; unplaced = b′ };
-      unused = record { pool = i; unplaced = j };
-    }) hc he
+      unused = record { pool = c′; unplaced = e′ };
+    })
+answer-same hm hs hx hy ha hb hc he = cc
 
 -- what the calls answer is the answer of what is kept
 module _ (f : RequirementFields) (n p : ℕ) (ms ps ns fs : List ℤ) (us qs : List ℕ) (xs ys ds : List ℤ) where

@@ -4,7 +4,6 @@ use mathlib.Core.Bool.{Bool, true, false, cond, not, _&&_, _||_}
 use mathlib.Core.List.{List}
 use Prim.Native.Nat.{ℕ, _+_, _*_, _/_, _%_, _≤_, _<_, max}
 use native.Mathlib.Omega.{arith}
-use lib.Bits.{bitAnd, and-mask}
 use lib.Dec.{eqb, leb, ltb}
 use lib.IntN.{ℤ, pos, negsuc, natAbs, _+ℤ_, _*ℤ_}
 use lib.ListN.{length, getD}
@@ -44,10 +43,7 @@ unfolding all-stand
 all-stand-is Raise set units percent measures positive negative figures places = refl
 all-stand-is Lower set units percent measures positive negative figures places = refl
 
--- ---- units by their places: the region is the place shifted by one, and a good unit's lowest bit is 1
-pub place-masked : (place : ℕ) → eqb (bitAnd place 1) 1 ≡ eqb (place % 2) 1
-place-masked place = ap (λ (y : ℕ). eqb y 1) (and-mask place 1)
-
+-- ---- units by their places
 pub record PlacesFine (units : ℕ) (places : List ℕ) : Type 0 where
   pub here : (i : ℕ) → i < units → getD places i 0 < 10
 

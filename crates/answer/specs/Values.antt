@@ -143,24 +143,6 @@ values-of-kept f k q =
     kept-values f (kept-rows (k .units) (k .figures) (k .places) (k .raise) (k .lower) (k .defaults)) (asked (q .direction) (q .set))
     ∙ sym (kept-values f k q)
 
-pub many-of-kept :
-    (k : Kept) (q : Requirement) → length
-    (kept-members (kept-rows (k .units) (k .figures) (k .places) (k .raise) (k .lower) (k .defaults)) (asked (q .direction) (q .set))) ≡ length
-    (kept-members k q)
-many-of-kept k q =
-    sym (length-map (kept-members (kept-rows (k .units) (k .figures) (k .places) (k .raise) (k .lower) (k .defaults)) (asked (q .direction) (q .set)))
-    (field-of Payment))
-    ∙ ap length (values-of-kept Payment k q)
-    ∙ length-map (kept-members k q) (field-of Payment)
-
-pub last-of-kept :
-    (k : Kept) (q : Requirement) → residual-row (kept-rows (k .units) (k .figures) (k .places) (k .raise) (k .lower) (k .defaults))
-    (asked (q .direction) (q .set)) .standing ≡ residual-row k q .standing
-last-of-kept k q =
-    ap (λ (m : Member). m .standing)
-    (residual-shown (kept-rows (k .units) (k .figures) (k .places) (k .raise) (k .lower) (k .defaults)) (asked (q .direction) (q .set))
-    ∙ sym (residual-shown k q))
-
 -- ---- numbers in range
 default-within : (limit : ℕ) (x : ℤ) → default-fine limit x ≡ true → Within limit x
 default-within limit x e =
