@@ -52,7 +52,8 @@ pub record FieldsFine (q : Requirement) : Type 0 where
 
 fine-fields : (q : Requirement) → requirement-fine q ≡ true → FieldsFine q
 fine-fields q e =
-    let a = both (set-fine (q .set) && leb (q .price) price-limit && leb (q .cost) cost-limit && leb (q .enabled) amount-limit) (leb (q .used) amount-limit) e in
+    let a = both (set-fine (q .set) && leb (q .price) price-limit && leb (q .cost) cost-limit && leb (q .enabled) amount-limit) (leb (q .used) amount-limit)
+    e in
     let b = both (set-fine (q .set) && leb (q .price) price-limit && leb (q .cost) cost-limit) (leb (q .enabled) amount-limit) (a .0) in
     let c = both (set-fine (q .set) && leb (q .price) price-limit) (leb (q .cost) cost-limit) (b .0) in
     let d = both (set-fine (q .set)) (leb (q .price) price-limit) (c .0) in
@@ -70,7 +71,10 @@ record-fine bs q e =
     rw (took (ends .1)) at (fine-fields (requirement-in bs) (fine .1))
 
 -- so past the tests it can be answered
-pub given-ready : {t : Tally} (part : List ℕ) {f : RequirementFields} {ms ps ns fs : List ℤ} {qs : List ℕ} {xs ys ds : List ℤ} {a b c d e : ℕ} → Tested t ms ps ns fs qs xs ys ds a b c d e → requirement-record 0 false part ≡ taken (required f) → GivenReady f (t .units) (t .percent) ms ps ns fs qs xs ys ds a b c d e
+pub given-ready :
+    {t : Tally} (part : List ℕ) {f : RequirementFields} {ms ps ns fs : List ℤ} {qs : List ℕ} {xs ys ds : List ℤ} {a b c d e : ℕ} →
+    Tested t ms ps ns fs qs xs ys ds a b c d e → requirement-record 0 false part ≡ taken (required f) →
+    GivenReady f (t .units) (t .percent) ms ps ns fs qs xs ys ds a b c d e
 given-ready {t} part {f} {ms} {ps} {ns} {fs} {qs} {xs} {ys} {ds} h r =
     let turn = both (in-range t) (answer-turn t) (h .turn) in
     let begun : 1 ≤ t .records = omega (arith, leb-true (units-end t) (t .records) (turn .1)) in
@@ -88,7 +92,9 @@ given-ready {t} part {f} {ms} {ps} {ns} {fs} {qs} {xs} {ys} {ds} h r =
 
 -- ---- the promise
 module _ {t : Tally} {part : List ℕ} {ms ps ns fs : List ℤ} {qs : List ℕ} {xs ys ds old₁ old₂ old₃ old₄ old₅ : List ℤ} where
-  pub refuses : (x : Refusal) → tested-requirement t part ms ps ns fs qs xs ys ds (length old₁) (length old₂) (length old₃) (length old₄) (length old₅) ≡ refused x → AnswerPromise t part ms ps ns fs qs xs ys ds old₁ old₂ old₃ old₄ old₅ (Refused x) old₁ old₂ old₃ old₄ old₅
+  pub refuses :
+      (x : Refusal) → tested-requirement t part ms ps ns fs qs xs ys ds (length old₁) (length old₂) (length old₃) (length old₄) (length old₅) ≡ refused x →
+      AnswerPromise t part ms ps ns fs qs xs ys ds old₁ old₂ old₃ old₄ old₅ (Refused x) old₁ old₂ old₃ old₄ old₅
   refuses x r =
       record {
         whatever =
@@ -97,7 +103,11 @@ module _ {t : Tally} {part : List ℕ} {ms ps ns fs : List ℤ} {qs : List ℕ} 
             record { reply = rw e; performances = rw e; factors = rw e; payments = rw e; used = rw e; unused = rw e };
       }
 
-  pub gives : (f : RequirementFields) {a : Answered} {new₁ new₂ new₃ new₄ new₅ : List ℤ} → tested-requirement t part ms ps ns fs qs xs ys ds (length old₁) (length old₂) (length old₃) (length old₄) (length old₅) ≡ taken (required f) → GivenAll f (t .units) (t .percent) ms ps ns fs qs xs ys ds old₁ old₂ old₃ old₄ old₅ a new₁ new₂ new₃ new₄ new₅ → AnswerPromise t part ms ps ns fs qs xs ys ds old₁ old₂ old₃ old₄ old₅ a new₁ new₂ new₃ new₄ new₅
+  pub gives :
+      (f : RequirementFields) {a : Answered} {new₁ new₂ new₃ new₄ new₅ : List ℤ} →
+      tested-requirement t part ms ps ns fs qs xs ys ds (length old₁) (length old₂) (length old₃) (length old₄) (length old₅) ≡ taken (required f) →
+      GivenAll f (t .units) (t .percent) ms ps ns fs qs xs ys ds old₁ old₂ old₃ old₄ old₅ a new₁ new₂ new₃ new₄ new₅ →
+      AnswerPromise t part ms ps ns fs qs xs ys ds old₁ old₂ old₃ old₄ old₅ a new₁ new₂ new₃ new₄ new₅
   gives f r g =
       record {
         whatever =

@@ -14,7 +14,8 @@ use Rattle.answer.specs.Values.{MembersReady}
 use Rattle.answer.specs.Pools.{used-cents}
 use Rattle.answer.specs.Shares.{numbers, MembersCharged}
 
-pub record CostReady (f : RequirementFields) (units : ℕ) (fs : List ℤ) (qs : List ℕ) (xs ys ds : List ℤ) (residual : Member) (room used-room unused-room : ℕ) : Type 0 where
+pub record CostReady (f : RequirementFields) (units : ℕ) (fs : List ℤ) (qs : List ℕ) (xs ys ds : List ℤ) (residual : Member)
+    (room used-room unused-room : ℕ) : Type 0 where
   pub cost : f .cost ≤ cost-limit
   pub enabled : f .enabled ≤ amount-limit
   pub used : units < used-room
@@ -29,10 +30,15 @@ module _ (f : RequirementFields) (reliable : Bool) (units : ℕ) (fs : List ℤ)
   pub record CostCharged (old was-used was-unused : List ℤ) (r : Charges) (new now-used now-unused : List ℤ) : Type 0 where
     pub used : r .used .pool ≡ used-cents (f .cost) (f .enabled) (f .used) reliable
     pub unused : r .unused .pool ≡ f .cost - r .used .pool
-    pub over-unused : MembersCharged Unused (r .unused .pool) units (f .direction) (f .set) fs qs xs ys ds old was-unused (r .unused .reply) (between old) now-unused
+    pub over-unused :
+        MembersCharged Unused (r .unused .pool) units (f .direction) (f .set) fs qs xs ys ds old was-unused (r .unused .reply) (between old) now-unused
     pub over-used : MembersCharged Used (r .used .pool) units (f .direction) (f .set) fs qs xs ys ds (between old) was-used (r .used .reply) new now-used
 
-  pub cost-charged : {r : Charges} {old middle new was-used was-unused now-used now-unused : List ℤ} → r .used .pool ≡ used-cents (f .cost) (f .enabled) (f .used) reliable → r .unused .pool ≡ f .cost - r .used .pool → MembersCharged Unused (r .unused .pool) units (f .direction) (f .set) fs qs xs ys ds old was-unused (r .unused .reply) middle now-unused → MembersCharged Used (r .used .pool) units (f .direction) (f .set) fs qs xs ys ds middle was-used (r .used .reply) new now-used → CostCharged old was-used was-unused r new now-used now-unused
+  pub cost-charged :
+      {r : Charges} {old middle new was-used was-unused now-used now-unused : List ℤ} → r .used .pool ≡ used-cents (f .cost) (f .enabled) (f .used) reliable →
+      r .unused .pool ≡ f .cost - r .used .pool → MembersCharged Unused (r .unused .pool) units (f .direction) (f .set) fs qs xs ys ds old was-unused
+      (r .unused .reply) middle now-unused → MembersCharged Used (r .used .pool) units (f .direction) (f .set) fs qs xs ys ds middle was-used (r .used .reply)
+      new now-used → CostCharged old was-used was-unused r new now-used now-unused
   cost-charged eu ev first second =
       record {
         used = eu;

@@ -26,7 +26,8 @@ use Rattle.rules.specs.Factors.{both-signs, factor}
 use Rattle.rules.specs.Cents.{any-weight, pool-of, used-pool-of, used-weights, unused-weights, charge}
 use Rattle.rules.specs.Answer.{Line, lines-of, answered, Answer as Full}
 use Rattle.interval.specs.Lent.{series-start}
-use Rattle.kept.specs.Kept.{Kept, kept-members, kept-rcr, kept-reliable, kept-few-bad, kept-weighed, kept-positive, kept-negative, kept-response, kept-answer, residual-row, row-member, rows}
+use Rattle.kept.specs.Kept.{Kept, kept-members, kept-rcr, kept-reliable, kept-few-bad, kept-weighed, kept-positive, kept-negative, kept-response}
+use Rattle.kept.specs.Kept.{kept-answer, residual-row, row-member, rows}
 use Rattle.kept.specs.Range.{series-fine, kept-fine, measures-fine, sums-fine}
 use Rattle.book.specs.declared.RequirementFields.{RequirementFields}
 use Rattle.share.specs.declared.Shared.{Shared}
@@ -67,11 +68,18 @@ cond-≤ false x k h = omega arith
 pub rcr-within : (k : Kept) (q : Requirement) → k .units ≤ most-units → series-fine k ≡ true → kept-rcr k q ≤ 7_680_000_000
 unfolding kept-rcr series-fine
 rcr-within k q few e =
-    cond-≤ (kept-reliable k q && kept-few-bad k q) _ 7_680_000_000 (largest-≤ points 7_680_000_000 _ (λ t l. cond-≤ (ltZ (pos 0) (toward (q .direction) (kept-weighed k q t))) (kept-response k q t) 7_680_000_000 (at t l)))
+    cond-≤ (kept-reliable k q && kept-few-bad k q) _ 7_680_000_000
+    (largest-≤ points 7_680_000_000 _ (λ t l. cond-≤ (ltZ (pos 0) (toward (q .direction) (kept-weighed k q t))) (kept-response k q t) 7_680_000_000 (at t l)))
   where
-    over : (xs : List ℤ) (t : ℕ) → sums-fine k xs t ≡ true → natAbs (sum regions (λ r. when (covers q r) (getD xs (series-start r + t) (pos 0)))) ≤ 7_680_000_000
+    over :
+        (xs : List ℤ) (t : ℕ) → sums-fine k xs t ≡ true → natAbs (sum regions (λ r. when (covers q r) (getD xs (series-start r + t) (pos 0)))) ≤ 7_680_000_000
     over xs t f =
-        omega (arith, sum-size regions (λ r. when (covers q r) (getD xs (series-start r + t) (pos 0))) (λ r. natAbs (getD xs (series-start r + t) (pos 0))) (λ r _. when-≤ (covers q r) (getD xs (series-start r + t) (pos 0))), leb-true _ (deviation-limit * k .units) f)
+        omega (
+          arith,
+          sum-size regions (λ r. when (covers q r) (getD xs (series-start r + t) (pos 0))) (λ r. natAbs (getD xs (series-start r + t) (pos 0)))
+              (λ r _. when-≤ (covers q r) (getD xs (series-start r + t) (pos 0))),
+          leb-true _ (deviation-limit * k .units) f,
+        )
 
     at : (t : ℕ) → t < points → kept-response k q t ≤ 7_680_000_000
     at t l =
@@ -81,20 +89,27 @@ rcr-within k q few e =
 
 -- ---- lines and columns
 -- what stands in a column where a number of each line depends on its place alone
-lines-column : (g : ℕ → ℤ) (field : Line → ℤ) (h : ℕ → Member → Line) → ((i : ℕ) (m : Member) → field (h i m) ≡ g i) → (ms : List Member) (old : List ℤ) → headed (map field (numbered h ms)) old ≡ filled (length ms) g old
+lines-column :
+    (g : ℕ → ℤ) (field : Line → ℤ) (h : ℕ → Member → Line) → ((i : ℕ) (m : Member) → field (h i m) ≡ g i) → (ms : List Member) (old : List ℤ) →
+    headed (map field (numbered h ms)) old ≡ filled (length ms) g old
 unfolding headed numbered filled
 lines-column g field h e [] old = sym (filled-none g old)
 lines-column g field h e (m ∷ ms) [] = refl
-lines-column g field h e (m ∷ ms) (y ∷ ys) = ap₂ (λ (z : ℤ) (l : List ℤ). z ∷ l) (e 0 m) (lines-column (λ i. g (suc i)) field (λ i. h (suc i)) (λ i x. e (suc i) x) ms ys)
+lines-column g field h e (m ∷ ms) (y ∷ ys) =
+    ap₂ (λ (z : ℤ) (l : List ℤ). z ∷ l) (e 0 m) (lines-column (λ i. g (suc i)) field (λ i. h (suc i)) (λ i x. e (suc i) x) ms ys)
 
 -- and where it is the member's
-lines-members : (f : Member → ℤ) (field : Line → ℤ) (h : ℕ → Member → Line) → ((i : ℕ) (m : Member) → field (h i m) ≡ f m) → (ms : List Member) → map field (numbered h ms) ≡ map f ms
+lines-members :
+    (f : Member → ℤ) (field : Line → ℤ) (h : ℕ → Member → Line) → ((i : ℕ) (m : Member) → field (h i m) ≡ f m) → (ms : List Member) →
+    map field (numbered h ms) ≡ map f ms
 unfolding numbered
 lines-members f field h e [] = refl
 lines-members f field h e (m ∷ ms) = ap₂ (λ (z : ℤ) (l : List ℤ). z ∷ l) (e 0 m) (lines-members f field (λ i. h (suc i)) (λ i x. e (suc i) x) ms)
 
 -- the last line is the last member's
-last-line : (h : ℕ → Member → Line) → ((i : ℕ) (m : Member) → h i m .standing ≡ m .standing) → (ms : List Member) (m : Member) → last-standing (numbered h (ms ++ (m ∷ []))) ≡ m .standing
+last-line :
+    (h : ℕ → Member → Line) → ((i : ℕ) (m : Member) → h i m .standing ≡ m .standing) → (ms : List Member) (m : Member) →
+    last-standing (numbered h (ms ++ (m ∷ []))) ≡ m .standing
 unfolding numbered
 last-line h e [] m = e 0 m
 last-line h e (x ∷ []) m = e 1 m
@@ -157,11 +172,13 @@ module _ (f : RequirementFields) (n p : ℕ) (ms ps ns fs : List ℤ) (us qs : L
     pub used : new₄ ≡ headed (map (λ l. l .used) (full .lines)) old₄
     pub unused : new₅ ≡ headed (map (λ l. l .unused) (full .lines)) old₅
 
-pub record GivenAll (f : RequirementFields) (n p : ℕ) (ms ps ns fs : List ℤ) (qs : List ℕ) (xs ys ds old₁ old₂ old₃ old₄ old₅ : List ℤ) (r : Answered) (new₁ new₂ new₃ new₄ new₅ : List ℤ) : Type 0 where
+pub record GivenAll (f : RequirementFields) (n p : ℕ) (ms ps ns fs : List ℤ) (qs : List ℕ) (xs ys ds old₁ old₂ old₃ old₄ old₅ : List ℤ) (r : Answered)
+    (new₁ new₂ new₃ new₄ new₅ : List ℤ) : Type 0 where
   pub whatever : (us : List ℕ) → GivenIs f n p ms ps ns fs us qs xs ys ds old₁ old₂ old₃ old₄ old₅ r new₁ new₂ new₃ new₄ new₅
 
 -- ---- what the tests give to each part
-module _ {f : RequirementFields} {n p : ℕ} {ms ps ns fs : List ℤ} {qs : List ℕ} {xs ys ds : List ℤ} {a b c d e : ℕ} (h : GivenReady f n p ms ps ns fs qs xs ys ds a b c d e) where
+module _ {f : RequirementFields} {n p : ℕ} {ms ps ns fs : List ℤ} {qs : List ℕ} {xs ys ds : List ℤ} {a b c d e : ℕ}
+    (h : GivenReady f n p ms ps ns fs qs xs ys ds a b c d e) where
   abbrev lists : Kept
   lists = kept-lists n p ms ps ns fs [] qs xs ys ds
 
@@ -245,27 +262,33 @@ module _ (k : Kept) (q : Requirement) where
   unfolding lines-of
   performances-are a b c = listed-is Payment ∙ sym (lines-members (λ m. m .payment) (λ l. l .performance) _ (λ i m. refl) sharers)
 
-  factors-are : (a b c : ℕ) (old : List ℤ) → filled (length (listed Payment)) (signs-at billion (listed Payment)) old ≡ headed (map (λ l. l .factor) (lines a b c)) old
+  factors-are :
+      (a b c : ℕ) (old : List ℤ) → filled (length (listed Payment)) (signs-at billion (listed Payment)) old ≡ headed (map (λ l. l .factor) (lines a b c)) old
   unfolding lines-of
   factors-are a b c old =
       ap (λ (m : ℕ). filled m (signs-at billion (listed Payment)) old) (listed-many Payment)
       ∙ filled-ext (length sharers) _ (factor sharers) old (λ i _. signs-are billion i)
       ∙ sym (lines-column (factor sharers) (λ l. l .factor) _ (λ i m. refl) sharers old)
 
-  payments-are : (a b c : ℕ) (old : List ℤ) → filled (length (listed Payment)) (signs-at a (listed Payment)) old ≡ headed (map (λ l. l .payment) (lines a b c)) old
+  payments-are :
+      (a b c : ℕ) (old : List ℤ) → filled (length (listed Payment)) (signs-at a (listed Payment)) old ≡ headed (map (λ l. l .payment) (lines a b c)) old
   unfolding lines-of
   payments-are a b c old =
       ap (λ (m : ℕ). filled m (signs-at a (listed Payment)) old) (listed-many Payment)
       ∙ filled-ext (length sharers) _ (both-signs a sharers) old (λ i _. signs-are a i)
       ∙ sym (lines-column (both-signs a sharers) (λ l. l .payment) _ (λ i m. refl) sharers old)
 
-  used-are : (a b c : ℕ) (old : List ℤ) → filled (length (map loss (listed Used))) (λ i. negℤ (pos (share-of b (map loss (listed Used)) i))) old ≡ headed (map (λ l. l .used) (lines a b c)) old
+  used-are :
+      (a b c : ℕ) (old : List ℤ) → filled (length (map loss (listed Used))) (λ i. negℤ (pos (share-of b (map loss (listed Used)) i))) old ≡ headed
+      (map (λ l. l .used) (lines a b c)) old
   unfolding lines-of
   used-are a b c old =
       ap₂ (λ (m : ℕ) (ws : List ℕ). filled m (λ i. negℤ (pos (share-of b ws i))) old) (sides-many Used loss) (sides Used loss)
       ∙ sym (lines-column (charge b (used-weights sharers)) (λ l. l .used) _ (λ i m. refl) sharers old)
 
-  unused-are : (a b c : ℕ) (old : List ℤ) → filled (length (map loss (listed Unused))) (λ i. negℤ (pos (share-of c (map loss (listed Unused)) i))) old ≡ headed (map (λ l. l .unused) (lines a b c)) old
+  unused-are :
+      (a b c : ℕ) (old : List ℤ) → filled (length (map loss (listed Unused))) (λ i. negℤ (pos (share-of c (map loss (listed Unused)) i))) old ≡ headed
+      (map (λ l. l .unused) (lines a b c)) old
   unfolding lines-of
   unused-are a b c old =
       ap₂ (λ (m : ℕ) (ws : List ℕ). filled m (λ i. negℤ (pos (share-of c ws i))) old) (sides-many Unused loss) (sides Unused loss)
@@ -280,12 +303,30 @@ module _ (k : Kept) (q : Requirement) where
   last-is a b c = last-line _ (λ i m. refl) (map (row-member k (q .direction)) (rows k q)) (residual-row k q)
 
 -- equal figures make equal answers
-answer-same : {number : ℕ} {d : Direction} {m m′ : ℕ} {s s′ : Standing} {x x′ y y′ a a′ b b′ c c′ e e′ : ℕ} → m ≡ m′ → s ≡ s′ → x ≡ x′ → y ≡ y′ → a ≡ a′ → b ≡ b′ → c ≡ c′ → e ≡ e′ → _≡_ {A = Answer} (record { number = number; direction = d; members = m; residual = s; rcr = x; pool = y; used = record { pool = a; unplaced = b }; unused = record { pool = c; unplaced = e } }) (record { number = number; direction = d; members = m′; residual = s′; rcr = x′; pool = y′; used = record { pool = a′; unplaced = b′ }; unused = record { pool = c′; unplaced = e′ } })
-answer-same {number} {d} {m} {m′} {s} {s′} {x} {x′} {y} {y′} {a} {a′} {b} {b′} {c} {c′} {e} {e′} hm hs hx hy ha hb hc he =
-    ap₂ (λ (i : ℕ) (j : Standing). record { number = number; direction = d; members = i; residual = j; rcr = x; pool = y; used = record { pool = a; unplaced = b }; unused = record { pool = c; unplaced = e } }) hm hs
-    ∙ ap₂ (λ (i j : ℕ). record { number = number; direction = d; members = m′; residual = s′; rcr = i; pool = j; used = record { pool = a; unplaced = b }; unused = record { pool = c; unplaced = e } }) hx hy
-    ∙ ap₂ (λ (i j : ℕ). record { number = number; direction = d; members = m′; residual = s′; rcr = x′; pool = y′; used = record { pool = i; unplaced = j }; unused = record { pool = c; unplaced = e } }) ha hb
-    ∙ ap₂ (λ (i j : ℕ). record { number = number; direction = d; members = m′; residual = s′; rcr = x′; pool = y′; used = record { pool = a′; unplaced = b′ }; unused = record { pool = i; unplaced = j } }) hc he
+answer-same :
+    {number : ℕ} {d : Direction} {m m′ : ℕ} {s s′ : Standing} {x x′ y y′ a a′ b b′ c c′ e e′ : ℕ} → m ≡ m′ → s ≡ s′ → x ≡ x′ → y ≡ y′ → a ≡ a′ → b ≡ b′ →
+    c ≡ c′ → e ≡ e′ → _≡_ {A = Answer}
+    (record {
+      number = number;
+      direction = d;
+      members = m;
+      residual = s;
+      rcr = x;
+      pool = y;
+      used = record { pool = a; unplaced = b };
+      unused = record { pool = c; unplaced = e };
+    })
+    (record {
+      number = number;
+      direction = d;
+      members = m′;
+      residual = s′;
+      rcr = x′;
+      pool = y′;
+      used = record { pool = a′; unplaced = b′ };
+      unused = record { pool = c′; unplaced = e′ };
+    })
+answer-same hm hs hx hy ha hb hc he = cc
 
 -- what the calls answer is the answer of what is kept
 module _ (f : RequirementFields) (n p : ℕ) (ms ps ns fs : List ℤ) (us qs : List ℕ) (xs ys ds : List ℤ) where
@@ -310,7 +351,9 @@ module _ (f : RequirementFields) (n p : ℕ) (ms ps ns fs : List ℤ) (us qs : L
       ∙ ap₂ (λ (a b : List ℕ). pool-cents (f .price) y (any-weight a) (any-weight b)) (sides k q Payment gain) (sides k q Payment loss)
 
   -- the column ends with the performances of payment
-  settles : (old : List ℤ) {mid₁ mid₂ new : List ℤ} → mid₁ ≡ headed (listed k q Unused) old → mid₂ ≡ headed (listed k q Used) mid₁ → new ≡ headed (listed k q Payment) mid₂ → new ≡ headed (listed k q Payment) old
+  settles :
+      (old : List ℤ) {mid₁ mid₂ new : List ℤ} → mid₁ ≡ headed (listed k q Unused) old → mid₂ ≡ headed (listed k q Used) mid₁ →
+      new ≡ headed (listed k q Payment) mid₂ → new ≡ headed (listed k q Payment) old
   settles old {mid₁} {mid₂} {new} a b c =
       c
       ∙ ap (λ (l : List ℤ). headed (listed k q Payment) l) b
@@ -318,7 +361,12 @@ module _ (f : RequirementFields) (n p : ℕ) (ms ps ns fs : List ℤ) (us qs : L
       ∙ ap (λ (l : List ℤ). headed (listed k q Payment) l) a
       ∙ headed-again (listed k q Payment) (listed k q Unused) old (listed-many k q Payment ∙ sym (listed-many k q Unused))
 
-  pub given-is : {x : Found} {m : Sharer} {charges : Charges} {paying : Paying} {old₁ old₂ old₃ old₄ old₅ middle new₁ new₂ new₃ new₄ new₅ : List ℤ} → x ≡ found-is n p (f .direction) (f .set) ms ps ns fs qs → m ≡ residual-to (f .direction) (f .set) n fs qs xs ys regions → CostCharged f (x .reliable) n fs qs xs ys ds old₁ old₄ old₅ charges middle new₄ new₅ → MembersPaid (f .price) (x .rcr) n (f .direction) (f .set) fs qs xs ys ds middle old₂ old₃ paying new₁ new₂ new₃ → GivenIs f n p ms ps ns fs us qs xs ys ds old₁ old₂ old₃ old₄ old₅ (gathered-answer f x m charges paying) new₁ new₂ new₃ new₄ new₅
+  pub given-is :
+      {x : Found} {m : Sharer} {charges : Charges} {paying : Paying} {old₁ old₂ old₃ old₄ old₅ middle new₁ new₂ new₃ new₄ new₅ : List ℤ} →
+      x ≡ found-is n p (f .direction) (f .set) ms ps ns fs qs → m ≡ residual-to (f .direction) (f .set) n fs qs xs ys regions →
+      CostCharged f (x .reliable) n fs qs xs ys ds old₁ old₄ old₅ charges middle new₄ new₅ →
+      MembersPaid (f .price) (x .rcr) n (f .direction) (f .set) fs qs xs ys ds middle old₂ old₃ paying new₁ new₂ new₃ →
+      GivenIs f n p ms ps ns fs us qs xs ys ds old₁ old₂ old₃ old₄ old₅ (gathered-answer f x m charges paying) new₁ new₂ new₃ new₄ new₅
   unfolding kept-answer answered kept-rcr
   given-is {x} {m} {charges} {paying} {old₁} {old₂} {old₃} {old₄} {old₅} ex em costs c =
       let u = charges .used .pool in
@@ -343,9 +391,16 @@ module _ (f : RequirementFields) (n p : ℕ) (ms ps ns fs : List ℤ) (us qs : L
             (ap₂ (λ (z : ℕ) (ws : List ℕ). unplaced-of z ws) used-up (sides k q Used loss))
             rest
             (ap₂ (λ (z : ℕ) (ws : List ℕ). unplaced-of z ws) rest (sides k q Unused loss))));
-        performances = settles old₁ (a .column) (b .column) (c .performances) ∙ ap (λ (l : List ℤ). headed l old₁) (performances-are k q the-pool the-used the-unused);
+        performances =
+            settles old₁ (a .column) (b .column) (c .performances) ∙ ap (λ (l : List ℤ). headed l old₁) (performances-are k q the-pool the-used the-unused);
         factors = c .factors ∙ factors-are k q the-pool the-used the-unused old₂;
-        payments = c .payments ∙ ap (λ (z : ℕ). filled (length (listed k q Payment)) (signs-at z (listed k q Payment)) old₃) pooled ∙ payments-are k q the-pool the-used the-unused old₃;
-        used = b .amounts ∙ ap (λ (z : ℕ). filled (length (map loss (listed k q Used))) (λ i. negℤ (pos (share-of z (map loss (listed k q Used)) i))) old₄) used-up ∙ used-are k q the-pool the-used the-unused old₄;
-        unused = a .amounts ∙ ap (λ (z : ℕ). filled (length (map loss (listed k q Unused))) (λ i. negℤ (pos (share-of z (map loss (listed k q Unused)) i))) old₅) rest ∙ unused-are k q the-pool the-used the-unused old₅;
+        payments =
+            c .payments ∙ ap (λ (z : ℕ). filled (length (listed k q Payment)) (signs-at z (listed k q Payment)) old₃) pooled
+            ∙ payments-are k q the-pool the-used the-unused old₃;
+        used =
+            b .amounts ∙ ap (λ (z : ℕ). filled (length (map loss (listed k q Used))) (λ i. negℤ (pos (share-of z (map loss (listed k q Used)) i))) old₄)
+            used-up ∙ used-are k q the-pool the-used the-unused old₄;
+        unused =
+            a .amounts ∙ ap (λ (z : ℕ). filled (length (map loss (listed k q Unused))) (λ i. negℤ (pos (share-of z (map loss (listed k q Unused)) i))) old₅)
+            rest ∙ unused-are k q the-pool the-used the-unused old₅;
       }

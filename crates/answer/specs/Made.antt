@@ -1,6 +1,6 @@
 -- A member as the code makes it, from lists and a direction (01, Members; Performance), and that it is the member of what is kept.
 use mathlib.Core.Path.{_≡_, refl, _∙_, ap, ap₂}
-use mathlib.Core.Bool.{Bool, true, false, not, _&&_, _||_}
+use mathlib.Core.Bool.{Bool, true, false, cond, not, _&&_, _||_}
 use mathlib.Core.List.{List}
 use Prim.Native.Nat.{ℕ, _+_, _*_, _/_, _%_, _≤_, _<_}
 use native.Mathlib.Omega.{arith}
@@ -96,6 +96,40 @@ abbrev pub unit-made : Direction → ℕ → List ℤ → List ℕ → List ℤ 
 unit-made d i figures places raise lower defaults =
     made-at d (standing (flag d (place-region i places) figures) (place-good i places) BadUnit) (getD (side d raise lower) i (pos 0)) (6 * i) defaults
 
+-- a number that a share goes by: the performance of a live unit, but for the unused default
+abbrev pub field-at : Field → ℕ
+field-at Payment = 0
+field-at Used = 1
+field-at Unused = 2
+
+abbrev pub performed : Field → Bool
+performed Payment = true
+performed Used = true
+performed Unused = false
+
+live-is : (a b : Bool) (x y : ℤ) → live-or (standing a b BadUnit) x y ≡ cond (a && b) x y
+live-is true true x y = refl
+live-is true false x y = refl
+live-is false b x y = refl
+
+pub field-at-≤ : (f : Field) → field-at f ≤ 2
+field-at-≤ Payment = omega arith
+field-at-≤ Used = omega arith
+field-at-≤ Unused = omega arith
+
+pub number-is :
+    (f : Field) (d : Direction) (i : ℕ) (figures : List ℤ) (places : List ℕ) (raise lower defaults : List ℤ) →
+    picked f (unit-made d i figures places raise lower defaults) ≡
+    cond (performed f && (flag d (place-region i places) figures && place-good i places)) (getD (side d raise lower) i (pos 0))
+    (getD defaults (6 * i + (defaults-at d + field-at f)) (pos 0))
+number-is Payment d i figures places raise lower defaults =
+    let e : defaults-at d ≡ defaults-at d + 0 = omega arith in
+    let live = flag d (place-region i places) figures && place-good i places in
+    live-is (flag d (place-region i places) figures) (place-good i places) _ _
+    ∙ ap (λ (n : ℕ). cond live (getD (side d raise lower) i (pos 0)) (getD defaults (6 * i + n) (pos 0))) e
+number-is Used d i figures places raise lower defaults = live-is (flag d (place-region i places) figures) (place-good i places) _ _
+number-is Unused d i figures places raise lower defaults = refl
+
 pub row-shown : (k : Kept) (d : Direction) (i : ℕ) → shown (row-member k d i) ≡ unit-made d i (k .figures) (k .places) (k .raise) (k .lower) (k .defaults)
 row-shown k Raise i = refl
 row-shown k Lower i = refl
@@ -123,13 +157,16 @@ module _ (r units : ℕ) (places : List ℕ) where
 
 abbrev pub region-made : Direction → ℕ → ℕ → List ℤ → List ℕ → List ℤ → List ℤ → Member
 region-made d r units figures places raise lower =
-    made (standing (flag d r figures) (leb 1 (good-there r units places) || eqb (rows-there r units places) 0) NoGoodUnit) (negℤ (performances-there r units places (side d raise lower)))
+    made (standing (flag d r figures) (leb 1 (good-there r units places) || eqb (rows-there r units places) 0) NoGoodUnit)
+    (negℤ (performances-there r units places (side d raise lower)))
     (getD figures (figures-each * r + (3 + defaults-at d)) (pos 0))
     (getD figures (figures-each * r + (3 + defaults-at d + 1)) (pos 0))
     (getD figures (figures-each * r + (3 + defaults-at d + 2)) (pos 0))
 
 -- of a region the six defaults stand behind its first three figures
-pub made-behind : (d : Direction) (s : Standing) (x : ℤ) (start : ℕ) (fs : List ℤ) → made-at d s x (start + 3) fs ≡ made s x (getD fs (start + (3 + defaults-at d)) (pos 0)) (getD fs (start + (3 + defaults-at d + 1)) (pos 0)) (getD fs (start + (3 + defaults-at d + 2)) (pos 0))
+pub made-behind :
+    (d : Direction) (s : Standing) (x : ℤ) (start : ℕ) (fs : List ℤ) → made-at d s x (start + 3) fs ≡ made s x (getD fs (start + (3 + defaults-at d)) (pos 0))
+    (getD fs (start + (3 + defaults-at d + 1)) (pos 0)) (getD fs (start + (3 + defaults-at d + 2)) (pos 0))
 made-behind d s x start fs = made-same refl refl (at (omega arith)) (at (omega arith)) (at (omega arith))
   where
     at : {m n : ℕ} → m ≡ n → getD fs m (pos 0) ≡ getD fs n (pos 0)
@@ -144,7 +181,8 @@ worse-of (Default NoGoodUnit) Live = Default NoGoodUnit
 worse-of (Default NoGoodUnit) (Default why) = Default why
 
 abbrev pub joined : Member → Member → Member
-joined m n = record { standing = worse-of (m .standing) (n .standing); payment = m .payment +ℤ n .payment; used = m .used +ℤ n .used; unused = m .unused +ℤ n .unused }
+joined m n =
+    record { standing = worse-of (m .standing) (n .standing); payment = m .payment +ℤ n .payment; used = m .used +ℤ n .used; unused = m .unused +ℤ n .unused }
 
 pub standing-joined : (a b c d : Bool) → standing (a && b) (c && d) NoGoodUnit ≡ worse-of (standing a c NoGoodUnit) (standing b d NoGoodUnit)
 standing-joined true true true true = refl
@@ -163,15 +201,20 @@ module _ (d : Direction) (set units : ℕ) (figures : List ℤ) (places : List �
   abbrev pub residual-to : ℕ → Member
   residual-to n =
       record {
-        standing = standing (every n (λ r. not (bit r set) || flag d r figures)) (every n (λ r. not (bit r set) || (leb 1 (good-there r units places) || eqb (rows-there r units places) 0))) NoGoodUnit;
+        standing =
+            standing (every n (λ r. not (bit r set) || flag d r figures))
+            (every n (λ r. not (bit r set) || (leb 1 (good-there r units places) || eqb (rows-there r units places) 0))) NoGoodUnit;
         payment = sum n (λ r. when (bit r set) (region-at r .payment));
         used = sum n (λ r. when (bit r set) (region-at r .used));
         unused = sum n (λ r. when (bit r set) (region-at r .unused));
       }
 
-pub residual-shown : (k : Kept) (q : Requirement) → shown (residual-row k q) ≡ residual-to (q .direction) (q .set) (k .units) (k .figures) (k .places) (k .raise) (k .lower) 5
+pub residual-shown :
+    (k : Kept) (q : Requirement) → shown (residual-row k q) ≡ residual-to (q .direction) (q .set) (k .units) (k .figures) (k .places) (k .raise) (k .lower) 5
 residual-shown k q = go (q .direction) refl
   where
-    go : (d : Direction) → q .direction ≡ d → shown (residual-row k q) ≡ residual-to (q .direction) (q .set) (k .units) (k .figures) (k .places) (k .raise) (k .lower) 5
+    go :
+        (d : Direction) → q .direction ≡ d → shown (residual-row k q) ≡ residual-to (q .direction) (q .set) (k .units) (k .figures) (k .places) (k .raise)
+        (k .lower) 5
     go Raise e = rw e
     go Lower e = rw e

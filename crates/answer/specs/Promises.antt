@@ -1,4 +1,5 @@
--- What `answer` promises, completely: its reply and each number of the five columns, on refusals too (01, Factors, RCR, Cents; Numbers the box can say no with).
+-- What `answer` promises, completely: its reply and each number of the five columns,
+-- on refusals too (01, Factors, RCR, Cents; Numbers the box can say no with).
 -- The answer is the one that what is kept gives, `kept-answer`; its lines' numbers go to the columns, one row a member. The numbers of the roster are not
 -- read here, so the promise holds for any.
 use mathlib.Core.Path.{_≡_, sym, _∙_}
@@ -45,7 +46,8 @@ kept-lists units percent measures positive negative figures numbers places raise
 -- ---- room, by the lengths of the lists; each column takes one number more than there are units
 abbrev pub lists-long : ℕ → ℕ → ℕ → ℕ → ℕ → ℕ → ℕ → ℕ → ℕ → Bool
 lists-long units measures positive negative figures places raise lower defaults =
-    leb series-length measures && (leb series-length positive && (leb series-length negative && (leb figures-length figures && rows-room units places raise lower defaults)))
+    leb series-length measures && (leb series-length positive &&
+    (leb series-length negative && (leb figures-length figures && rows-room units places raise lower defaults)))
 
 abbrev pub columns-long : ℕ → ℕ → ℕ → ℕ → ℕ → ℕ → Bool
 columns-long units performances factors payments used unused =
@@ -55,7 +57,8 @@ columns-long units performances factors payments used unused =
 abbrev pub past-tests : {A : Type 0} → Tally → Kept → ℕ → ℕ → ℕ → ℕ → ℕ → Reply A → Reply A
 past-tests t k performances factors payments used unused rest =
     unless (in-range t && answer-turn t) OutOfTurn
-    (unless (lists-long (k .units) (length (k .measures)) (length (k .positive)) (length (k .negative)) (length (k .figures)) (length (k .places)) (length (k .raise)) (length (k .lower)) (length (k .defaults)) && columns-long (k .units) performances factors payments used unused) TooShort
+    (unless (lists-long (k .units) (length (k .measures)) (length (k .positive)) (length (k .negative)) (length (k .figures)) (length (k .places))
+    (length (k .raise)) (length (k .lower)) (length (k .defaults)) && columns-long (k .units) performances factors payments used unused) TooShort
     (unless (kept-fine k) OutOfTurn rest))
 
 -- and that is what the requirement's record says, wherever it stands
@@ -95,7 +98,9 @@ lined field (refused r) old = old
 -- ---- the promise
 module _ (t : Tally) (part : List ℕ) (ms ps ns fs : List ℤ) (qs : List ℕ) (xs ys ds : List ℤ) (old₁ old₂ old₃ old₄ old₅ : List ℤ) where
   abbrev pub reply-of : List ℕ → Reply Full
-  reply-of us = answer-reply t part (kept-lists (t .units) (t .percent) ms ps ns fs us qs xs ys ds) (length old₁) (length old₂) (length old₃) (length old₄) (length old₅)
+  reply-of us =
+      answer-reply t part (kept-lists (t .units) (t .percent) ms ps ns fs us qs xs ys ds) (length old₁) (length old₂) (length old₃) (length old₄)
+      (length old₅)
 
   pub record AnswerWith (us : List ℕ) (r : Answered) (new₁ new₂ new₃ new₄ new₅ : List ℤ) : Type 0 where
     pub reply : r ≡ replied (reply-of us)
@@ -108,8 +113,17 @@ module _ (t : Tally) (part : List ℕ) (ms ps ns fs : List ℤ) (qs : List ℕ) 
   pub record AnswerPromise (r : Answered) (new₁ new₂ new₃ new₄ new₅ : List ℤ) : Type 0 where
     pub whatever : (us : List ℕ) → AnswerWith us r new₁ new₂ new₃ new₄ new₅
 
-  pub answer-only : {r r′ : Answered} {new₁ new₂ new₃ new₄ new₅ new₁′ new₂′ new₃′ new₄′ new₅′ : List ℤ} → AnswerPromise r new₁ new₂ new₃ new₄ new₅ → AnswerPromise r′ new₁′ new₂′ new₃′ new₄′ new₅′ → (r ≡ r′) × (new₁ ≡ new₁′) × (new₂ ≡ new₂′) × (new₃ ≡ new₃′) × (new₄ ≡ new₄′) × (new₅ ≡ new₅′)
+  pub answer-only :
+      {r r′ : Answered} {new₁ new₂ new₃ new₄ new₅ new₁′ new₂′ new₃′ new₄′ new₅′ : List ℤ} → AnswerPromise r new₁ new₂ new₃ new₄ new₅ →
+      AnswerPromise r′ new₁′ new₂′ new₃′ new₄′ new₅′ → (r ≡ r′) × (new₁ ≡ new₁′) × (new₂ ≡ new₂′) × (new₃ ≡ new₃′) × (new₄ ≡ new₄′) × (new₅ ≡ new₅′)
   answer-only a b =
       let x = a .whatever [] in
-      let y = b .whatever [] in
-      (x .reply ∙ sym (y .reply), x .performances ∙ sym (y .performances), x .factors ∙ sym (y .factors), x .payments ∙ sym (y .payments), x .used ∙ sym (y .used), x .unused ∙ sym (y .unused))
+      let y = b .whatever [] in (
+        x .reply ∙ sym (y .reply),
+        x .performances ∙ sym (y .performances),
+        x .factors ∙ sym (y .factors),
+        x .payments ∙ sym (y .payments),
+        x .used
+            ∙ sym (y .used),
+        x .unused ∙ sym (y .unused),
+      )

@@ -4,7 +4,6 @@ use mathlib.Core.Bool.{Bool, true, false, cond, not, _&&_, _||_}
 use mathlib.Core.List.{List}
 use Prim.Native.Nat.{ℕ, _+_, _*_, _/_, _%_, _≤_, _<_, max}
 use native.Mathlib.Omega.{arith}
-use lib.Bits.{bitAnd, and-mask}
 use lib.Dec.{eqb, leb, ltb}
 use lib.IntN.{ℤ, pos, negsuc, natAbs, _+ℤ_, _*ℤ_}
 use lib.ListN.{length, getD}
@@ -37,15 +36,14 @@ use Rattle.answer.specs.declared.units.Units.{Units}
 unfoldable pub all-stand : Direction → ℕ → List ℤ → Bool
 all-stand d set figures = every regions (λ r. not (bit r set) || flag d r figures)
 
-pub all-stand-is : (d : Direction) (set units percent : ℕ) (measures positive negative figures : List ℤ) (places : List ℕ) → all-stand d set figures ≡ kept-reliable (lent units percent measures positive negative figures places) (asked d set)
+pub all-stand-is :
+    (d : Direction) (set units percent : ℕ) (measures positive negative figures : List ℤ) (places : List ℕ) →
+    all-stand d set figures ≡ kept-reliable (lent units percent measures positive negative figures places) (asked d set)
 unfolding all-stand
 all-stand-is Raise set units percent measures positive negative figures places = refl
 all-stand-is Lower set units percent measures positive negative figures places = refl
 
--- ---- units by their places: the region is the place shifted by one, and a good unit's lowest bit is 1
-pub place-masked : (place : ℕ) → eqb (bitAnd place 1) 1 ≡ eqb (place % 2) 1
-place-masked place = ap (λ (y : ℕ). eqb y 1) (and-mask place 1)
-
+-- ---- units by their places
 pub record PlacesFine (units : ℕ) (places : List ℕ) : Type 0 where
   pub here : (i : ℕ) → i < units → getD places i 0 < 10
 
@@ -79,7 +77,8 @@ pub record Summed (set t : ℕ) (ms ps ns gs : List ℤ) (r : Sums) : Type 0 whe
 
 abbrev pub point-response : Direction → ℕ → List ℤ → List ℤ → List ℤ → List ℤ → ℕ → ℕ
 point-response d set measures positive negative figures t =
-    cond (ltZ (pos 0) (toward d (sum regions (weighed-part set measures figures t)))) (max (gain (sum regions (sum-part set positive t))) (loss (sum regions (sum-part set negative t)))) 0
+    cond (ltZ (pos 0) (toward d (sum regions (weighed-part set measures figures t))))
+    (max (gain (sum regions (sum-part set positive t))) (loss (sum regions (sum-part set negative t)))) 0
 
 abbrev pub points-largest : Direction → ℕ → List ℤ → List ℤ → List ℤ → List ℤ → ℕ
 points-largest d set measures positive negative figures = largest points (point-response d set measures positive negative figures)
@@ -104,7 +103,9 @@ pub record FoundReady (n p : ℕ) (ms ps ns fs : List ℤ) (qs : List ℕ) : Typ
   pub places : PlacesFine n qs
 
 -- one of five sums is no larger than all together
-sum-there : (units : ℕ) (sums : List ℤ) (r t : ℕ) → units ≤ 512 → sums-here (deviation-limit * units) sums t ≡ true → r < regions → Within 7_680_000_000 (there sums t r)
+sum-there :
+    (units : ℕ) (sums : List ℤ) (r t : ℕ) → units ≤ 512 → sums-here (deviation-limit * units) sums t ≡ true → r < regions →
+    Within 7_680_000_000 (there sums t r)
 sum-there units sums r t few e l = record { size = omega (arith, sumℕ-term regions (λ r. natAbs (there sums t r)) r l, leb-true _ (deviation-limit * units) e) }
 
 up-to-within : (limit : ℕ) (x : ℤ) → up-to limit x ≡ true → Within limit x
@@ -126,7 +127,9 @@ module _ (k : Kept) (long : Long k) (fine : kept-fine k ≡ true) where
   unfolding rows-fine
   ready-places =
       record {
-        here = λ i l. ltb-true _ _ (both (ltb (getD (k .places) i 0) (2 * regions)) _ (every-at (k .units) (λ i. row-fine i (k .places) (k .raise) (k .lower) (k .defaults)) (parts .2) i l) .0);
+        here =
+            λ i l. ltb-true _ _ (both (ltb (getD (k .places) i 0) (2 * regions)) _
+            (every-at (k .units) (λ i. row-fine i (k .places) (k .raise) (k .lower) (k .defaults)) (parts .2) i l) .0);
       }
 
   at-point :
@@ -165,12 +168,16 @@ pub record Turn (f : ℕ → ℤ) (r : ℕ) (z p : ℤ) : Type 0 where
   pub sum-fits : SFits w64 (z +ℤ p)
   pub sum-is : z +ℤ p ≡ sum (r + 1) f
 
-pub turn : (k : ℕ) (f : ℕ → ℤ) (r : ℕ) (z p : ℤ) → k ≤ 10_000_000_000_000 → ((i : ℕ) → i < regions → Within k (f i)) → r < regions → z ≡ sum r f → p ≡ f r → Turn f r z p
+pub turn :
+    (k : ℕ) (f : ℕ → ℤ) (r : ℕ) (z p : ℤ) → k ≤ 10_000_000_000_000 → ((i : ℕ) → i < regions → Within k (f i)) → r < regions → z ≡ sum r f → p ≡ f r →
+    Turn f r z p
 turn k f r z p small h l ez ep =
     let is : z +ℤ p ≡ sum (r + 1) f = rw (ez, ep, sum-step r f) in
     record {
       part-fits = rw ep (fits-wider {k = 10_000_000_000_000} tt small (h r l));
-      sum-fits = rw is (fits-within {k = 50_000_000_000_000} tt (within-most (sum-within 10_000_000_000_000 (r + 1) f (λ i q. within-wider small (h i (omega arith))))));
+      sum-fits =
+          rw is (fits-within {k = 50_000_000_000_000} tt
+          (within-most (sum-within 10_000_000_000_000 (r + 1) f (λ i q. within-wider small (h i (omega arith))))));
       sum-is = is;
     }
   where
@@ -185,18 +192,25 @@ module _ {measures positive negative figures : List ℤ} (h : Ready measures pos
   pub product-fits : (r : ℕ) → r < regions → SFits w64 (getD figures (figures-each * r + 0) (pos 0) *ℤ there measures t r)
   product-fits r q = fits-within tt (within-product (h .generation-within r q) (h .measures-within r t q l))
 
-  pub weighed-turn : (r : ℕ) (z p : ℤ) → r < regions → z ≡ sum r (weighed-part set measures figures t) → p ≡ weighed-part set measures figures t r → Turn (weighed-part set measures figures t) r z p
-  weighed-turn r z p q ez ep = turn (amount-limit * measure-limit) _ r z p (omega arith) (λ i b. when-within (bit i set) (within-product (h .generation-within i b) (h .measures-within i t b l))) q ez ep
+  pub weighed-turn :
+      (r : ℕ) (z p : ℤ) → r < regions → z ≡ sum r (weighed-part set measures figures t) → p ≡ weighed-part set measures figures t r →
+      Turn (weighed-part set measures figures t) r z p
+  weighed-turn r z p q ez ep =
+      turn (amount-limit * measure-limit) _ r z p (omega arith)
+      (λ i b. when-within (bit i set) (within-product (h .generation-within i b) (h .measures-within i t b l))) q ez ep
 
-  pub positive-turn : (r : ℕ) (z p : ℤ) → r < regions → z ≡ sum r (sum-part set positive t) → p ≡ sum-part set positive t r → Turn (sum-part set positive t) r z p
+  pub positive-turn :
+      (r : ℕ) (z p : ℤ) → r < regions → z ≡ sum r (sum-part set positive t) → p ≡ sum-part set positive t r → Turn (sum-part set positive t) r z p
   positive-turn r z p q ez ep = turn 7_680_000_000 _ r z p (omega arith) (λ i b. when-within (bit i set) (h .positive-within i t b l)) q ez ep
 
-  pub negative-turn : (r : ℕ) (z p : ℤ) → r < regions → z ≡ sum r (sum-part set negative t) → p ≡ sum-part set negative t r → Turn (sum-part set negative t) r z p
+  pub negative-turn :
+      (r : ℕ) (z p : ℤ) → r < regions → z ≡ sum r (sum-part set negative t) → p ≡ sum-part set negative t r → Turn (sum-part set negative t) r z p
   negative-turn r z p q ez ep = turn 7_680_000_000 _ r z p (omega arith) (λ i b. when-within (bit i set) (h .negative-within i t b l)) q ez ep
 
 -- ---- RCR and reliability, by what the code has found
 abbrev pub found-is : ℕ → ℕ → Direction → ℕ → List ℤ → List ℤ → List ℤ → List ℤ → List ℕ → Found
-found-is n p d s ms ps ns fs qs = record { rcr = kept-rcr (lent n p ms ps ns fs qs) (asked d s); reliable = kept-reliable (lent n p ms ps ns fs qs) (asked d s) }
+found-is n p d s ms ps ns fs qs =
+    record { rcr = kept-rcr (lent n p ms ps ns fs qs) (asked d s); reliable = kept-reliable (lent n p ms ps ns fs qs) (asked d s) }
 
 module _ (n p : ℕ) (d : Direction) (s : ℕ) (ms ps ns fs : List ℤ) (qs : List ℕ) where
   abbrev reliable : Bool
@@ -213,6 +227,7 @@ module _ (n p : ℕ) (d : Direction) (s : ℕ) (ms ps ns fs : List ℤ) (qs : Li
   unfolding kept-rcr
   found-many-bad e f = rw (e, f)
 
-  pub found-points : {x : ℕ} → x ≡ points-largest d s ms ps ns fs → reliable ≡ true → few-bad ≡ true → record { rcr = x; reliable = true } ≡ found-is n p d s ms ps ns fs qs
+  pub found-points :
+      {x : ℕ} → x ≡ points-largest d s ms ps ns fs → reliable ≡ true → few-bad ≡ true → record { rcr = x; reliable = true } ≡ found-is n p d s ms ps ns fs qs
   unfolding kept-rcr
   found-points g e f = rw (e, f) (ap (λ (y : ℕ). record { rcr = y; reliable = true }) g)

@@ -37,7 +37,8 @@ use Rattle.answer.specs.Lists.{gathered}
 abbrev pub roster-room : ℕ → ℕ → ℕ → ℕ → Bool
 roster-room units figures numbers places = leb figures-length figures && (leb units numbers && leb units places)
 
-pub roster-room-means : (units figures numbers places : ℕ) → roster-room units figures numbers places ≡ true → (figures-length ≤ figures) × (units ≤ numbers) × (units ≤ places)
+pub roster-room-means :
+    (units figures numbers places : ℕ) → roster-room units figures numbers places ≡ true → (figures-length ≤ figures) × (units ≤ numbers) × (units ≤ places)
 roster-room-means units figures numbers places e =
     let a = both (leb figures-length figures) _ e in
     let b = both (leb units numbers) _ (a .1) in
@@ -47,7 +48,8 @@ roster-room-means units figures numbers places e =
 abbrev pub place-fine : Direction → ℕ → List ℤ → Bool
 place-fine d place figures =
     ltb place (2 * regions)
-    && (leZ (pos 0) (getD figures (figures-each * (place / 2) + reliable-at d) (pos 0)) && leZ (getD figures (figures-each * (place / 2) + reliable-at d) (pos 0)) (pos 1))
+    && (leZ (pos 0) (getD figures (figures-each * (place / 2) + reliable-at d) (pos 0))
+    && leZ (getD figures (figures-each * (place / 2) + reliable-at d) (pos 0)) (pos 1))
 
 pub place-means : (d : Direction) (place : ℕ) (figures : List ℤ) → place-fine d place figures ≡ true → place < 10
 place-means d place figures e = ltb-true _ _ (both (ltb place (2 * regions)) _ e .0)
@@ -67,7 +69,8 @@ member-reply k q i =
 -- by the unit's number and place
 abbrev pub row-told : Direction → ℕ → ℕ → ℕ → List ℤ → Reply Row
 row-told d set number place figures =
-    unless (place-fine d place figures) OutOfTurn (taken (cond (bit (place / 2) set) (Unit number (standing (flag d (place / 2) figures) (eqb (place % 2) 1) BadUnit)) Other))
+    unless (place-fine d place figures) OutOfTurn
+    (taken (cond (bit (place / 2) set) (Unit number (standing (flag d (place / 2) figures) (eqb (place % 2) 1) BadUnit)) Other))
 
 abbrev pub row-answer : Reply Row → Row
 row-answer (taken r) = r
@@ -98,18 +101,27 @@ module _ (row units : ℕ) (d : Direction) (set : ℕ) (figures : List ℤ) (num
   member-only a b = a .reply ∙ sym (b .reply)
 
 -- ---- laws
-pub standing-of-row : (k : Kept) (d : Direction) (i : ℕ) → standing (flag d (getD (k .places) i 0 / 2) (k .figures)) (eqb (getD (k .places) i 0 % 2) 1) BadUnit ≡ row-standing k d i
+pub standing-of-row :
+    (k : Kept) (d : Direction) (i : ℕ) → standing (flag d (getD (k .places) i 0 / 2) (k .figures)) (eqb (getD (k .places) i 0 % 2) 1) BadUnit ≡ row-standing k
+    d i
 standing-of-row k Raise i = refl
 standing-of-row k Lower i = refl
 
-pub row-told-is : (k : Kept) (q : Requirement) (i : ℕ) → row-told (q .direction) (q .set) (getD (k .numbers) i 0) (getD (k .places) i 0) (k .figures) ≡ unless (place-fine (q .direction) (getD (k .places) i 0) (k .figures)) OutOfTurn (taken (row-of k q i))
-row-told-is k q i = ap (λ (s : Standing). unless (place-fine (q .direction) (getD (k .places) i 0) (k .figures)) OutOfTurn (taken (cond (covers q (region-of k i)) (Unit (getD (k .numbers) i 0) s) Other))) (standing-of-row k (q .direction) i)
+pub row-told-is :
+    (k : Kept) (q : Requirement) (i : ℕ) → row-told (q .direction) (q .set) (getD (k .numbers) i 0) (getD (k .places) i 0) (k .figures) ≡ unless
+    (place-fine (q .direction) (getD (k .places) i 0) (k .figures)) OutOfTurn (taken (row-of k q i))
+row-told-is k q i =
+    ap (λ (s : Standing). unless (place-fine (q .direction) (getD (k .places) i 0) (k .figures)) OutOfTurn
+    (taken (cond (covers q (region-of k i)) (Unit (getD (k .numbers) i 0) s) Other))) (standing-of-row k (q .direction) i)
 
 -- what is promised of the lent lists is so of all that is kept, and of the whole requirement
-pub member-of-kept : (k : Kept) (q : Requirement) (i : ℕ) → member-reply (kept-roster (k .units) (k .figures) (k .numbers) (k .places)) (asked (q .direction) (q .set)) i ≡ member-reply k q i
+pub member-of-kept :
+    (k : Kept) (q : Requirement) (i : ℕ) → member-reply (kept-roster (k .units) (k .figures) (k .numbers) (k .places)) (asked (q .direction) (q .set)) i ≡
+    member-reply k q i
 unfolding member-reply
 member-of-kept k q i =
-    ap (λ (x : Reply Row). unless (leb (k .units) most-units && set-fine (q .set)) OutOfTurn (unless (ltb i (k .units)) OutOfTurn (unless (roster-room (k .units) (length (k .figures)) (length (k .numbers)) (length (k .places))) TooShort x)))
+    ap (λ (x : Reply Row). unless (leb (k .units) most-units && set-fine (q .set)) OutOfTurn
+    (unless (ltb i (k .units)) OutOfTurn (unless (roster-room (k .units) (length (k .figures)) (length (k .numbers)) (length (k .places))) TooShort x)))
     (sym (row-told-is (kept-roster (k .units) (k .figures) (k .numbers) (k .places)) (asked (q .direction) (q .set)) i) ∙ row-told-is k q i)
 
 -- a member's name and standing; the rows' walk, in which those of other regions are passed over
@@ -120,7 +132,10 @@ pub record Named : Type 0 where
 abbrev pub named : Sharer → Named
 named m = record { name = m .name; standing = m .standing }
 
-pub walk : (k : Kept) (q : Requirement) → map named (kept-members k q) ≡ gathered (λ i. covers q (region-of k i)) (λ i. record { name = unit (getD (k .numbers) i 0); standing = row-standing k (q .direction) i }) (k .units) ++ (record { name = residual; standing = residual-row k q .standing } ∷ [])
+pub walk :
+    (k : Kept) (q : Requirement) → map named (kept-members k q) ≡ gathered (λ i. covers q (region-of k i))
+    (λ i. record { name = unit (getD (k .numbers) i 0); standing = row-standing k (q .direction) i }) (k .units) ++
+    (record { name = residual; standing = residual-row k q .standing } ∷ [])
 unfolding kept-members
 walk k q =
     map-append named (map (row-member k (q .direction)) (rows k q)) (residual-row k q ∷ [])
@@ -128,7 +143,10 @@ walk k q =
 
 -- ---- of numbers in range no row is refused
 module _ (k : Kept) (q : Requirement) (i : ℕ) where
-  figure-fine : (d : Direction) → getD (k .places) i 0 < 10 → figures-fine k ≡ true → (leZ (pos 0) (getD (k .figures) (figures-each * (getD (k .places) i 0 / 2) + reliable-at d) (pos 0)) && leZ (getD (k .figures) (figures-each * (getD (k .places) i 0 / 2) + reliable-at d) (pos 0)) (pos 1)) ≡ true
+  figure-fine :
+      (d : Direction) → getD (k .places) i 0 < 10 → figures-fine k ≡ true →
+      (leZ (pos 0) (getD (k .figures) (figures-each * (getD (k .places) i 0 / 2) + reliable-at d) (pos 0))
+      && leZ (getD (k .figures) (figures-each * (getD (k .places) i 0 / 2) + reliable-at d) (pos 0)) (pos 1)) ≡ true
   unfolding figures-fine
   figure-fine d l e = go d
     where
@@ -141,13 +159,25 @@ module _ (k : Kept) (q : Requirement) (i : ℕ) where
       first : (from-0 k 1 (figure k r 1) && (from-0 k 1 (figure k r 2) && every 6 (λ j. default-fine residual-default-limit (figure k r (3 + j))))) ≡ true
       first = both (from-0 k amount-limit (figure k r 0)) _ (every-at regions _ e r below) .1
 
-      go : (d : Direction) → (leZ (pos 0) (getD (k .figures) (figures-each * r + reliable-at d) (pos 0)) && leZ (getD (k .figures) (figures-each * r + reliable-at d) (pos 0)) (pos 1)) ≡ true
+      go :
+          (d : Direction) → (leZ (pos 0) (getD (k .figures) (figures-each * r + reliable-at d) (pos 0))
+          && leZ (getD (k .figures) (figures-each * r + reliable-at d) (pos 0)) (pos 1)) ≡ true
       go Raise = both (from-0 k 1 (figure k r 1)) _ first .0
       go Lower = both (from-0 k 1 (figure k r 2)) _ (both (from-0 k 1 (figure k r 1)) _ first .1) .0
 
-  pub member-taken : (leb (k .units) most-units && set-fine (q .set)) ≡ true → i < k .units → figures-length ≤ length (k .figures) → k .units ≤ length (k .numbers) → k .units ≤ length (k .places) → figures-fine k ≡ true → rows-fine k ≡ true → member-reply k q i ≡ taken (row-of k q i)
+  pub member-taken :
+      (leb (k .units) most-units && set-fine (q .set)) ≡ true → i < k .units → figures-length ≤ length (k .figures) → k .units ≤ length (k .numbers) →
+      k .units ≤ length (k .places) → figures-fine k ≡ true → rows-fine k ≡ true → member-reply k q i ≡ taken (row-of k q i)
   unfolding member-reply rows-fine
   member-taken a l fs us qs f r =
       let row = every-at (k .units) (λ j. row-fine j (k .places) (k .raise) (k .lower) (k .defaults)) r i l in
       let place = both (ltb (getD (k .places) i 0) (2 * regions)) _ row .0 in
-      rw (a, lt-ltb i (k .units) l, le-leb figures-length (length (k .figures)) fs, le-leb (k .units) (length (k .numbers)) us, le-leb (k .units) (length (k .places)) qs, place, figure-fine (q .direction) (ltb-true _ _ place) f)
+      rw (
+        a,
+        lt-ltb i (k .units) l,
+        le-leb figures-length (length (k .figures)) fs,
+        le-leb (k .units) (length (k .numbers)) us,
+        le-leb (k .units) (length (k .places)) qs,
+        place,
+        figure-fine (q .direction) (ltb-true _ _ place) f,
+      )

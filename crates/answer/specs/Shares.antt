@@ -43,17 +43,25 @@ pub record WeightsFit (T : ℕ) (side : ℤ → ℕ) (ps : List ℤ) (room : ℕ
   pub weights : totalℕ (λ w. w) (map side ps) ≤ weight-limit
   pub roomy : length (map side ps) ≤ room
 
-pub fits-taken : {T : ℕ} {side : ℤ → ℕ} {ps : List ℤ} {room : ℕ} → WeightsFit T side ps room → share-reply T (map side ps) room ≡ taken (unplaced-of T (map side ps))
+pub fits-taken :
+    {T : ℕ} {side : ℤ → ℕ} {ps : List ℤ} {room : ℕ} → WeightsFit T side ps room → share-reply T (map side ps) room ≡ taken (unplaced-of T (map side ps))
 unfolding share-reply
 fits-taken {T} {side} {ps} {room} h =
     let ws = map side ps in
-    rw (le-leb (length ws) room (h .roomy), le-leb T total-limit (h .total), le-leb (weight-sum (length ws) (weight-at ws)) weight-limit (rw (total-indexes ws) (h .weights)), never-left-overs T (length ws) (weight-at ws))
+    rw (
+      le-leb (length ws) room (h .roomy),
+      le-leb T total-limit (h .total),
+      le-leb (weight-sum (length ws) (weight-at ws)) weight-limit (rw (total-indexes ws) (h .weights)),
+      never-left-overs T (length ws) (weight-at ws),
+    )
 
 pub record Charged (T : ℕ) (ps old : List ℤ) (r : Shared) (new : List ℤ) : Type 0 where
   pub reply : r ≡ Placed (unplaced-of T (map loss ps))
   pub amounts : new ≡ filled (length (map loss ps)) (λ i. negℤ (pos (share-of T (map loss ps) i))) old
 
-pub charged : {T : ℕ} {ps old : List ℤ} {r : Shared} {new : List ℤ} → WeightsFit T loss ps (length old) → SharedOut debit T (map loss ps) old r new → Charged T ps old r new
+pub charged :
+    {T : ℕ} {ps old : List ℤ} {r : Shared} {new : List ℤ} → WeightsFit T loss ps (length old) → SharedOut debit T (map loss ps) old r new →
+    Charged T ps old r new
 charged {T} {ps} {old} h p =
     record {
       reply = p .reply ∙ ap answered (fits-taken h);
@@ -66,7 +74,9 @@ pub record SignsShared (T : ℕ) (ps old : List ℤ) (r : SharedSigns) (new : Li
   pub reply : r ≡ ss.Placed (unplaced-of T (map gain ps)) (unplaced-of T (map loss ps))
   pub amounts : new ≡ filled (length ps) (signs-at T ps) old
 
-pub signs-shared : {T : ℕ} {ps old : List ℤ} {r : SharedSigns} {new : List ℤ} → WeightsFit T gain ps (length old) → WeightsFit T loss ps (length old) → SignsOut T ps old r new → SignsShared T ps old r new
+pub signs-shared :
+    {T : ℕ} {ps old : List ℤ} {r : SharedSigns} {new : List ℤ} → WeightsFit T gain ps (length old) → WeightsFit T loss ps (length old) →
+    SignsOut T ps old r new → SignsShared T ps old r new
 signs-shared {T} {ps} {old} g h p =
     record {
       reply = p .reply ∙ ap₂ answered-signs (fits-taken g) (fits-taken h);
@@ -105,7 +115,10 @@ module _ (f : Field) (units : ℕ) (d : Direction) (set : ℕ) (fs : List ℤ) (
         }
 
 -- what stands at the front of a column that lists them
-pub front : {f : Field} {units : ℕ} {d : Direction} {set : ℕ} {fs : List ℤ} {qs : List ℕ} {xs ys ds old new : List ℤ} {residual : Member} {r : ℕ} → MembersReady units d set fs qs xs ys ds residual (length old) → Listed f units d set fs qs xs ys ds old r new → (r ≤ length new) × (take r new ≡ numbers f units d set fs qs xs ys ds)
+pub front :
+    {f : Field} {units : ℕ} {d : Direction} {set : ℕ} {fs : List ℤ} {qs : List ℕ} {xs ys ds old new : List ℤ} {residual : Member} {r : ℕ} →
+    MembersReady units d set fs qs xs ys ds residual (length old) → Listed f units d set fs qs xs ys ds old r new → (r ≤ length new)
+    × (take r new ≡ numbers f units d set fs qs xs ys ds)
 front {f} {units} {d} {set} {fs} {qs} {xs} {ys} {ds} {old} {new} {residual} {r} h l =
     let vs = numbers f units d set fs qs xs ys ds in
     let n : r ≡ length vs = l .many ∙ sym (length-map (kept-members (kept-rows units fs qs xs ys ds) (asked d set)) (field-of f)) in
@@ -114,10 +127,13 @@ front {f} {units} {d} {set} {fs} {qs} {xs} {ys} {ds} {old} {new} {residual} {r} 
       ap₂ (λ (m : ℕ) (c : List ℤ). take m c) n (l .column) ∙ headed-take vs old few,
     )
 
-pub record MembersCharged (f : Field) (T units : ℕ) (d : Direction) (set : ℕ) (fs : List ℤ) (qs : List ℕ) (xs ys ds old was : List ℤ) (r : Shared) (new now : List ℤ) : Type 0 where
+pub record MembersCharged (f : Field) (T units : ℕ) (d : Direction) (set : ℕ) (fs : List ℤ) (qs : List ℕ) (xs ys ds old was : List ℤ) (r : Shared)
+    (new now : List ℤ) : Type 0 where
   pub reply : r ≡ Placed (unplaced-of T (map loss (numbers f units d set fs qs xs ys ds)))
   pub column : new ≡ headed (numbers f units d set fs qs xs ys ds) old
-  pub amounts : now ≡ filled (length (map loss (numbers f units d set fs qs xs ys ds))) (λ i. negℤ (pos (share-of T (map loss (numbers f units d set fs qs xs ys ds)) i))) was
+  pub amounts :
+      now ≡ filled (length (map loss (numbers f units d set fs qs xs ys ds)))
+      (λ i. negℤ (pos (share-of T (map loss (numbers f units d set fs qs xs ys ds)) i))) was
 
 -- the pool by the signs of numbers
 abbrev pub pool-over : ℕ → ℕ → List ℤ → ℕ
@@ -128,7 +144,8 @@ pub record PoolPaid (n pool : ℕ) (ps old : List ℤ) (r : Paying) (new : List 
   pub reply : r ≡ Made (record { members = n; pool = pool })
   pub payments : new ≡ filled (length ps) (signs-at pool ps) old
 
-pub record MembersPaid (price rcr units : ℕ) (d : Direction) (set : ℕ) (fs : List ℤ) (qs : List ℕ) (xs ys ds old₁ old₂ old₃ : List ℤ) (r : Paying) (new₁ new₂ new₃ : List ℤ) : Type 0 where
+pub record MembersPaid (price rcr units : ℕ) (d : Direction) (set : ℕ) (fs : List ℤ) (qs : List ℕ) (xs ys ds old₁ old₂ old₃ : List ℤ) (r : Paying)
+    (new₁ new₂ new₃ : List ℤ) : Type 0 where
   pub reply :
       r ≡
       Made (record {
@@ -137,9 +154,12 @@ pub record MembersPaid (price rcr units : ℕ) (d : Direction) (set : ℕ) (fs :
       })
   pub performances : new₁ ≡ headed (numbers Payment units d set fs qs xs ys ds) old₁
   pub factors : new₂ ≡ filled (length (numbers Payment units d set fs qs xs ys ds)) (signs-at billion (numbers Payment units d set fs qs xs ys ds)) old₂
-  pub payments : new₃ ≡ filled (length (numbers Payment units d set fs qs xs ys ds)) (signs-at (pool-over price rcr (numbers Payment units d set fs qs xs ys ds)) (numbers Payment units d set fs qs xs ys ds)) old₃
+  pub payments :
+      new₃ ≡ filled (length (numbers Payment units d set fs qs xs ys ds))
+      (signs-at (pool-over price rcr (numbers Payment units d set fs qs xs ys ds)) (numbers Payment units d set fs qs xs ys ds)) old₃
 
-module _ {f : Field} {units : ℕ} {d : Direction} {set : ℕ} {fs : List ℤ} {qs : List ℕ} {xs ys ds old new : List ℤ} {residual : Member} {r : ℕ} (h : MembersReady units d set fs qs xs ys ds residual (length old)) (l : Listed f units d set fs qs xs ys ds old r new) where
+module _ {f : Field} {units : ℕ} {d : Direction} {set : ℕ} {fs : List ℤ} {qs : List ℕ} {xs ys ds old new : List ℤ} {residual : Member} {r : ℕ}
+    (h : MembersReady units d set fs qs xs ys ds residual (length old)) (l : Listed f units d set fs qs xs ys ds old r new) where
   pub front-fits : (T : ℕ) (side : ℤ → ℕ) → ((z : ℤ) → side z ≤ natAbs z) → T ≤ total-limit → (n : ℕ) → units < n → WeightsFit T side (take r new) n
   front-fits T side le t n m = rw (front h l .1) (numbers-fit f units d set fs qs xs ys ds h T side le t n m)
 
@@ -153,11 +173,16 @@ module _ {f : Field} {units : ℕ} {d : Direction} {set : ℕ} {fs : List ℤ} {
         units-few f units d set fs qs xs ys ds h,
       )
 
-  pub members-charged : {T : ℕ} {u : Shared} {was now : List ℤ} → Charged T (take r new) was u now → MembersCharged f T units d set fs qs xs ys ds old was u new now
+  pub members-charged :
+      {T : ℕ} {u : Shared} {was now : List ℤ} → Charged T (take r new) was u now → MembersCharged f T units d set fs qs xs ys ds old was u new now
   members-charged c = let k = rw (front h l .1) at c in record { reply = k .reply; column = l .column; amounts = k .amounts }
 
-module _ {units : ℕ} {d : Direction} {set : ℕ} {fs : List ℤ} {qs : List ℕ} {xs ys ds old new : List ℤ} {residual : Member} {r : ℕ} (h : MembersReady units d set fs qs xs ys ds residual (length old)) (l : Listed Payment units d set fs qs xs ys ds old r new) where
-  pub members-paid : {price rcr a b pool : ℕ} {old₂ old₃ new₂ new₃ : List ℤ} {sides : SharedSigns} {paying : Paying} → SignsShared billion (take r new) old₂ sides new₂ → sides ≡ ss.Placed a b → pool ≡ pool-cents price rcr (eqb a 0) (eqb b 0) → PoolPaid r pool (take r new) old₃ paying new₃ → MembersPaid price rcr units d set fs qs xs ys ds old old₂ old₃ paying new new₂ new₃
+module _ {units : ℕ} {d : Direction} {set : ℕ} {fs : List ℤ} {qs : List ℕ} {xs ys ds old new : List ℤ} {residual : Member} {r : ℕ}
+    (h : MembersReady units d set fs qs xs ys ds residual (length old)) (l : Listed Payment units d set fs qs xs ys ds old r new) where
+  pub members-paid :
+      {price rcr a b pool : ℕ} {old₂ old₃ new₂ new₃ : List ℤ} {sides : SharedSigns} {paying : Paying} → SignsShared billion (take r new) old₂ sides new₂ →
+      sides ≡ ss.Placed a b → pool ≡ pool-cents price rcr (eqb a 0) (eqb b 0) → PoolPaid r pool (take r new) old₃ paying new₃ →
+      MembersPaid price rcr units d set fs qs xs ys ds old old₂ old₃ paying new new₂ new₃
   members-paid {price} {rcr} {a} {b} {pool} {old₂} {old₃} {new₂} {new₃} {sides} {paying} x e ep y =
       let vs = numbers Payment units d set fs qs xs ys ds in
       let k = rw (front h l .1) at x in

@@ -62,18 +62,30 @@ module _ (f : Field) (d : Direction) (s : ℕ) (fs : List ℤ) (qs : List ℕ) (
   g = row-number f d s fs qs xs ys ds
 
   pub rows-none : RowsPut f d s 0 fs qs xs ys ds old 0 old
-  rows-none = record { few = omega arith; many = sym (ap length (gathered-none p g)); put = sym (ap (λ (l : List ℤ). headed l old) (gathered-none p g) ∙ headed-none old) }
+  rows-none =
+      record {
+        few = omega arith;
+        many = sym (ap length (gathered-none p g));
+        put = sym
+            (ap (λ (l : List ℤ). headed l old) (gathered-none p g) ∙ headed-none old);
+      }
 
-  pub rows-more : {n at at′ : ℕ} {column column′ : List ℤ} → RowsPut f d s n fs qs xs ys ds old at column → RowPut f d s n at fs qs xs ys ds column at′ column′ → RowsPut f d s (n + 1) fs qs xs ys ds old at′ column′
+  pub rows-more :
+      {n at at′ : ℕ} {column column′ : List ℤ} → RowsPut f d s n fs qs xs ys ds old at column → RowPut f d s n at fs qs xs ys ds column at′ column′ →
+      RowsPut f d s (n + 1) fs qs xs ys ds old at′ column′
   rows-more {n} {at} {at′} {column} {column′} a b = go (p n) refl (b .many) (b .put)
     where
-      go : (t : Bool) → p n ≡ t → at′ ≡ cond t (at + 1) at → column′ ≡ cond t (set column at (g n)) column → RowsPut f d s (n + 1) fs qs xs ys ds old at′ column′
+      go :
+          (t : Bool) → p n ≡ t → at′ ≡ cond t (at + 1) at → column′ ≡ cond t (set column at (g n)) column →
+          RowsPut f d s (n + 1) fs qs xs ys ds old at′ column′
       go true e m c =
           let more : gathered p g (n + 1) ≡ gathered p g n ++ (g n ∷ []) = gathered-more p g n ∙ rw e in
           record {
             few = omega (arith, a .few);
             many = m ∙ omega (arith, a .many, length-append (gathered p g n) (g n ∷ []), ap length more);
-            put = c ∙ ap₂ (λ (l : List ℤ) (i : ℕ). set l i (g n)) (a .put) (a .many) ∙ headed-more (gathered p g n) old (g n) ∙ ap (λ (l : List ℤ). headed l old) (sym more);
+            put =
+                c ∙ ap₂ (λ (l : List ℤ) (i : ℕ). set l i (g n)) (a .put) (a .many) ∙ headed-more (gathered p g n) old (g n)
+                ∙ ap (λ (l : List ℤ). headed l old) (sym more);
           }
       go false e m c =
           let more : gathered p g (n + 1) ≡ gathered p g n = gathered-more p g n ∙ rw e (append-nil (gathered p g n)) in
@@ -84,7 +96,11 @@ module _ (f : Field) (d : Direction) (s : ℕ) (fs : List ℤ) (qs : List ℕ) (
           }
 
 -- ---- the members' numbers, one after the other
-pub kept-values : (f : Field) (k : Kept) (q : Requirement) → map (field-of f) (kept-members k q) ≡ gathered (meant f (q .direction) (q .set) (k .figures) (k .places) (k .raise) (k .lower) (k .defaults)) (row-number f (q .direction) (q .set) (k .figures) (k .places) (k .raise) (k .lower) (k .defaults)) (k .units) ++ (picked f (residual-to (q .direction) (q .set) (k .units) (k .figures) (k .places) (k .raise) (k .lower) regions) ∷ [])
+pub kept-values :
+    (f : Field) (k : Kept) (q : Requirement) → map (field-of f) (kept-members k q) ≡ gathered
+    (meant f (q .direction) (q .set) (k .figures) (k .places) (k .raise) (k .lower) (k .defaults))
+    (row-number f (q .direction) (q .set) (k .figures) (k .places) (k .raise) (k .lower) (k .defaults)) (k .units) ++
+    (picked f (residual-to (q .direction) (q .set) (k .units) (k .figures) (k .places) (k .raise) (k .lower) regions) ∷ [])
 unfolding kept-members
 kept-values f k q =
     map-append (field-of f) (map (row-member k (q .direction)) (rows k q)) (residual-row k q ∷ [])
@@ -92,10 +108,14 @@ kept-values f k q =
     (each (rows k q))
     (field-shown f (residual-row k q) ∙ ap (picked f) (residual-shown k q))
   where
-    at : (i : ℕ) → field-of f (row-member k (q .direction) i) ≡ row-number f (q .direction) (q .set) (k .figures) (k .places) (k .raise) (k .lower) (k .defaults) i
+    at :
+        (i : ℕ) → field-of f (row-member k (q .direction) i) ≡ row-number f (q .direction) (q .set) (k .figures) (k .places) (k .raise) (k .lower)
+        (k .defaults) i
     at i = field-shown f (row-member k (q .direction) i) ∙ ap (picked f) (row-shown k (q .direction) i)
 
-    each : (is : List ℕ) → map (field-of f) (map (row-member k (q .direction)) is) ≡ map (row-number f (q .direction) (q .set) (k .figures) (k .places) (k .raise) (k .lower) (k .defaults)) is
+    each :
+        (is : List ℕ) → map (field-of f) (map (row-member k (q .direction)) is) ≡ map
+        (row-number f (q .direction) (q .set) (k .figures) (k .places) (k .raise) (k .lower) (k .defaults)) is
     each [] = refl
     each (i ∷ is) = ap₂ (λ (z : ℤ) (l : List ℤ). z ∷ l) (at i) (each is)
 
@@ -106,21 +126,22 @@ members-few k q =
     let p = meant Payment d (q .set) (k .figures) (k .places) (k .raise) (k .lower) (k .defaults) in
     let g = row-number Payment d (q .set) (k .figures) (k .places) (k .raise) (k .lower) (k .defaults) in
     let z = picked Payment (residual-to d (q .set) (k .units) (k .figures) (k .places) (k .raise) (k .lower) regions) in
-    omega (arith, ap length (kept-values Payment k q), length-map (kept-members k q) (field-of Payment), length-append (gathered p g (k .units)) (z ∷ []), gathered-length p g (k .units))
+    omega (
+      arith,
+      ap length (kept-values Payment k q),
+      length-map (kept-members k q) (field-of Payment),
+      length-append (gathered p g (k .units)) (z ∷ []),
+      gathered-length p g (k .units),
+    )
 
 -- the same numbers from what the call reads of what is kept
-pub values-of-kept : (f : Field) (k : Kept) (q : Requirement) → map (field-of f) (kept-members (kept-rows (k .units) (k .figures) (k .places) (k .raise) (k .lower) (k .defaults)) (asked (q .direction) (q .set))) ≡ map (field-of f) (kept-members k q)
-values-of-kept f k q = kept-values f (kept-rows (k .units) (k .figures) (k .places) (k .raise) (k .lower) (k .defaults)) (asked (q .direction) (q .set)) ∙ sym (kept-values f k q)
-
-pub many-of-kept : (k : Kept) (q : Requirement) → length (kept-members (kept-rows (k .units) (k .figures) (k .places) (k .raise) (k .lower) (k .defaults)) (asked (q .direction) (q .set))) ≡ length (kept-members k q)
-many-of-kept k q =
-    sym (length-map (kept-members (kept-rows (k .units) (k .figures) (k .places) (k .raise) (k .lower) (k .defaults)) (asked (q .direction) (q .set))) (field-of Payment))
-    ∙ ap length (values-of-kept Payment k q)
-    ∙ length-map (kept-members k q) (field-of Payment)
-
-pub last-of-kept : (k : Kept) (q : Requirement) → residual-row (kept-rows (k .units) (k .figures) (k .places) (k .raise) (k .lower) (k .defaults)) (asked (q .direction) (q .set)) .standing ≡ residual-row k q .standing
-last-of-kept k q =
-    ap (λ (m : Member). m .standing) (residual-shown (kept-rows (k .units) (k .figures) (k .places) (k .raise) (k .lower) (k .defaults)) (asked (q .direction) (q .set)) ∙ sym (residual-shown k q))
+pub values-of-kept :
+    (f : Field) (k : Kept) (q : Requirement) → map (field-of f)
+    (kept-members (kept-rows (k .units) (k .figures) (k .places) (k .raise) (k .lower) (k .defaults)) (asked (q .direction) (q .set))) ≡ map (field-of f)
+    (kept-members k q)
+values-of-kept f k q =
+    kept-values f (kept-rows (k .units) (k .figures) (k .places) (k .raise) (k .lower) (k .defaults)) (asked (q .direction) (q .set))
+    ∙ sym (kept-values f k q)
 
 -- ---- numbers in range
 default-within : (limit : ℕ) (x : ℤ) → default-fine limit x ≡ true → Within limit x
@@ -204,9 +225,13 @@ module _ (f : Field) (k : Kept) (q : Requirement) (old : List ℤ) where
   abbrev values : List ℤ
   values = map (field-of f) (kept-members k q)
 
-  pub with-residual : {at : ℕ} {column : List ℤ} {z : ℤ} → RowsPut f (q .direction) (q .set) (k .units) (k .figures) (k .places) (k .raise) (k .lower) (k .defaults) old at column → z ≡ picked f (residual-to (q .direction) (q .set) (k .units) (k .figures) (k .places) (k .raise) (k .lower) regions) → (at + 1 ≡ length (kept-members k q)) × (set column at z ≡ headed values old)
+  pub with-residual :
+      {at : ℕ} {column : List ℤ} {z : ℤ} → RowsPut f (q .direction) (q .set) (k .units) (k .figures) (k .places) (k .raise) (k .lower) (k .defaults) old at
+      column → z ≡ picked f (residual-to (q .direction) (q .set) (k .units) (k .figures) (k .places) (k .raise) (k .lower) regions) →
+      (at + 1 ≡ length (kept-members k q)) × (set column at z ≡ headed values old)
   with-residual {at} {column} {z} a e =
-      let l = gathered (meant f (q .direction) (q .set) (k .figures) (k .places) (k .raise) (k .lower) (k .defaults)) (row-number f (q .direction) (q .set) (k .figures) (k .places) (k .raise) (k .lower) (k .defaults)) (k .units) in
+      let l = gathered (meant f (q .direction) (q .set) (k .figures) (k .places) (k .raise) (k .lower) (k .defaults))
+      (row-number f (q .direction) (q .set) (k .figures) (k .places) (k .raise) (k .lower) (k .defaults)) (k .units) in
       let all : values ≡ l ++ (z ∷ []) = kept-values f k q ∙ ap (λ (y : ℤ). l ++ (y ∷ [])) (sym e) in (
         omega (arith, a .many, length-append l (z ∷ []), ap length all, length-map (kept-members k q) (field-of f)),
         ap₂ (λ (c : List ℤ) (i : ℕ). set c i z) (a .put) (a .many) ∙ headed-more l old z ∙ ap (λ (c : List ℤ). headed c old) (sym all),

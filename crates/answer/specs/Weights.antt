@@ -1,4 +1,5 @@
--- The sizes of a requirement's members: numbers in range give weights that sum to at most 6,010,000,000,000,000,000, so no share of theirs meets its limit on W.
+-- The sizes of a requirement's members: numbers in range give weights that sum to at most 6,010,000,000,000,000,000,
+-- so no share of theirs meets its limit on W.
 use mathlib.Core.Path.{_≡_, sym, _∙_, ap}
 use mathlib.Core.Bool.{Bool, true, false, cond}
 use mathlib.Core.List.{[], _∷_, _++_, map}
@@ -31,7 +32,13 @@ unfolding totalℕ
 gathered-size k p g zero h = rw (gathered-none p g) (omega arith)
 gathered-size k p g (suc n) h =
     let more : gathered p g (suc n) ≡ gathered p g n ++ cond (p n) (g n ∷ []) [] = ap (λ (m : ℕ). gathered p g m) (sym (add-one n)) ∙ gathered-more p g n in
-    rw more (omega (arith, totalℕ-++ natAbs (gathered p g n) (cond (p n) (g n ∷ []) []), last (p n), gathered-size k p g n (λ i l. h i (omega arith)), add-mul n 1 k))
+    rw more (omega (
+      arith,
+      totalℕ-++ natAbs (gathered p g n) (cond (p n) (g n ∷ []) []),
+      last (p n),
+      gathered-size k p g n (λ i l. h i (omega arith)),
+      add-mul n 1 k,
+    ))
   where
     last : (t : Bool) → totalℕ natAbs (cond t (g n ∷ []) []) ≤ k
     last true = omega (arith, h n (omega arith))
@@ -58,9 +65,13 @@ module _ (k : Kept) (h : Fine (k .units) (k .figures) (k .places) (k .raise) (k 
   third-within Raise i l = h .defaults i 2 l (omega arith)
   third-within Lower i l = h .defaults i 5 l (omega arith)
 
-  row-within : (f : Field) (d : Direction) (i : ℕ) → i < k .units → Within performance-limit (picked f (unit-made d i (k .figures) (k .places) (k .raise) (k .lower) (k .defaults)))
-  row-within Payment d i l = either (unit-made d i (k .figures) (k .places) (k .raise) (k .lower) (k .defaults) .standing) _ _ (column-within d i l) (first-within d i l)
-  row-within Used d i l = either (unit-made d i (k .figures) (k .places) (k .raise) (k .lower) (k .defaults) .standing) _ _ (column-within d i l) (second-within d i l)
+  row-within :
+      (f : Field) (d : Direction) (i : ℕ) → i < k .units → Within performance-limit
+      (picked f (unit-made d i (k .figures) (k .places) (k .raise) (k .lower) (k .defaults)))
+  row-within Payment d i l =
+      either (unit-made d i (k .figures) (k .places) (k .raise) (k .lower) (k .defaults) .standing) _ _ (column-within d i l) (first-within d i l)
+  row-within Used d i l =
+      either (unit-made d i (k .figures) (k .places) (k .raise) (k .lower) (k .defaults) .standing) _ _ (column-within d i l) (second-within d i l)
   row-within Unused d i l = third-within d i l
 
   pub members-size : (f : Field) (q : Requirement) → totalℕ natAbs (map (field-of f) (kept-members k q)) ≤ weight-limit

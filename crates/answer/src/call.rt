@@ -26,7 +26,10 @@ pub fn answer(
     used: &mut [i64],
     unused: &mut [i64],
 ) -> Answered
-    ensures { λ r. ⌜ AnswerPromise tally (now (part .entry)) (now (measures .entry)) (now (positive .entry)) (now (negative .entry)) (now (figures .entry)) (now (places .entry)) (now (raise .entry)) (now (lower .entry)) (now (defaults .entry)) (now (performances .entry)) (now (factors .entry)) (now (payments .entry)) (now (used .entry)) (now (unused .entry)) r (now (performances .exit)) (now (factors .exit)) (now (payments .exit)) (now (used .exit)) (now (unused .exit)) ⌝ }
+    ensures { λ r. ⌜ AnswerPromise tally (now (part .entry)) (now (measures .entry)) (now (positive .entry)) (now (negative .entry)) (now (figures .entry))
+        (now (places .entry)) (now (raise .entry)) (now (lower .entry)) (now (defaults .entry)) (now (performances .entry)) (now (factors .entry))
+        (now (payments .entry)) (now (used .entry)) (now (unused .entry)) r (now (performances .exit)) (now (factors .exit)) (now (payments .exit))
+        (now (used .exit)) (now (unused .exit)) ⌝ }
 {
     let read = tested_requirement(
         tally,

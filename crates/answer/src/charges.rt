@@ -36,8 +36,11 @@ pub(crate) fn charge_cost(
     used: &mut [i64],
     unused: &mut [i64],
 ) -> Charges
-    requires { ⌜ CostReady fields units (now figures) (now places) (now raise) (now lower) (now defaults) residual (length (now values)) (length (now used)) (length (now unused)) ⌝ }
-    ensures { λ r. ⌜ CostCharged fields reliable units (now (figures .entry)) (now (places .entry)) (now (raise .entry)) (now (lower .entry)) (now (defaults .entry)) (now (values .entry)) (now (used .entry)) (now (unused .entry)) r (now (values .exit)) (now (used .exit)) (now (unused .exit)) ⌝ }
+    requires { ⌜ CostReady fields units (now figures) (now places) (now raise) (now lower) (now defaults) residual (length (now values)) (length (now used))
+        (length (now unused)) ⌝ }
+    ensures { λ r. ⌜ CostCharged fields reliable units (now (figures .entry)) (now (places .entry)) (now (raise .entry)) (now (lower .entry))
+        (now (defaults .entry)) (now (values .entry)) (now (used .entry)) (now (unused .entry)) r (now (values .exit)) (now (used .exit)) (now (unused .exit))
+        ⌝ }
 {
     let direction = fields.direction;
     let set = fields.set;

@@ -78,8 +78,12 @@ pub(crate) fn given(
     used: &mut [i64],
     unused: &mut [i64],
 ) -> Answered
-    requires { ⌜ GivenReady fields units percent (now measures) (now positive) (now negative) (now figures) (now places) (now raise) (now lower) (now defaults) (length (now performances)) (length (now factors)) (length (now payments)) (length (now used)) (length (now unused)) ⌝ }
-    ensures { λ r. ⌜ GivenAll fields units percent (now (measures .entry)) (now (positive .entry)) (now (negative .entry)) (now (figures .entry)) (now (places .entry)) (now (raise .entry)) (now (lower .entry)) (now (defaults .entry)) (now (performances .entry)) (now (factors .entry)) (now (payments .entry)) (now (used .entry)) (now (unused .entry)) r (now (performances .exit)) (now (factors .exit)) (now (payments .exit)) (now (used .exit)) (now (unused .exit)) ⌝ }
+    requires { ⌜ GivenReady fields units percent (now measures) (now positive) (now negative) (now figures) (now places) (now raise) (now lower)
+        (now defaults) (length (now performances)) (length (now factors)) (length (now payments)) (length (now used)) (length (now unused)) ⌝ }
+    ensures { λ r. ⌜ GivenAll fields units percent (now (measures .entry)) (now (positive .entry)) (now (negative .entry)) (now (figures .entry))
+        (now (places .entry)) (now (raise .entry)) (now (lower .entry)) (now (defaults .entry)) (now (performances .entry)) (now (factors .entry))
+        (now (payments .entry)) (now (used .entry)) (now (unused .entry)) r (now (performances .exit)) (now (factors .exit)) (now (payments .exit))
+        (now (used .exit)) (now (unused .exit)) ⌝ }
 {
     let direction = fields.direction;
     let set = fields.set;

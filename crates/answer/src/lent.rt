@@ -91,7 +91,8 @@ pub(crate) fn lent_in_range(
     defaults: &[i64],
 ) -> bool
     requires { ⌜ Long (kept-lists units 0 (now measures) (now positive) (now negative) (now figures) [] (now places) (now raise) (now lower) (now defaults)) ⌝ }
-    ensures { λ r. ⌜ r ≡ kept-fine (kept-lists units 0 (now (measures .entry)) (now (positive .entry)) (now (negative .entry)) (now (figures .entry)) [] (now (places .entry)) (now (raise .entry)) (now (lower .entry)) (now (defaults .entry))) ⌝ }
+    ensures { λ r. ⌜ r ≡ kept-fine (kept-lists units 0 (now (measures .entry)) (now (positive .entry)) (now (negative .entry)) (now (figures .entry)) []
+        (now (places .entry)) (now (raise .entry)) (now (lower .entry)) (now (defaults .entry))) ⌝ }
 {
     if !series_in_range(units, measures, positive, negative) {
         return false;

@@ -1,12 +1,13 @@
 // A unit's row as a member: live, or default with its reason. One path for raise and lower: the direction picks a column and two places.
 ghost use mathlib.Core.Path.{_≡_};
+ghost use mathlib.Core.Bool.{_&&_};
 ghost use Prim.Native.Nat.{_+_, _/_, _%_, _<_, _≤_};
 ghost use lib.Dec.{eqb};
 ghost use lib.IntN.{pos};
 ghost use lib.ListN.{length, getD};
 ghost use Rattle.rules.specs.declared.Reason.the-variants.{BadUnit};
 ghost use Rattle.rules.specs.Standings.{standing};
-ghost use Rattle.answer.specs.Made.{defaults-at, side, flag, made, made-at, picked, unit-made, RowReady};
+ghost use Rattle.answer.specs.Made.{defaults-at, field-at, performed, side, flag, made, made-at, picked, unit-made, RowReady};
 use super::Field;
 use super::Member;
 use super::places::is_good;
@@ -24,6 +25,27 @@ fn defaults_place(direction: Direction) -> usize
     match direction {
         Direction::Raise => 0,
         Direction::Lower => 3,
+    }
+}
+
+// Where among a direction's three a field's default stands.
+fn field_place(field: Field) -> usize
+    ensures { λ r. ⌜ r ≡ field-at field ⌝ }
+{
+    match field {
+        Field::Payment => 0,
+        Field::Used => 1,
+        Field::Unused => 2,
+    }
+}
+
+fn by_performance(field: Field) -> bool
+    ensures { λ r. ⌜ r ≡ performed field ⌝ }
+{
+    match field {
+        Field::Payment => true,
+        Field::Used => true,
+        Field::Unused => false,
     }
 }
 
@@ -110,7 +132,23 @@ pub(crate) fn row_standing(direction: Direction, place: u8, figures: &[i64]) -> 
     standing_of(sound, is_good(place), Reason::BadUnit)
 }
 
-pub(crate) fn row_member(
+// Does a unit's number go by its performance? That of a live one does, but for the unused default.
+fn goes_live(field: Field, direction: Direction, place: u8, figures: &[i64]) -> bool
+    requires { ⌜ (place < 10) × (45 ≤ length (now figures)) ⌝ }
+    ensures { λ r. ⌜ r ≡ (performed field && (flag direction (place / 2) (now (figures .entry)) && eqb (place % 2) 1)) ⌝ }
+{
+    if !by_performance(field) {
+        return false;
+    }
+    if !reliable(direction, (place / 2) as usize, figures) {
+        return false;
+    }
+    is_good(place)
+}
+
+// The number by which a share goes: the performance of a live unit, else the default that stands in.
+pub(crate) fn row_value(
+    field: Field,
     direction: Direction,
     row: usize,
     figures: &[i64],
@@ -118,17 +156,14 @@ pub(crate) fn row_member(
     raise: &[i64],
     lower: &[i64],
     defaults: &[i64],
-) -> Member
+) -> i64
     requires { ⌜ RowReady row (now figures) (now places) (now raise) (now lower) (now defaults) ⌝ }
-    ensures { λ r. ⌜ r ≡ unit-made direction row (now (figures .entry)) (now (places .entry)) (now (raise .entry)) (now (lower .entry)) (now (defaults .entry)) ⌝ }
+    ensures { λ r. ⌜ r ≡ picked field
+        (unit-made direction row (now (figures .entry)) (now (places .entry)) (now (raise .entry)) (now (lower .entry)) (now (defaults .entry))) ⌝ }
 {
-    let standing = row_standing(direction, places[row], figures);
-    let performance = performance_of(direction, row, raise, lower);
-    member_at(
-        direction,
-        standing,
-        performance,
-        DEFAULTS_EACH * row,
-        defaults,
-    )
+    if goes_live(field, direction, places[row], figures) {
+        return performance_of(direction, row, raise, lower);
+    }
+    let at = defaults_place(direction) + field_place(field);
+    defaults[DEFAULTS_EACH * row + at]
 }

@@ -25,7 +25,8 @@ pub(crate) fn rcr(
     places: &[u8],
 ) -> Found
     requires { ⌜ FoundReady units percent (now measures) (now positive) (now negative) (now figures) (now places) ⌝ }
-    ensures { λ r. ⌜ r ≡ found-is units percent direction set (now (measures .entry)) (now (positive .entry)) (now (negative .entry)) (now (figures .entry)) (now (places .entry)) ⌝ }
+    ensures { λ r. ⌜ r ≡ found-is units percent direction set (now (measures .entry)) (now (positive .entry)) (now (negative .entry))
+        (now (figures .entry)) (now (places .entry)) ⌝ }
 {
     if !all_reliable(direction, set, figures) {
         return Found {

@@ -14,8 +14,6 @@ use super::made::standing_of;
 use super::places::is_good;
 use super::regions::covers;
 use super::regions::reliable;
-use super::sizes::counted;
-use super::sizes::part;
 use rules::Direction;
 use rules::Reason;
 use rules::Standing;
@@ -27,37 +25,45 @@ struct Held {
     sum: i64,
 }
 
-// A good unit of the region?
-fn good_there(place: u8, region: usize) -> bool
-    ensures { λ r. ⌜ r ≡ (eqb region (place / 2) && eqb (place % 2) 1) ⌝ }
+// What the rows before one hold, with it. A unit of another region adds nothing, and a bad one no performance.
+fn with_row(held: Held, region: usize, row: usize, places: &[u8], performances: &[i64]) -> Held
+    requires { ⌜ RowsFit (row + 1) (now places) (now performances) × Holds region row (now places) (now performances) held ⌝ }
+    ensures { λ r. ⌜ Holds region (row + 1) (now (places .entry)) (now (performances .entry)) r ⌝ }
 {
+    let place = places[row];
     if region != (place / 2) as usize {
-        return false;
+        return held;
     }
-    is_good(place)
+    let units = held.units + 1;
+    if !is_good(place) {
+        return Held {
+            units: units,
+            good: held.good,
+            sum: held.sum,
+        };
+    }
+    Held {
+        units: units,
+        good: held.good + 1,
+        sum: held.sum + performances[row],
+    }
 }
 
 fn rows_held(region: usize, units: usize, places: &[u8], performances: &[i64]) -> Held
     requires { ⌜ RowsFit units (now places) (now performances) ⌝ }
     ensures { λ r. ⌜ Holds region units (now (places .entry)) (now (performances .entry)) r ⌝ }
 {
-    let mut rows: u32 = 0;
-    let mut good: u32 = 0;
-    let mut sum: i64 = 0;
-    let mut i: usize = 0;
-    while i < units {
-        let place = places[i];
-        let fine = good_there(place, region);
-        rows += counted(region == (place / 2) as usize);
-        good += counted(fine);
-        sum += part(fine, performances[i]);
-        i += 1;
+    let mut held = Held {
+        units: 0,
+        good: 0,
+        sum: 0,
+    };
+    let mut row: usize = 0;
+    while row < units {
+        held = with_row(held, region, row, places, performances);
+        row += 1;
     }
-    Held {
-        units: rows,
-        good: good,
-        sum: sum,
-    }
+    held
 }
 
 fn rows_toward(
@@ -136,7 +142,8 @@ fn with_region(
     raise: &[i64],
     lower: &[i64],
 ) -> Member
-    requires { ⌜ (region < 5) × RegionsFit units (now figures) (now places) (now raise) (now lower) × (sum ≡ residual-to direction set units (now figures) (now places) (now raise) (now lower) region) ⌝ }
+    requires { ⌜ (region < 5) × RegionsFit units (now figures) (now places) (now raise) (now lower)
+        × (sum ≡ residual-to direction set units (now figures) (now places) (now raise) (now lower) region) ⌝ }
     ensures { λ r. ⌜ r ≡ residual-to direction set units (now (figures .entry)) (now (places .entry)) (now (raise .entry)) (now (lower .entry)) (region + 1) ⌝ }
 {
     if !covers(set, region) {

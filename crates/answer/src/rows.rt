@@ -37,7 +37,8 @@ pub(crate) fn rows_in_range(
     lower: &[i64],
     defaults: &[i64],
 ) -> bool
-    requires { ⌜ (units ≤ 512) × (units ≤ length (now places)) × (units ≤ length (now raise)) × (units ≤ length (now lower)) × (6 * units ≤ length (now defaults)) ⌝ }
+    requires { ⌜ (units ≤ 512) × (units ≤ length (now places)) × (units ≤ length (now raise)) × (units ≤ length (now lower))
+        × (6 * units ≤ length (now defaults)) ⌝ }
     ensures { λ r. ⌜ r ≡ rows-here units (now (places .entry)) (now (raise .entry)) (now (lower .entry)) (now (defaults .entry)) ⌝ }
 {
     let mut row: usize = 0;

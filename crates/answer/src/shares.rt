@@ -28,7 +28,8 @@ fn charge(pool: u64, n: usize, values: &[i64], amounts: &mut [i64]) -> Shared
 
 // A total over both signs of the first n numbers.
 fn share_both(total: u64, n: usize, values: &[i64], amounts: &mut [i64]) -> SharedSigns
-    requires { ⌜ (n ≤ length (now values)) × WeightsFit total gain (take n (now values)) (length (now amounts)) × WeightsFit total loss (take n (now values)) (length (now amounts)) ⌝ }
+    requires { ⌜ (n ≤ length (now values)) × WeightsFit total gain (take n (now values)) (length (now amounts))
+        × WeightsFit total loss (take n (now values)) (length (now amounts)) ⌝ }
     ensures { λ r. ⌜ SignsShared total (take n (now (values .entry))) (now (amounts .entry)) r (now (amounts .exit)) ⌝ }
 {
     share::share_signs(total, &values[..n], amounts)
@@ -50,8 +51,10 @@ pub(crate) fn charge_members(
     values: &mut [i64],
     amounts: &mut [i64],
 ) -> Shared
-    requires { ⌜ (pool ≤ 1_000_000_000_000) × (units < length (now amounts)) × MembersReady units direction set (now figures) (now places) (now raise) (now lower) (now defaults) residual (length (now values)) ⌝ }
-    ensures { λ r. ⌜ MembersCharged field pool units direction set (now (figures .entry)) (now (places .entry)) (now (raise .entry)) (now (lower .entry)) (now (defaults .entry)) (now (values .entry)) (now (amounts .entry)) r (now (values .exit)) (now (amounts .exit)) ⌝ }
+    requires { ⌜ (pool ≤ 1_000_000_000_000) × (units < length (now amounts))
+        × MembersReady units direction set (now figures) (now places) (now raise) (now lower) (now defaults) residual (length (now values)) ⌝ }
+    ensures { λ r. ⌜ MembersCharged field pool units direction set (now (figures .entry)) (now (places .entry)) (now (raise .entry)) (now (lower .entry))
+        (now (defaults .entry)) (now (values .entry)) (now (amounts .entry)) r (now (values .exit)) (now (amounts .exit)) ⌝ }
 {
     let n = put_members(
         field,
@@ -83,7 +86,8 @@ pub(crate) enum Paying {
 
 // The pool over both signs of the first n numbers.
 fn pay_pool(pool: u64, n: usize, performances: &[i64], payments: &mut [i64]) -> Paying
-    requires { ⌜ (n ≤ 513) × (n ≤ length (now performances)) × WeightsFit pool gain (take n (now performances)) (length (now payments)) × WeightsFit pool loss (take n (now performances)) (length (now payments)) ⌝ }
+    requires { ⌜ (n ≤ 513) × (n ≤ length (now performances)) × WeightsFit pool gain (take n (now performances)) (length (now payments))
+        × WeightsFit pool loss (take n (now performances)) (length (now payments)) ⌝ }
     ensures { λ r. ⌜ PoolPaid n pool (take n (now (performances .entry))) (now (payments .entry)) r (now (payments .exit)) ⌝ }
 {
     let sides = share_both(pool, n, performances, payments);
@@ -113,8 +117,11 @@ pub(crate) fn pay(
     factors: &mut [i64],
     payments: &mut [i64],
 ) -> Paying
-    requires { ⌜ (price ≤ 10_000_000) × (rcr ≤ 7_680_000_000) × (units < length (now factors)) × (units < length (now payments)) × MembersReady units direction set (now figures) (now places) (now raise) (now lower) (now defaults) residual (length (now performances)) ⌝ }
-    ensures { λ r. ⌜ MembersPaid price rcr units direction set (now (figures .entry)) (now (places .entry)) (now (raise .entry)) (now (lower .entry)) (now (defaults .entry)) (now (performances .entry)) (now (factors .entry)) (now (payments .entry)) r (now (performances .exit)) (now (factors .exit)) (now (payments .exit)) ⌝ }
+    requires { ⌜ (price ≤ 10_000_000) × (rcr ≤ 7_680_000_000) × (units < length (now factors)) × (units < length (now payments))
+        × MembersReady units direction set (now figures) (now places) (now raise) (now lower) (now defaults) residual (length (now performances)) ⌝ }
+    ensures { λ r. ⌜ MembersPaid price rcr units direction set (now (figures .entry)) (now (places .entry)) (now (raise .entry)) (now (lower .entry))
+        (now (defaults .entry)) (now (performances .entry)) (now (factors .entry)) (now (payments .entry)) r (now (performances .exit)) (now (factors .exit))
+        (now (payments .exit)) ⌝ }
 {
     let n = put_members(
         Field::Payment,

@@ -28,7 +28,9 @@ pub(crate) fn tested_requirement(
     used: usize,
     unused: usize,
 ) -> RequirementRead
-    ensures { λ r. ⌜ r ≡ requirement-answer (tested-requirement tally (now (part .entry)) (now (measures .entry)) (now (positive .entry)) (now (negative .entry)) (now (figures .entry)) (now (places .entry)) (now (raise .entry)) (now (lower .entry)) (now (defaults .entry)) performances factors payments used unused) ⌝ }
+    ensures { λ r. ⌜ r ≡ requirement-answer
+        (tested-requirement tally (now (part .entry)) (now (measures .entry)) (now (positive .entry)) (now (negative .entry)) (now (figures .entry))
+        (now (places .entry)) (now (raise .entry)) (now (lower .entry)) (now (defaults .entry)) performances factors payments used unused) ⌝ }
 {
     if !answer_turn(tally) {
         return RequirementRead::Refused(Refusal::OutOfTurn);

@@ -5,7 +5,7 @@ ghost use Rattle.answer.specs.Made.{RowReady};
 ghost use Rattle.answer.specs.Values.{RowsReady, RowPut, RowsPut, MembersReady, Listed};
 use super::Field;
 use super::Member;
-use super::made::row_member;
+use super::made::row_value;
 use super::made::value;
 use super::places::in_set;
 use rules::Direction;
@@ -25,13 +25,22 @@ fn put_row(
     column: &mut [i64],
 ) -> usize
     requires { ⌜ (at < length (now column)) × RowReady row (now figures) (now places) (now raise) (now lower) (now defaults) ⌝ }
-    ensures { λ r. ⌜ RowPut field direction set row at (now (figures .entry)) (now (places .entry)) (now (raise .entry)) (now (lower .entry)) (now (defaults .entry)) (now (column .entry)) r (now (column .exit)) ⌝ }
+    ensures { λ r. ⌜ RowPut field direction set row at (now (figures .entry)) (now (places .entry)) (now (raise .entry)) (now (lower .entry))
+        (now (defaults .entry)) (now (column .entry)) r (now (column .exit)) ⌝ }
 {
     if !in_set(set, places[row]) {
         return at;
     }
-    let member = row_member(direction, row, figures, places, raise, lower, defaults);
-    column[at] = value(field, member);
+    column[at] = row_value(
+        field,
+        direction,
+        row,
+        figures,
+        places,
+        raise,
+        lower,
+        defaults,
+    );
     at + 1
 }
 
@@ -48,7 +57,8 @@ fn put_rows(
     column: &mut [i64],
 ) -> usize
     requires { ⌜ (units < length (now column)) × RowsReady units (now figures) (now places) (now raise) (now lower) (now defaults) ⌝ }
-    ensures { λ r. ⌜ RowsPut field direction set units (now (figures .entry)) (now (places .entry)) (now (raise .entry)) (now (lower .entry)) (now (defaults .entry)) (now (column .entry)) r (now (column .exit)) ⌝ }
+    ensures { λ r. ⌜ RowsPut field direction set units (now (figures .entry)) (now (places .entry)) (now (raise .entry)) (now (lower .entry))
+        (now (defaults .entry)) (now (column .entry)) r (now (column .exit)) ⌝ }
 {
     let mut at: usize = 0;
     let mut row: usize = 0;
@@ -86,7 +96,8 @@ pub(crate) fn put_members(
     column: &mut [i64],
 ) -> usize
     requires { ⌜ MembersReady units direction set (now figures) (now places) (now raise) (now lower) (now defaults) residual (length (now column)) ⌝ }
-    ensures { λ r. ⌜ Listed field units direction set (now (figures .entry)) (now (places .entry)) (now (raise .entry)) (now (lower .entry)) (now (defaults .entry)) (now (column .entry)) r (now (column .exit)) ⌝ }
+    ensures { λ r. ⌜ Listed field units direction set (now (figures .entry)) (now (places .entry)) (now (raise .entry)) (now (lower .entry))
+        (now (defaults .entry)) (now (column .entry)) r (now (column .exit)) ⌝ }
 {
     let last = put_rows(
         field,

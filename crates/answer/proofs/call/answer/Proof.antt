@@ -19,7 +19,9 @@ tested c = c .before .before
 abbrev asked : tie.After-tested-requirement → Reply Requirement
 asked c =
     let a = start c .args in
-    tested-requirement (a .tally) (a .part .now) (a .measures .now) (a .positive .now) (a .negative .now) (a .figures .now) (a .places .now) (a .raise .now) (a .lower .now) (a .defaults .now) (length (a .performances .now)) (length (a .factors .now)) (length (a .payments .now)) (length (a .used .now)) (length (a .unused .now))
+    tested-requirement (a .tally) (a .part .now) (a .measures .now) (a .positive .now) (a .negative .now) (a .figures .now) (a .places .now) (a .raise .now)
+    (a .lower .now) (a .defaults .now) (length (a .performances .now)) (length (a .factors .now)) (length (a .payments .now)) (length (a .used .now))
+    (length (a .unused .now))
 
 read : (c : tie.After-read) → asked (tested c) ≡ taken (required (c .read .given .0 .0))
 read c = was-read (asked (tested c)) _ (sym (c .read .given .1) ∙ tested c .tested-requirement .ensures)

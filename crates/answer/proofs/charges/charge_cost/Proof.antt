@@ -56,7 +56,8 @@ returns c =
     let m = w .before .before .before .before .before in
     let u = pooled m in
     let a = start u .args in
-    cost-charged (a .fields) (a .reliable) (a .units) (a .figures .now) (a .places .now) (a .raise .now) (a .lower .now) (a .defaults .now) (u .used-pool .ensures) refl (m .charge-members .ensures) (w .charge-members2 .ensures)
+    cost-charged (a .fields) (a .reliable) (a .units) (a .figures .now) (a .places .now) (a .raise .now) (a .lower .now) (a .defaults .now)
+    (u .used-pool .ensures) refl (m .charge-members .ensures) (w .charge-members2 .ensures)
 
 pub charge-cost-spec : {M : Type 1} → statement M
 charge-cost-spec =

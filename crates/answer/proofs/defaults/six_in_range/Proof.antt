@@ -29,7 +29,9 @@ told : (c : tie.After-between Inv-loop μ-loop) → tests c (L c .loop .i) ≡ c
 told c = sym (rw (toZ-ofZ (L c .before .fits .least), toZ-ofZ (sfits-of (c .before .between-arg .given))) at (c .between .ensures))
 
 -- as the invariant has it of the parameter
-passed : (l : tie.At-loop Inv-loop μ-loop) → every (l .loop .i) (λ j. fine-from (l .before .args .least) (l .before .args .defaults .now) (l .before .args .start + j)) ≡ true
+passed :
+    (l : tie.At-loop Inv-loop μ-loop) → every (l .loop .i)
+    (λ j. fine-from (l .before .args .least) (l .before .args .defaults .now) (l .before .args .start + j)) ≡ true
 passed l = rw (toZ-ofZ (l .before .fits .least)) at (l .loop .inv .1)
 
 loop-holds : tie.Need-loop-holds Inv-loop μ-loop
@@ -58,7 +60,9 @@ loop-less : tie.Need-loop-less Inv-loop μ-loop
 loop-less c = omega arith
 
 loop-again : tie.Need-loop-again Inv-loop μ-loop
-loop-again c = rw (toZ-ofZ (L (c .before) .before .fits .least)) (omega arith, every-step _ (tests (c .before)) (passed (L (c .before))) (told (c .before) ∙ not-false _ (c .if1 .left)))
+loop-again c =
+    rw (toZ-ofZ (L (c .before) .before .fits .least))
+    (omega arith, every-step _ (tests (c .before)) (passed (L (c .before))) (told (c .before) ∙ not-false _ (c .if1 .left)))
 
 returns-2 : tie.Need-returns-2 Inv-loop μ-loop
 returns-2 c = let e : c .before .loop .i ≡ 6 = omega arith in sym (rw e at (passed (c .before)))

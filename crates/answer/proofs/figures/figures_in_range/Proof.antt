@@ -35,7 +35,9 @@ region-within-requires c κs = omega arith
 
 returns : tie.Need-returns Inv-loop μ-loop
 unfolding figures-fine
-returns c = sym (every-fails regions (tests (L (c .before))) (L (c .before) .loop .region) (omega arith) (sym (c .before .region-within .ensures) ∙ not-true _ (c .if1 .taken)))
+returns c =
+    sym (every-fails regions (tests (L (c .before))) (L (c .before) .loop .region) (omega arith)
+    (sym (c .before .region-within .ensures) ∙ not-true _ (c .if1 .taken)))
 
 add-region : tie.Need-add-region Inv-loop μ-loop
 add-region c = omega arith
@@ -44,7 +46,8 @@ loop-less : tie.Need-loop-less Inv-loop μ-loop
 loop-less c = omega arith
 
 loop-again : tie.Need-loop-again Inv-loop μ-loop
-loop-again c = (omega arith, every-step _ (tests (L (c .before))) (L (c .before) .loop .inv .1) (sym (c .before .region-within .ensures) ∙ not-false _ (c .if1 .left)))
+loop-again c =
+    (omega arith, every-step _ (tests (L (c .before))) (L (c .before) .loop .inv .1) (sym (c .before .region-within .ensures) ∙ not-false _ (c .if1 .left)))
 
 returns-2 : tie.Need-returns-2 Inv-loop μ-loop
 unfolding figures-fine

@@ -12,13 +12,21 @@ use Rattle.answer.specs.Ranges.{up-to}
 use Rattle.answer.proofs.figures.region_within.Statement.{statement}
 use Rattle.answer.proofs.figures.region_within.Tie as tie
 
-generation-told : (c : tie.After-between) → up-to amount-limit (getD (c .before .before .args .figures .now) (c .before .before .args .start + 0) (pos 0)) ≡ c .between .result
+generation-told :
+    (c : tie.After-between) → up-to amount-limit (getD (c .before .before .args .figures .now) (c .before .before .args .start + 0) (pos 0)) ≡
+    c .between .result
 generation-told c = sym (rw (toZ-ofZ (sfits-of (c .before .between-arg .given))) at (c .between .ensures))
 
-raise-told : (c : tie.After-between2) → up-to 1 (getD (c .before .before .before .before .before .args .figures .now) (c .before .before .before .before .before .args .start + 1) (pos 0)) ≡ c .between2 .result
+raise-told :
+    (c : tie.After-between2) → up-to 1
+    (getD (c .before .before .before .before .before .args .figures .now) (c .before .before .before .before .before .args .start + 1) (pos 0)) ≡
+    c .between2 .result
 raise-told c = sym (rw (toZ-ofZ (sfits-of (c .before .between-arg2 .given))) at (c .between2 .ensures))
 
-lower-told : (c : tie.After-between3) → up-to 1 (getD (c .before .before .before .before .before .before .before .before .args .figures .now) (c .before .before .before .before .before .before .before .before .args .start + 2) (pos 0)) ≡ c .between3 .result
+lower-told :
+    (c : tie.After-between3) → up-to 1
+    (getD (c .before .before .before .before .before .before .before .before .args .figures .now)
+    (c .before .before .before .before .before .before .before .before .args .start + 2) (pos 0)) ≡ c .between3 .result
 lower-told c = sym (rw (toZ-ofZ (sfits-of (c .before .between-arg3 .given))) at (c .between3 .ensures))
 
 add-between : tie.Need-add-between
@@ -69,7 +77,12 @@ returns-3 : tie.Need-returns-3
 returns-3 c =
     let e = c .before .before .before in
     let d = e .before .before .before in
-    rw (generation-told (d .before) ∙ not-false _ (d .if1 .left), raise-told (e .before) ∙ not-false _ (e .if2 .left), lower-told (c .before) ∙ not-true _ (c .if3 .taken))
+    rw (
+      generation-told (d .before) ∙ not-false _ (d .if1 .left),
+      raise-told (e .before) ∙ not-false _ (e .if2 .left),
+      lower-told (c .before)
+          ∙ not-true _ (c .if3 .taken),
+    )
 
 add-six-in-range : tie.Need-add-six-in-range
 add-six-in-range c = search needs
@@ -83,7 +96,12 @@ returns-4 c =
     let e = f .before .before .before in
     let d = e .before .before .before in
     let a = d .before .before .before .args in
-    rw (generation-told (d .before) ∙ not-false _ (d .if1 .left), raise-told (e .before) ∙ not-false _ (e .if2 .left), lower-told (f .before) ∙ not-false _ (f .if3 .left)) (c .six-in-range .ensures ∙ six-behind 3 (negℤ (pos residual-default-limit)) (a .start) (a .figures .now))
+    rw (
+      generation-told (d .before) ∙ not-false _ (d .if1 .left),
+      raise-told (e .before) ∙ not-false _ (e .if2 .left),
+      lower-told (f .before)
+          ∙ not-false _ (f .if3 .left),
+    ) (c .six-in-range .ensures ∙ six-behind 3 (negℤ (pos residual-default-limit)) (a .start) (a .figures .now))
 
 pub region-within-spec : {M : Type 1} → statement M
 region-within-spec =

@@ -41,8 +41,13 @@ pay-requires : tie.Need-pay-requires
 pay-requires c κs =
     let x = c .before .before .before .before .before .before in
     let m = last x in
-    let h = start m .pre in
-    (h .price, found-small (found m), rooms h .factors, rooms h .payments, members-ready h (m .residual-member .ensures) _ (omega (arith, rooms h .performances, same-room x)))
+    let h = start m .pre in (
+      h .price,
+      found-small (found m),
+      rooms h .factors,
+      rooms h .payments,
+      members-ready h (m .residual-member .ensures) _ (omega (arith, rooms h .performances, same-room x)),
+    )
 
 gathered-requires : tie.Need-gathered-requires
 gathered-requires c κs = search needs

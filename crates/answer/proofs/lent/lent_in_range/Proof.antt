@@ -29,7 +29,8 @@ unfolding series-fine figures-fine rows-fine
 returns-3 c =
     let f = c .before in
     let e = f .before .before in
-    rw (sym (e .before .series-in-range .ensures) ∙ not-false _ (e .if1 .left), sym (f .before .figures-in-range .ensures) ∙ not-false _ (f .if2 .left)) (c .rows-in-range .ensures)
+    rw (sym (e .before .series-in-range .ensures) ∙ not-false _ (e .if1 .left), sym (f .before .figures-in-range .ensures) ∙ not-false _ (f .if2 .left))
+    (c .rows-in-range .ensures)
 
 pub lent-in-range-spec : {M : Type 1} → statement M
 lent-in-range-spec =

@@ -57,7 +57,9 @@ returns c =
     let h = c .before .before .before .before in
     let s = h .before in
     let a = s .args in
-    let at : (f : ℕ → ℕ) → getD (a .defaults .now) (a .start + f (h .defaults-place .result)) (pos 0) ≡ getD (a .defaults .now) (a .start + f (defaults-at (a .direction))) (pos 0) = λ f. ap (λ (n : ℕ). getD (a .defaults .now) (a .start + f n) (pos 0)) (h .defaults-place .ensures) in
+    let at : (f : ℕ → ℕ) → getD (a .defaults .now) (a .start + f (h .defaults-place .result)) (pos 0) ≡ getD (a .defaults .now)
+    (a .start + f (defaults-at (a .direction))) (pos 0) = λ f. ap (λ (n : ℕ). getD (a .defaults .now) (a .start + f n) (pos 0))
+    (h .defaults-place .ensures) in
     c .member-of .ensures
     ∙ made-same
     refl

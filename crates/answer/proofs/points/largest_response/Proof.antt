@@ -11,7 +11,8 @@ use Rattle.answer.proofs.points.largest_response.Statement.{statement}
 use Rattle.answer.proofs.points.largest_response.Tie as tie
 
 abbrev Inv-loop : tie.InvT-loop
-Inv-loop direction set measures positive negative figures largest₀ t₀ largest t = (t ≤ 75) × (largest ≡ sums.largest t (point-response direction set measures positive negative figures))
+Inv-loop direction set measures positive negative figures largest₀ t₀ largest t =
+    (t ≤ 75) × (largest ≡ sums.largest t (point-response direction set measures positive negative figures))
 
 abbrev μ-loop : tie.MeasureT-loop
 μ-loop direction set measures positive negative figures largest₀ t₀ largest t = 75 - t

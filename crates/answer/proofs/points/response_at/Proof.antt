@@ -17,7 +17,10 @@ use Rattle.answer.proofs.points.response_at.Tie as tie
 abbrev S : tie.After-right-sign → tie.Start
 S c = c .before .before .before
 
-signed : (c : tie.After-right-sign) → ltZ (pos 0) (toward (S c .args .direction) (sum regions (weighed-part (S c .args .set) (S c .args .measures .now) (S c .args .figures .now) (S c .args .t)))) ≡ c .right-sign .result
+signed :
+    (c : tie.After-right-sign) → ltZ (pos 0)
+    (toward (S c .args .direction) (sum regions (weighed-part (S c .args .set) (S c .args .measures .now) (S c .args .figures .now) (S c .args .t)))) ≡
+    c .right-sign .result
 signed c =
     ap (λ (z : ℤ). ltZ (pos 0) (toward (S c .args .direction) z)) (sym (c .before .before .sums-at .ensures .weighed))
     ∙ sym (rw (toZ-ofZ (sfits-of (c .before .struct-told .given .0 .1))) at (c .right-sign .ensures))
@@ -48,7 +51,8 @@ returns-2 c =
     let sums = e .before .before .before .sums-at .ensures in
     let positive = rw (toZ-ofZ (sfits-of (a .before .struct-told2 .given .1 .0 .1))) at (a .above .ensures) in
     let negative = rw (toZ-ofZ (sfits-of (b .before .struct-told3 .given .1 .1 .0 .1))) at (b .below .ensures) in
-    rw (signed (e .before) ∙ not-false _ (e .if1 .left)) (c .larger .ensures ∙ ap₂ max (positive ∙ ap gain (sums .positive)) (negative ∙ ap loss (sums .negative)))
+    rw (signed (e .before) ∙ not-false _ (e .if1 .left))
+    (c .larger .ensures ∙ ap₂ max (positive ∙ ap gain (sums .positive)) (negative ∙ ap loss (sums .negative)))
 
 pub response-at-spec : {M : Type 1} → statement M
 response-at-spec =

@@ -17,7 +17,9 @@ use Rattle.answer.proofs.points.sums_at.Statement.{statement}
 use Rattle.answer.proofs.points.sums_at.Tie as tie
 
 abbrev Inv-loop : tie.InvT-loop
-Inv-loop set t measures positive negative figures weighed₀ risen₀ fallen₀ region₀ weighed risen fallen region = (region ≤ 5) × (toZ w64 weighed ≡ sum region (weighed-part set measures figures t)) × (toZ w64 risen ≡ sum region (sum-part set positive t)) × (toZ w64 fallen ≡ sum region (sum-part set negative t))
+Inv-loop set t measures positive negative figures weighed₀ risen₀ fallen₀ region₀ weighed risen fallen region =
+    (region ≤ 5) × (toZ w64 weighed ≡ sum region (weighed-part set measures figures t)) × (toZ w64 risen ≡ sum region (sum-part set positive t))
+    × (toZ w64 fallen ≡ sum region (sum-part set negative t))
 
 abbrev μ-loop : tie.MeasureT-loop
 μ-loop set t measures positive negative figures weighed₀ risen₀ fallen₀ region₀ weighed risen fallen region = 5 - region
@@ -46,21 +48,40 @@ narrow c = sfits-of (c .part-arg2 .given)
 measure-fits : (c : tie.After-part-arg2 Inv-loop μ-loop) → SFits w64 (measured (c .before .before))
 measure-fits c = sfits-widen {w′ = w64} tt (narrow c)
 
-weighing : (c : tie.After-part Inv-loop μ-loop) → Turn (weighed-part (S (c .before .before .before) .args .set) (S (c .before .before .before) .args .measures .now) (S (c .before .before .before) .args .figures .now) (S (c .before .before .before) .args .t)) (L (c .before .before .before) .loop .region) (toZ w64 (L (c .before .before .before) .loop .weighed)) (c .part .result)
+weighing :
+    (c : tie.After-part Inv-loop μ-loop) → Turn
+    (weighed-part (S (c .before .before .before) .args .set) (S (c .before .before .before) .args .measures .now)
+    (S (c .before .before .before) .args .figures .now) (S (c .before .before .before) .args .t)) (L (c .before .before .before) .loop .region)
+    (toZ w64 (L (c .before .before .before) .loop .weighed)) (c .part .result)
 weighing c =
     let d = c .before .before .before in
     let a = c .before in
-    weighed-turn (S d .pre .1) (S d .args .set) (S d .args .t) (S d .pre .0) _ _ _ (omega arith) (L d .loop .inv .1) (simp (toZ-ofZ, generated-fits a, narrow a, measure-fits a, whole-fits d) at (c .part .ensures) ∙ ap (λ (s : Bool). when s (generated d *ℤ measured d)) (d .covers .ensures))
+    weighed-turn (S d .pre .1) (S d .args .set) (S d .args .t) (S d .pre .0) _ _ _ (omega arith) (L d .loop .inv .1)
+    (simp (toZ-ofZ, generated-fits a, narrow a, measure-fits a, whole-fits d) at (c .part .ensures)
+    ∙ ap (λ (s : Bool). when s (generated d *ℤ measured d)) (d .covers .ensures))
 
-rising : (c : tie.After-part2 Inv-loop μ-loop) → Turn (sum-part (S (c .before .before .before .before .before) .args .set) (S (c .before .before .before .before .before) .args .positive .now) (S (c .before .before .before .before .before) .args .t)) (L (c .before .before .before .before .before) .loop .region) (toZ w64 (L (c .before .before .before .before .before) .loop .risen)) (c .part2 .result)
+rising :
+    (c : tie.After-part2 Inv-loop μ-loop) → Turn
+    (sum-part (S (c .before .before .before .before .before) .args .set) (S (c .before .before .before .before .before) .args .positive .now)
+    (S (c .before .before .before .before .before) .args .t)) (L (c .before .before .before .before .before) .loop .region)
+    (toZ w64 (L (c .before .before .before .before .before) .loop .risen)) (c .part2 .result)
 rising c =
     let d = c .before .before .before .before .before in
-    positive-turn (S d .pre .1) (S d .args .set) (S d .args .t) (S d .pre .0) _ _ _ (omega arith) (L d .loop .inv .2) (rw (toZ-ofZ (sfits-of (c .before .part-arg3 .given))) at (c .part2 .ensures) ∙ ap (λ (s : Bool). when s (there (S d .args .positive .now) (S d .args .t) (L d .loop .region))) (d .covers .ensures))
+    positive-turn (S d .pre .1) (S d .args .set) (S d .args .t) (S d .pre .0) _ _ _ (omega arith) (L d .loop .inv .2)
+    (rw (toZ-ofZ (sfits-of (c .before .part-arg3 .given))) at (c .part2 .ensures)
+    ∙ ap (λ (s : Bool). when s (there (S d .args .positive .now) (S d .args .t) (L d .loop .region))) (d .covers .ensures))
 
-falling : (c : tie.After-part3 Inv-loop μ-loop) → Turn (sum-part (S (c .before .before .before .before .before .before .before) .args .set) (S (c .before .before .before .before .before .before .before) .args .negative .now) (S (c .before .before .before .before .before .before .before) .args .t)) (L (c .before .before .before .before .before .before .before) .loop .region) (toZ w64 (L (c .before .before .before .before .before .before .before) .loop .fallen)) (c .part3 .result)
+falling :
+    (c : tie.After-part3 Inv-loop μ-loop) → Turn
+    (sum-part (S (c .before .before .before .before .before .before .before) .args .set)
+    (S (c .before .before .before .before .before .before .before) .args .negative .now)
+    (S (c .before .before .before .before .before .before .before) .args .t)) (L (c .before .before .before .before .before .before .before) .loop .region)
+    (toZ w64 (L (c .before .before .before .before .before .before .before) .loop .fallen)) (c .part3 .result)
 falling c =
     let d = c .before .before .before .before .before .before .before in
-    negative-turn (S d .pre .1) (S d .args .set) (S d .args .t) (S d .pre .0) _ _ _ (omega arith) (L d .loop .inv .3) (rw (toZ-ofZ (sfits-of (c .before .part-arg4 .given))) at (c .part3 .ensures) ∙ ap (λ (s : Bool). when s (there (S d .args .negative .now) (S d .args .t) (L d .loop .region))) (d .covers .ensures))
+    negative-turn (S d .pre .1) (S d .args .set) (S d .args .t) (S d .pre .0) _ _ _ (omega arith) (L d .loop .inv .3)
+    (rw (toZ-ofZ (sfits-of (c .before .part-arg4 .given))) at (c .part3 .ensures)
+    ∙ ap (λ (s : Bool). when s (there (S d .args .negative .now) (S d .args .t) (L d .loop .region))) (d .covers .ensures))
 
 loop-holds : tie.Need-loop-holds Inv-loop μ-loop
 loop-holds c = (omega arith, sym (sum-none _), sym (sum-none _), sym (sum-none _))
@@ -139,7 +160,8 @@ loop-again c =
     let w = weighing (c .before .before .before .before) in
     let r = rising (c .before .before) in
     let f = falling c in
-    rw (toZ-ofZ (w .part-fits), toZ-ofZ (w .sum-fits), toZ-ofZ (r .part-fits), toZ-ofZ (r .sum-fits), toZ-ofZ (f .part-fits), toZ-ofZ (f .sum-fits)) (omega arith, w .sum-is, r .sum-is, f .sum-is)
+    rw (toZ-ofZ (w .part-fits), toZ-ofZ (w .sum-fits), toZ-ofZ (r .part-fits), toZ-ofZ (r .sum-fits), toZ-ofZ (f .part-fits), toZ-ofZ (f .sum-fits))
+    (omega arith, w .sum-is, r .sum-is, f .sum-is)
 
 returns : tie.Need-returns Inv-loop μ-loop
 returns c =

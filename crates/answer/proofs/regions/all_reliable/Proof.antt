@@ -32,7 +32,9 @@ stands-requires c κs = omega arith
 
 returns : tie.Need-returns Inv-loop μ-loop
 unfolding all-stand
-returns c = sym (every-fails regions (tests (L (c .before))) (L (c .before) .loop .region) (omega arith) (sym (c .before .stands .ensures) ∙ not-true _ (c .if1 .taken)))
+returns c =
+    sym (every-fails regions (tests (L (c .before))) (L (c .before) .loop .region) (omega arith)
+    (sym (c .before .stands .ensures) ∙ not-true _ (c .if1 .taken)))
 
 add-region : tie.Need-add-region Inv-loop μ-loop
 add-region c = omega arith

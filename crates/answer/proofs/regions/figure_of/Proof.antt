@@ -31,7 +31,8 @@ shared-slice-copy-out-result c = omega (arith, place c)
 returns : tie.Need-returns
 returns c =
     let s = c .before .before in
-    rw (toZ-ofZ (sfits-of (c .result .given))) (ap (λ (n : ℕ). getD (s .args .figures .now) (9 * s .args .region + n) (pos 0)) (c .before .reliable-place .ensures))
+    rw (toZ-ofZ (sfits-of (c .result .given)))
+    (ap (λ (n : ℕ). getD (s .args .figures .now) (9 * s .args .region + n) (pos 0)) (c .before .reliable-place .ensures))
 
 pub figure-of-spec : {M : Type 1} → statement M
 figure-of-spec =

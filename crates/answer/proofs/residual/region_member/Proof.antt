@@ -17,7 +17,8 @@ use Rattle.answer.proofs.residual.region_member.Tie as tie
 summed : (c : tie.After-rows-toward) → Within 2_880_000_000_000_000_000 (c .rows-toward .result .sum)
 summed c =
     let s = c .before .before in
-    rw (c .rows-toward .ensures .performed) (held-within (column-fits (s .args .direction) (s .pre .2) (s .pre .3)) (s .args .region) (s .args .units) (omega arith))
+    rw (c .rows-toward .ensures .performed)
+    (held-within (column-fits (s .args .direction) (s .pre .2) (s .pre .3)) (s .args .region) (s .args .units) (omega arith))
 
 rows-toward-requires : tie.Need-rows-toward-requires
 rows-toward-requires c κs = search needs
@@ -52,7 +53,8 @@ returns c =
     c .member-at .ensures
     ∙ made-behind (a .direction) _ _ (9 * a .region) (a .figures .now)
     ∙ made-same
-    (s .standing-of .ensures ∙ ap₂ (λ (x y : Bool). standing x y NoGoodUnit) (s .before .before .reliable .ensures) (s .before .some-good-or-none .ensures ∙ ap₂ (λ (g n : ℕ). leb 1 g || eqb n 0) (holds .good) (holds .rows)))
+    (s .standing-of .ensures ∙ ap₂ (λ (x y : Bool). standing x y NoGoodUnit) (s .before .before .reliable .ensures)
+    (s .before .some-good-or-none .ensures ∙ ap₂ (λ (g n : ℕ). leb 1 g || eqb n 0) (holds .good) (holds .rows)))
     (turned-back (summed w) ∙ ap negℤ (holds .performed))
     refl
     refl

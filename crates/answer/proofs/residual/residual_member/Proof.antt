@@ -8,13 +8,15 @@ use Rattle.answer.proofs.residual.residual_member.Statement.{statement}
 use Rattle.answer.proofs.residual.residual_member.Tie as tie
 
 abbrev Inv-loop : tie.InvT-loop
-Inv-loop direction set units figures places raise lower sum₀ region₀ sum region = (region ≤ 5) × (sum ≡ residual-to direction set units figures places raise lower region)
+Inv-loop direction set units figures places raise lower sum₀ region₀ sum region =
+    (region ≤ 5) × (sum ≡ residual-to direction set units figures places raise lower region)
 
 abbrev μ-loop : tie.MeasureT-loop
 μ-loop direction set units figures places raise lower sum₀ region₀ sum region = 5 - region
 
 loop-holds : tie.Need-loop-holds Inv-loop μ-loop
-loop-holds c = let a = c .before .args in (omega arith, none-yet (a .direction) (a .set) (a .units) (a .figures .now) (a .places .now) (a .raise .now) (a .lower .now))
+loop-holds c =
+    let a = c .before .args in (omega arith, none-yet (a .direction) (a .set) (a .units) (a .figures .now) (a .places .now) (a .raise .now) (a .lower .now))
 
 with-region-requires : tie.Need-with-region-requires Inv-loop μ-loop
 with-region-requires c κs = let s = c .before .before .before in (omega arith, s .pre, c .before .loop .inv .1)

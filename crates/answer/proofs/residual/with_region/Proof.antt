@@ -9,11 +9,14 @@ use Rattle.answer.proofs.residual.with_region.Tie as tie
 abbrev S : tie.After-region-member → tie.Start
 S c = c .before .before .before .before
 
-met : (c : tie.After-region-member) → let s = S c in let a = s .args in Joins (a .direction) (a .set) (a .units) (a .figures .now) (a .places .now) (a .raise .now) (a .lower .now) (s .pre .1) (a .region) (a .sum) (c .region-member .result)
+met :
+    (c : tie.After-region-member) → let s = S c in let a = s .args in Joins (a .direction) (a .set) (a .units) (a .figures .now) (a .places .now)
+    (a .raise .now) (a .lower .now) (s .pre .1) (a .region) (a .sum) (c .region-member .result)
 met c =
     let s = S c in
     let a = s .args in
-    joins (a .direction) (a .set) (a .units) (a .figures .now) (a .places .now) (a .raise .now) (a .lower .now) (s .pre .1) (a .region) (s .pre .0) (sym (c .before .before .covers .ensures) ∙ not-false _ (c .before .if1 .left)) (s .pre .2) (c .region-member .ensures)
+    joins (a .direction) (a .set) (a .units) (a .figures .now) (a .places .now) (a .raise .now) (a .lower .now) (s .pre .1) (a .region) (s .pre .0)
+    (sym (c .before .before .covers .ensures) ∙ not-false _ (c .before .if1 .left)) (s .pre .2) (c .region-member .ensures)
 
 covers-requires : tie.Need-covers-requires
 covers-requires c κs = search needs
@@ -22,7 +25,8 @@ returns : tie.Need-returns
 returns c =
     let s = c .before .before .before in
     let a = s .args in
-    s .pre .2 ∙ sym (residual-stays (a .direction) (a .set) (a .units) (a .figures .now) (a .places .now) (a .raise .now) (a .lower .now) (a .region) (sym (c .before .covers .ensures) ∙ not-true _ (c .if1 .taken)))
+    s .pre .2 ∙ sym (residual-stays (a .direction) (a .set) (a .units) (a .figures .now) (a .places .now) (a .raise .now) (a .lower .now) (a .region)
+    (sym (c .before .covers .ensures) ∙ not-true _ (c .if1 .taken)))
 
 region-member-requires : tie.Need-region-member-requires
 region-member-requires c κs = search needs

@@ -67,7 +67,10 @@ returns-4 c =
     let e = f .before .before in
     let a = S (e .before) .args in
     record {
-      reply = rw (asked-well (e .before), lt-ltb _ _ (e .if2 .left), long f) (c .unit-or-other .ensures ∙ ap row-answer (row-told-is (kept-roster (a .units) (a .figures .now) (a .numbers .now) (a .places .now)) (asked (a .direction) (a .set)) (a .row)));
+      reply =
+          rw (asked-well (e .before), lt-ltb _ _ (e .if2 .left), long f)
+          (c .unit-or-other .ensures ∙ ap row-answer
+          (row-told-is (kept-roster (a .units) (a .figures .now) (a .numbers .now) (a .places .now)) (asked (a .direction) (a .set)) (a .row)));
     }
 
 pub member-spec : {M : Type 1} → statement M

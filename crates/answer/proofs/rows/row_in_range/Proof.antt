@@ -15,12 +15,17 @@ abbrev S : tie.After-between → tie.Start
 S c = c .before .before .before .before .before
 
 raised : (c : tie.After-between) → sized performance-limit (getD (S c .args .raise .now) (S c .args .row) (pos 0)) ≡ c .between .result
-raised c = sym (rw (toZ-ofZ (sfits-of (c .before .between-arg .given))) at (c .between .ensures) ∙ sized-between performance-limit (getD (S c .args .raise .now) (S c .args .row) (pos 0)))
+raised c =
+    sym (rw (toZ-ofZ (sfits-of (c .before .between-arg .given))) at (c .between .ensures)
+    ∙ sized-between performance-limit (getD (S c .args .raise .now) (S c .args .row) (pos 0)))
 
-lowered : (c : tie.After-between2) → sized performance-limit (getD (S (c .before .before .before) .args .lower .now) (S (c .before .before .before) .args .row) (pos 0)) ≡ c .between2 .result
+lowered :
+    (c : tie.After-between2) → sized performance-limit
+    (getD (S (c .before .before .before) .args .lower .now) (S (c .before .before .before) .args .row) (pos 0)) ≡ c .between2 .result
 lowered c =
     let s = S (c .before .before .before) in
-    sym (rw (toZ-ofZ (sfits-of (c .before .between-arg2 .given))) at (c .between2 .ensures) ∙ sized-between performance-limit (getD (s .args .lower .now) (s .args .row) (pos 0)))
+    sym (rw (toZ-ofZ (sfits-of (c .before .between-arg2 .given))) at (c .between2 .ensures)
+    ∙ sized-between performance-limit (getD (s .args .lower .now) (s .args .row) (pos 0)))
 
 shared-slice-read-if1 : tie.Need-shared-slice-read-if1
 shared-slice-read-if1 c = search needs

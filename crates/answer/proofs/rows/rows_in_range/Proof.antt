@@ -32,7 +32,8 @@ row-in-range-requires c κs = record { few = omega arith; places = omega arith; 
 
 returns : tie.Need-returns Inv-loop μ-loop
 unfolding rows-fine
-returns c = sym (every-fails _ (tests (c .before)) (L (c .before) .loop .row) (omega arith) (sym (c .before .row-in-range .ensures) ∙ not-true _ (c .if1 .taken)))
+returns c =
+    sym (every-fails _ (tests (c .before)) (L (c .before) .loop .row) (omega arith) (sym (c .before .row-in-range .ensures) ∙ not-true _ (c .if1 .taken)))
 
 add-row : tie.Need-add-row Inv-loop μ-loop
 add-row c = omega arith
@@ -41,7 +42,8 @@ loop-less : tie.Need-loop-less Inv-loop μ-loop
 loop-less c = omega arith
 
 loop-again : tie.Need-loop-again Inv-loop μ-loop
-loop-again c = (omega arith, every-step _ (tests (c .before)) (L (c .before) .loop .inv .1) (sym (c .before .row-in-range .ensures) ∙ not-false _ (c .if1 .left)))
+loop-again c =
+    (omega arith, every-step _ (tests (c .before)) (L (c .before) .loop .inv .1) (sym (c .before .row-in-range .ensures) ∙ not-false _ (c .if1 .left)))
 
 returns-2 : tie.Need-returns-2 Inv-loop μ-loop
 unfolding rows-fine

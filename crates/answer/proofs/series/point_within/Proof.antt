@@ -26,7 +26,8 @@ returns-3 : tie.Need-returns-3
 returns-3 c =
     let e = c .before in
     let d = e .before .before in
-    rw (sym (d .before .measures-within .ensures) ∙ not-false _ (d .if1 .left), sym (e .before .sums-within .ensures) ∙ not-false _ (e .if2 .left)) (c .sums-within2 .ensures)
+    rw (sym (d .before .measures-within .ensures) ∙ not-false _ (d .if1 .left), sym (e .before .sums-within .ensures) ∙ not-false _ (e .if2 .left))
+    (c .sums-within2 .ensures)
 
 pub point-within-spec : {M : Type 1} → statement M
 point-within-spec =

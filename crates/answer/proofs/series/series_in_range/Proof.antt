@@ -12,7 +12,8 @@ use Rattle.answer.proofs.series.series_in_range.Statement.{statement}
 use Rattle.answer.proofs.series.series_in_range.Tie as tie
 
 abbrev Inv-loop : tie.InvT-loop
-Inv-loop units measures positive negative most t₀ t = (t ≤ 75) × (every t (λ i. measures-here measures i && (sums-here most positive i && sums-here most negative i)) ≡ true)
+Inv-loop units measures positive negative most t₀ t =
+    (t ≤ 75) × (every t (λ i. measures-here measures i && (sums-here most positive i && sums-here most negative i)) ≡ true)
 
 abbrev μ-loop : tie.MeasureT-loop
 μ-loop units measures positive negative most t₀ t = 75 - t
@@ -23,7 +24,8 @@ L c = c .before .before
 abbrev tests : tie.At-loop Inv-loop μ-loop → ℕ → Bool
 tests l t =
     let a = l .before .args in
-    measures-here (a .measures .now) t && (sums-here (deviation-limit * a .units) (a .positive .now) t && sums-here (deviation-limit * a .units) (a .negative .now) t)
+    measures-here (a .measures .now) t &&
+    (sums-here (deviation-limit * a .units) (a .positive .now) t && sums-here (deviation-limit * a .units) (a .negative .now) t)
 
 mul-most : tie.Need-mul-most Inv-loop μ-loop
 mul-most c = omega arith
@@ -36,7 +38,9 @@ point-within-requires c κs = omega arith
 
 returns : tie.Need-returns Inv-loop μ-loop
 unfolding series-fine
-returns c = sym (every-fails points (tests (L (c .before))) (L (c .before) .loop .t) (omega arith) (sym (c .before .point-within .ensures) ∙ not-true _ (c .if1 .taken)))
+returns c =
+    sym (every-fails points (tests (L (c .before))) (L (c .before) .loop .t) (omega arith)
+    (sym (c .before .point-within .ensures) ∙ not-true _ (c .if1 .taken)))
 
 add-t : tie.Need-add-t Inv-loop μ-loop
 add-t c = omega arith
@@ -45,7 +49,8 @@ loop-less : tie.Need-loop-less Inv-loop μ-loop
 loop-less c = omega arith
 
 loop-again : tie.Need-loop-again Inv-loop μ-loop
-loop-again c = (omega arith, every-step _ (tests (L (c .before))) (L (c .before) .loop .inv .1) (sym (c .before .point-within .ensures) ∙ not-false _ (c .if1 .left)))
+loop-again c =
+    (omega arith, every-step _ (tests (L (c .before))) (L (c .before) .loop .inv .1) (sym (c .before .point-within .ensures) ∙ not-false _ (c .if1 .left)))
 
 returns-2 : tie.Need-returns-2 Inv-loop μ-loop
 unfolding series-fine

@@ -25,7 +25,9 @@ abbrev sizes : tie.At-loop Inv-loop μ-loop → ℕ → ℕ
 sizes l r = natAbs (there (l .before .args .sums .now) (l .before .args .t) r)
 
 more : (c : tie.After-size Inv-loop μ-loop) → sumℕ (L c .loop .region + 1) (sizes (L c)) ≡ sumℕ (L c .loop .region) (sizes (L c)) + c .size .result
-more c = sumℕ-step (L c .loop .region) (sizes (L c)) ∙ ap (λ (n : ℕ). sumℕ (L c .loop .region) (sizes (L c)) + n) (sym (rw (toZ-ofZ (sfits-of (c .before .size-arg .given))) at (c .size .ensures)))
+more c =
+    sumℕ-step (L c .loop .region) (sizes (L c)) ∙ ap (λ (n : ℕ). sumℕ (L c .loop .region) (sizes (L c)) + n)
+    (sym (rw (toZ-ofZ (sfits-of (c .before .size-arg .given))) at (c .size .ensures)))
 
 loop-holds : tie.Need-loop-holds Inv-loop μ-loop
 loop-holds c = (omega arith, omega (arith, sumℕ-none (λ r. natAbs (there (c .args .sums .now) (c .args .t) r))))
@@ -48,7 +50,8 @@ size-requires c κs = search needs
 returns : tie.Need-returns Inv-loop μ-loop
 returns c =
     let l = L (c .before) in
-    sym (lt-leb (sumℕ regions (sizes l)) (l .before .args .most) (omega (arith, more (c .before), l .loop .inv .1, sumℕ-prefix (l .loop .region + 1) regions (sizes l) (omega arith))))
+    sym (lt-leb (sumℕ regions (sizes l)) (l .before .args .most)
+    (omega (arith, more (c .before), l .loop .inv .1, sumℕ-prefix (l .loop .region + 1) regions (sizes l) (omega arith))))
 
 add-region : tie.Need-add-region Inv-loop μ-loop
 add-region c = omega arith

@@ -24,7 +24,8 @@ shared c = c .before .before .before .before .before
 small : (c : tie.After-pool) → c .pool .result ≤ total-limit
 small c =
     let s = start (listed (shared c)) in
-    rw (c .pool .ensures) (pool-cents-within (s .args .price) (s .args .rcr) (eqb (c .before .before .sides .given .0 .0) 0) (eqb (c .before .before .sides .given .0 .1 .0) 0) (s .pre .0) (s .pre .1))
+    rw (c .pool .ensures) (pool-cents-within (s .args .price) (s .args .rcr) (eqb (c .before .before .sides .given .0 .0) 0)
+    (eqb (c .before .before .sides .given .0 .1 .0) 0) (s .pre .0) (s .pre .1))
 
 put-members-requires : tie.Need-put-members-requires
 put-members-requires c κs = search needs
@@ -33,8 +34,11 @@ share-both-requires : tie.Need-share-both-requires
 share-both-requires c κs =
     let g = c .before .before .before in
     let s = start g in
-    let l = g .put-members .ensures in
-    (front (s .pre .4) l .0, front-fits (s .pre .4) l _ gain gain-≤ (omega arith) _ (s .pre .2), front-fits (s .pre .4) l _ loss loss-≤ (omega arith) _ (s .pre .2))
+    let l = g .put-members .ensures in (
+      front (s .pre .4) l .0,
+      front-fits (s .pre .4) l _ gain gain-≤ (omega arith) _ (s .pre .2),
+      front-fits (s .pre .4) l _ loss loss-≤ (omega arith) _ (s .pre .2),
+    )
 
 enum-known-sides : tie.Need-enum-known-sides
 enum-known-sides c = search needs
@@ -47,8 +51,12 @@ pay-pool-requires c κs =
     let p = c .before .before in
     let g = listed (shared p) in
     let s = start g in
-    let l = g .put-members .ensures in
-    (members-513 (s .pre .4) l, front (s .pre .4) l .0, front-fits (s .pre .4) l (p .pool .result) gain gain-≤ (small p) _ (s .pre .3), front-fits (s .pre .4) l (p .pool .result) loss loss-≤ (small p) _ (s .pre .3))
+    let l = g .put-members .ensures in (
+      members-513 (s .pre .4) l,
+      front (s .pre .4) l .0,
+      front-fits (s .pre .4) l (p .pool .result) gain gain-≤ (small p) _ (s .pre .3),
+      front-fits (s .pre .4) l (p .pool .result) loss loss-≤ (small p) _ (s .pre .3),
+    )
 
 enum-known-sides-2 : tie.Need-enum-known-sides-2
 enum-known-sides-2 c = search needs
@@ -68,7 +76,8 @@ returns c =
     let p = b .before .before .before in
     let h = shared p in
     let g = listed h in
-    members-paid (start g .pre .4) (g .put-members .ensures) (h .share-both .ensures) (p .before .before .sides .given .1) (p .pool .ensures) (b .pay-pool .ensures)
+    members-paid (start g .pre .4) (g .put-members .ensures) (h .share-both .ensures) (p .before .before .sides .given .1) (p .pool .ensures)
+    (b .pay-pool .ensures)
 
 same-length-4 : tie.Need-same-length-4
 same-length-4 c = search needs

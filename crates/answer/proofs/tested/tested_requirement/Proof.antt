@@ -16,10 +16,15 @@ start c = c .before .before .before .before
 in-turn : (c : tie.Else1) → (in-range (start c .args .tally) && answer-turn (start c .args .tally)) ≡ true
 in-turn c = sym (c .before .answer-turn .ensures) ∙ not-false _ (c .if1 .left)
 
-long : (c : tie.Else2) → let a = start (c .before .before) .args in lists-long (a .tally .units) (length (a .measures .now)) (length (a .positive .now)) (length (a .negative .now)) (length (a .figures .now)) (length (a .places .now)) (length (a .raise .now)) (length (a .lower .now)) (length (a .defaults .now)) ≡ true
+long :
+    (c : tie.Else2) → let a = start (c .before .before) .args in lists-long (a .tally .units) (length (a .measures .now)) (length (a .positive .now))
+    (length (a .negative .now)) (length (a .figures .now)) (length (a .places .now)) (length (a .raise .now)) (length (a .lower .now))
+    (length (a .defaults .now)) ≡ true
 long c = sym (c .before .lists-long .ensures) ∙ not-false _ (c .if2 .left)
 
-wide : (c : tie.Else3) → let a = start (c .before .before .before .before) .args in columns-long (a .tally .units) (a .performances) (a .factors) (a .payments) (a .used) (a .unused) ≡ true
+wide :
+    (c : tie.Else3) → let a = start (c .before .before .before .before) .args in columns-long (a .tally .units) (a .performances) (a .factors) (a .payments)
+    (a .used) (a .unused) ≡ true
 wide c = sym (c .before .columns-long .ensures) ∙ not-false _ (c .if3 .left)
 
 answer-turn-requires : tie.Need-answer-turn-requires

@@ -20,11 +20,20 @@ L c = c .before .before
 abbrev S : tie.After-shared-slice-known2 Inv-loop μ-loop → tie.Start Inv-loop μ-loop
 S c = L c .before .before
 
-more : (c : tie.After-counted Inv-loop μ-loop) → L (c .before .before) .loop .all + c .counted .result ≡ units-there (L (c .before .before) .loop .row + 1) (S (c .before .before) .args .set) (S (c .before .before) .args .places .now)
-more c = rw (sumℕ-step, ← L (c .before .before) .loop .inv .1, ← c .before .in-set .ensures) (ap (λ (n : ℕ). L (c .before .before) .loop .all + n) (c .counted .ensures))
+more :
+    (c : tie.After-counted Inv-loop μ-loop) → L (c .before .before) .loop .all + c .counted .result ≡ units-there (L (c .before .before) .loop .row + 1)
+    (S (c .before .before) .args .set) (S (c .before .before) .args .places .now)
+more c =
+    rw (sumℕ-step, ← L (c .before .before) .loop .inv .1, ← c .before .in-set .ensures)
+    (ap (λ (n : ℕ). L (c .before .before) .loop .all + n) (c .counted .ensures))
 
-more-bad : (c : tie.After-counted2 Inv-loop μ-loop) → L (c .before .before .before .before) .loop .bad + c .counted2 .result ≡ bad-there (L (c .before .before .before .before) .loop .row + 1) (S (c .before .before .before .before) .args .set) (S (c .before .before .before .before) .args .places .now)
-more-bad c = rw (sumℕ-step, ← L (c .before .before .before .before) .loop .inv .2, ← c .before .bad-in-set .ensures) (ap (λ (n : ℕ). L (c .before .before .before .before) .loop .bad + n) (c .counted2 .ensures))
+more-bad :
+    (c : tie.After-counted2 Inv-loop μ-loop) → L (c .before .before .before .before) .loop .bad + c .counted2 .result ≡ bad-there
+    (L (c .before .before .before .before) .loop .row + 1) (S (c .before .before .before .before) .args .set)
+    (S (c .before .before .before .before) .args .places .now)
+more-bad c =
+    rw (sumℕ-step, ← L (c .before .before .before .before) .loop .inv .2, ← c .before .bad-in-set .ensures)
+    (ap (λ (n : ℕ). L (c .before .before .before .before) .loop .bad + n) (c .counted2 .ensures))
 
 loop-holds : tie.Need-loop-holds Inv-loop μ-loop
 loop-holds c = (omega arith, sym (sumℕ-none _), sym (sumℕ-none _))
@@ -39,7 +48,13 @@ counted-requires : tie.Need-counted-requires Inv-loop μ-loop
 counted-requires c κs = search needs
 
 add-all : tie.Need-add-all Inv-loop μ-loop
-add-all c = omega (arith, more c, count-≤ (L (c .before .before) .loop .row + 1) (unit-there (S (c .before .before) .args .set) (S (c .before .before) .args .places .now)))
+add-all c =
+    omega (
+      arith,
+      more c,
+      count-≤ (L (c .before .before) .loop .row + 1)
+          (unit-there (S (c .before .before) .args .set) (S (c .before .before) .args .places .now)),
+    )
 
 bad-in-set-requires : tie.Need-bad-in-set-requires Inv-loop μ-loop
 bad-in-set-requires c κs = S (c .before .before) .pre .2 .here (L (c .before .before) .loop .row) (omega arith)
@@ -48,7 +63,13 @@ counted-requires-2 : tie.Need-counted-requires-2 Inv-loop μ-loop
 counted-requires-2 c κs = search needs
 
 add-bad : tie.Need-add-bad Inv-loop μ-loop
-add-bad c = omega (arith, more-bad c, count-≤ (L (c .before .before .before .before) .loop .row + 1) (bad-unit-there (S (c .before .before .before .before) .args .set) (S (c .before .before .before .before) .args .places .now)))
+add-bad c =
+    omega (
+      arith,
+      more-bad c,
+      count-≤ (L (c .before .before .before .before) .loop .row + 1)
+          (bad-unit-there (S (c .before .before .before .before) .args .set) (S (c .before .before .before .before) .args .places .now)),
+    )
 
 add-row : tie.Need-add-row Inv-loop μ-loop
 add-row c = omega arith

@@ -47,7 +47,8 @@ returns c =
     let s = start w in
     let a = s .args in
     let k = kept-rows (a .units) (a .figures .now) (a .places .now) (a .raise .now) (a .lower .now) (a .defaults .now) in
-    let m = with-residual (a .field) k (asked (a .direction) (a .set)) (a .column .now) (w .put-rows .ensures) (toZ-ofZ (sfits-of (c .value .ok)) ∙ c .value .ensures ∙ ap (λ (x : Member). picked (a .field) x) (s .pre .last)) in
+    let m = with-residual (a .field) k (asked (a .direction) (a .set)) (a .column .now) (w .put-rows .ensures)
+    (toZ-ofZ (sfits-of (c .value .ok)) ∙ c .value .ensures ∙ ap (λ (x : Member). picked (a .field) x) (s .pre .last)) in
     record { many = m .0; column = m .1 }
 
 pub put-members-spec : {M : Type 1} → statement M

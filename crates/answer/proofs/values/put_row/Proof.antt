@@ -5,8 +5,6 @@ use borrow.Author.Tests.{not-true, not-false}
 use lib.IntN.{ℤ}
 use lib.ListN.{set}
 use mir.Facts.{toZ-ofZ}
-use Rattle.answer.specs.declared.Member.{Member}
-use Rattle.answer.specs.Made.{picked}
 use Rattle.answer.proofs.values.put_row.Statement.{statement}
 use Rattle.answer.proofs.values.put_row.Tie as tie
 
@@ -19,14 +17,11 @@ in-set-requires c κs = search needs
 returns : tie.Need-returns
 returns c = let e = sym (c .before .in-set .ensures) ∙ not-true _ (c .if1 .taken) in record { many = rw e; put = rw e }
 
-row-member-requires : tie.Need-row-member-requires
-row-member-requires c κs = search needs
+row-value-requires : tie.Need-row-value-requires
+row-value-requires c κs = search needs
 
-value-requires : tie.Need-value-requires
-value-requires c κs = search needs
-
-mul-t18 : tie.Need-mul-t18
-mul-t18 c = search needs
+mul-t17 : tie.Need-mul-t17
+mul-t17 c = search needs
 
 slice-set-from-column : tie.Need-slice-set-from-column
 slice-set-from-column c = search needs
@@ -39,12 +34,11 @@ same-length c = search needs
 
 returns-2 : tie.Need-returns-2
 returns-2 c =
-    let m = c .before in
-    let s = m .before .before .before .before .before in
-    let e = sym (m .before .before .in-set .ensures) ∙ not-false _ (m .before .if1 .left) in
+    let s = c .before .before .before .before .before in
+    let e = sym (c .before .before .in-set .ensures) ∙ not-false _ (c .before .if1 .left) in
     record {
       many = rw e;
-      put = rw e (ap (λ (z : ℤ). set (s .args .column .now) (s .args .at) z) (toZ-ofZ (sfits-of (c .value .ok)) ∙ c .value .ensures ∙ ap (λ (x : Member). picked (s .args .field) x) (m .row-member .ensures)));
+      put = rw e (ap (λ (z : ℤ). set (s .args .column .now) (s .args .at) z) (toZ-ofZ (sfits-of (c .row-value .ok)) ∙ c .row-value .ensures));
     }
 
 pub put-row-spec : {M : Type 1} → statement M
@@ -54,9 +48,8 @@ put-row-spec =
     shared-slice-read-in-set
     in-set-requires
     returns
-    row-member-requires
-    value-requires
-    mul-t18
+    row-value-requires
+    mul-t17
     slice-set-from-column
     add-result
     same-length

@@ -20,7 +20,12 @@ same-room : (l : tie.At-loop Inv-loop μ-loop) → length (l .loop .column) ≡ 
 same-room l = ap length (l .loop .inv .1 .put) ∙ headed-length _ _
 
 loop-holds : tie.Need-loop-holds Inv-loop μ-loop
-loop-holds c = let a = c .before .args in (omega arith, rows-none (a .field) (a .direction) (a .set) (a .figures .now) (a .places .now) (a .raise .now) (a .lower .now) (a .defaults .now) (a .column .now))
+loop-holds c =
+    let a = c .before .args in (
+      omega arith,
+      rows-none (a .field) (a .direction) (a .set) (a .figures .now) (a .places .now) (a .raise .now) (a .lower .now)
+          (a .defaults .now) (a .column .now),
+    )
 
 put-row-requires : tie.Need-put-row-requires Inv-loop μ-loop
 put-row-requires c κs =
@@ -36,8 +41,11 @@ loop-less c = omega arith
 loop-again : tie.Need-loop-again Inv-loop μ-loop
 loop-again c =
     let l = c .before .before .before .before in
-    let a = l .before .before .args in
-    (omega arith, rows-more (a .field) (a .direction) (a .set) (a .figures .now) (a .places .now) (a .raise .now) (a .lower .now) (a .defaults .now) (a .column .now) (l .loop .inv .1) (c .before .put-row .ensures))
+    let a = l .before .before .args in (
+      omega arith,
+      rows-more (a .field) (a .direction) (a .set) (a .figures .now) (a .places .now) (a .raise .now) (a .lower .now) (a .defaults .now)
+          (a .column .now) (l .loop .inv .1) (c .before .put-row .ensures),
+    )
 
 same-length : tie.Need-same-length Inv-loop μ-loop
 same-length c = same-room (c .before)
