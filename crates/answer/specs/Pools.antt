@@ -19,11 +19,11 @@ use Rattle.rules.specs.Refusals.{Reply, taken, refused}
 use Rattle.rules.specs.Book.{Requirement}
 use Rattle.rules.specs.Members.{Member}
 use Rattle.rules.specs.Share.{weight-at, weight-sum, left-over, with-weight, unplaced, unplaced-of, share-reply}
-use Rattle.rules.specs.ShareLaws.{not-zero}
+use Rattle.laws.proofs.ShareLaws.{not-zero}
 use Rattle.rules.specs.Factors.{helpful, unhelpful}
-use Rattle.rules.specs.LimitsLaws.{passed, took}
+use Rattle.laws.proofs.LimitsLaws.{passed, took}
 use Rattle.rules.specs.Cents.{priced, any-weight, pool-of, used-pool-of}
-use Rattle.rules.specs.CentsLaws.{priced-within, used-pool-≤}
+use Rattle.laws.proofs.CentsLaws.{priced-within, used-pool-≤}
 use Rattle.share.specs.declared.SharedSigns.the-variants.{Placed}
 use Rattle.share.specs.Signs.{answered-signs, SignsOut}
 

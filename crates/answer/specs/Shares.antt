@@ -18,7 +18,7 @@ use Rattle.rules.specs.Quantities.{most-units, total-limit, weight-limit, billi
 use Rattle.rules.specs.Cents.{any-weight}
 use Rattle.rules.specs.Refusals.{Reply, taken}
 use Rattle.rules.specs.Share.{weight-sum, weight-at, share-of, unplaced-of, share-reply}
-use Rattle.rules.specs.ShareLaws.{never-left-overs}
+use Rattle.laws.proofs.ShareLaws.{never-left-overs}
 use Rattle.rules.specs.RequirementRecord.{set-fine}
 use Rattle.kept.specs.Kept.{Kept, residual-row, kept-members}
 use Rattle.kept.specs.Range.{figures-fine, rows-fine}

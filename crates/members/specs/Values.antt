@@ -22,7 +22,7 @@ use Rattle.rules.specs.Bytes.{bit}
 use Rattle.rules.specs.Book.{Requirement}
 use Rattle.rules.specs.RequirementRecord.{set-fine}
 use Rattle.rules.specs.Fields.{sized, default-fine}
-use Rattle.rules.specs.LimitsLaws.{size-fits}
+use Rattle.laws.proofs.LimitsLaws.{size-fits}
 use Rattle.rules.specs.Members.{Member as Sharer}
 use Rattle.interval.specs.Lent.{figures-each, figures-length}
 use Rattle.kept.specs.Kept.{Kept, figure, row-member, residual-row, rows, kept-members}

@@ -5,7 +5,7 @@ use mathlib.Core.List.{List, [], _∷_}
 use Prim.Native.Nat.{ℕ}
 use Rattle.rules.specs.Refusals.{number, Reply, taken, refused}
 use Rattle.rules.specs.Share.{share-reply}
-use Rattle.rules.specs.Computing.{computing}
+use Rattle.books.specs.Computing.{computing}
 
 abbrev number-of : Reply ℕ → ℕ
 number-of (taken unplaced) = 0

@@ -3,8 +3,8 @@ use mathlib.Core.Path.{_≡_, refl}
 use mathlib.Core.List.{List, [], _∷_, _++_}
 use Prim.Native.Nat.{ℕ, _+_, _*_}
 use lib.ListN.{take}
-use Rattle.rules.specs.Writing.{entry-bytes}
-use Rattle.rules.specs.Computing.{computing}
+use Rattle.books.specs.Writing.{entry-bytes}
+use Rattle.books.specs.Computing.{computing}
 use Rattle.refused.specs.Changed.{refusal, base, with, all-changed, Alone, Together}
 
 pub unchanged : Together 0 56 1 []

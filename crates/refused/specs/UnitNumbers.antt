@@ -1,7 +1,7 @@
 -- Units one after the other (01, The book), at 1904 and 2276: a record that is cut short, and numbers that do not rise.
 use mathlib.Core.Path.{_≡_, refl}
 use mathlib.Core.List.{[], _∷_}
-use Rattle.rules.specs.Computing.{computing}
+use Rattle.books.specs.Computing.{computing}
 use Rattle.refused.specs.Changed.{with, Alone}
 
 -- a record cut short is refused with 1, whatever its bytes

@@ -8,9 +8,9 @@ use Rattle.rules.specs.Quantities.{deviation-limit, performance-limit}
 use Rattle.rules.specs.Book.{Unit}
 use Rattle.rules.specs.Deviation.{deviation}
 use Rattle.rules.specs.Performance.{performance}
-use Rattle.rules.specs.Writing.{flat}
-use Rattle.rules.specs.PaperBook.{zeros}
-use Rattle.rules.specs.Computing.{computing}
+use Rattle.books.specs.Writing.{flat}
+use Rattle.books.specs.PaperBook.{zeros}
+use Rattle.books.specs.Computing.{computing}
 
 -- a flat trajectory at the lowest power, and the highest readings
 abbrev largest : Unit

@@ -23,7 +23,7 @@ use Rattle.rules.specs.Refusals.{taken}
 use Rattle.rules.specs.Book.{toward, Requirement}
 use Rattle.rules.specs.Fields.{sized}
 use Rattle.rules.specs.RequirementRecord.{set-fine}
-use Rattle.rules.specs.LimitsLaws.{size-fits}
+use Rattle.laws.proofs.LimitsLaws.{size-fits}
 use Rattle.interval.specs.Lent.{figures-each}
 use Rattle.kept.specs.Kept.{Kept, kept-rcr, kept-reliable, kept-few-bad}
 use Rattle.kept.specs.Range.{series-fine, figures-fine, rows-fine, kept-fine}

@@ -6,10 +6,10 @@ use Prim.Native.Nat.{ℕ, _-_, _%_, _^_}
 use lib.ListN.{length}
 use Rattle.rules.specs.Bytes.{little}
 use Rattle.rules.specs.Book.{Book}
-use Rattle.rules.specs.Writing.{book-bytes}
-use Rattle.rules.specs.PaperBook.{paper-book}
-use Rattle.rules.specs.Computing.{computing}
-use Rattle.rules.specs.WorkedBooks.{
+use Rattle.books.specs.Writing.{book-bytes}
+use Rattle.books.specs.PaperBook.{paper-book}
+use Rattle.books.specs.Computing.{computing}
+use Rattle.books.specs.WorkedBooks.{
   lower-two-regions,
   default-reasons,
   bad-frequency-points,

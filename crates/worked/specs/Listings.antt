@@ -4,9 +4,9 @@ use mathlib.Core.Path.{_≡_, refl}
 use mathlib.Core.List.{_++_}
 use Rattle.rules.specs.Text.{text}
 use Rattle.rules.specs.Listing.{settle}
-use Rattle.rules.specs.Writing.{book-bytes, settled}
-use Rattle.rules.specs.Computing.{computing}
-use Rattle.rules.specs.WorkedBooks.{lower-two-regions, default-reasons, bad-frequency-points, sign-turned, unplaced, ramp, ties, no-units, one-side}
+use Rattle.books.specs.Writing.{book-bytes, settled}
+use Rattle.books.specs.Computing.{computing}
+use Rattle.books.specs.WorkedBooks.{lower-two-regions, default-reasons, bad-frequency-points, sign-turned, unplaced, ramp, ties, no-units, one-side}
 
 pub lower-two-regions-listing : settle (book-bytes lower-two-regions)
     ≡ text "interval 101\n"

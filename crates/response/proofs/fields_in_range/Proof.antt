@@ -1,6 +1,6 @@
 -- Each branch settles one field; the set by shift and mask.
 use borrow.Author.Tests.{le-leb, lt-leb}
-use Rattle.rules.specs.RecordLaws.{set-high, set-low}
+use Rattle.laws.proofs.RecordLaws.{set-high, set-low}
 use Rattle.response.proofs.fields_in_range.Statement.{statement}
 use Rattle.response.proofs.fields_in_range.Tie as tie
 

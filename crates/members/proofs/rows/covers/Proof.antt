@@ -1,5 +1,5 @@
 -- The set shifted by the region and masked by 1 is the bit of the definition.
-use Rattle.rules.specs.RecordLaws.{bit-masked}
+use Rattle.laws.proofs.RecordLaws.{bit-masked}
 use borrow.Author.Needs.{needs}
 use Rattle.members.proofs.rows.covers.Statement.{statement}
 use Rattle.members.proofs.rows.covers.Tie as tie

@@ -12,23 +12,23 @@ use Rattle.integers.specs.Pairs.{gain, loss}
 use Rattle.integers.specs.Bounds.{Within, abs-add, abs-neg, gain-≤, loss-≤}
 use Rattle.integers.specs.Sums.{one, sum, sumℕ, count, when, count-one, sum-size, sumℕ-plus, sumℕ-times}
 use Rattle.integers.specs.Totals.{total, totalℕ, those, All, total-those, totalℕ-map, totalℕ-++, totalℕ-≤, totalℕ-those-≤}
 use Rattle.rules.specs.declared.Direction.{Direction}
 use Rattle.rules.specs.declared.Standing.{Standing}
 use Rattle.rules.specs.declared.Standing.the-variants.{Live, Default}
 use Rattle.rules.specs.Quantities.{points, regions, measure-limit, performance-limit, residual-default-limit, unit-default-limit, weight-limit}
 use Rattle.rules.specs.Book.{by, Defaults, Unit, Requirement, covers, Book, regionOf}
 use Rattle.rules.specs.Fields.{good-at}
 use Rattle.rules.specs.Measure.{measure-in}
-use Rattle.rules.specs.MeasureLaws.{measure-within}
+use Rattle.laws.proofs.MeasureLaws.{measure-within}
 use Rattle.rules.specs.Deviation.{deviation, good, units-in}
-use Rattle.rules.specs.DeviationLaws.{deviation-within}
+use Rattle.laws.proofs.DeviationLaws.{deviation-within}
 use Rattle.rules.specs.Performance.{performance, units-of, unit-performance, residual-performance}
-use Rattle.rules.specs.PerformanceLaws.{performance-within, residual-is}
+use Rattle.laws.proofs.PerformanceLaws.{performance-within, residual-is}
 use Rattle.rules.specs.Standings.{unit-standing, residual-standing, live-or}
 use Rattle.rules.specs.Members.{Member, unit-member, residual-or, residual-member, unit-members, members, over-regions}
 use Rattle.rules.specs.Factors.{helpful, unhelpful}
 use Rattle.rules.specs.Cents.{used-weights, unused-weights}
-use Rattle.rules.specs.Limits.{DefaultsFit, UnitFits, BookFits}
+use Rattle.laws.proofs.Limits.{DefaultsFit, UnitFits, BookFits}
 
 -- ---- sizes
 -- the total of what some of those pass that count is at most k for each that counts

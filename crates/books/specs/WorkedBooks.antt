@@ -7,14 +7,14 @@ use mathlib.Core.List.{List, [], _∷_}
 use Prim.Native.Nat.{ℕ, _+_, _*_, _-_}
 use lib.Dec.{eqb, leb}
 use lib.IntN.{ℤ, pos, negℤ, _-ℤ_}
 use Rattle.rules.specs.declared.Direction.{Direction}
 use Rattle.rules.specs.declared.Direction.the-variants.{Raise, Lower}
 use Rattle.rules.specs.declared.Kind.{Kind}
 use Rattle.rules.specs.declared.Kind.the-variants.{Generation, Load}
 use Rattle.rules.specs.Bytes.{listed}
 use Rattle.rules.specs.Book.{ByDirection, Settings, Defaults, Region, Unit, Requirement, Book}
-use Rattle.rules.specs.Writing.{flat}
-use Rattle.rules.specs.PaperBook.{zeros}
+use Rattle.books.specs.Writing.{flat}
+use Rattle.books.specs.PaperBook.{zeros}
 
 -- ---- what the books are made of: `t` is the paper's, 1 to 75
 abbrev series : {A : Type 0} → (ℕ → A) → List A

@@ -6,20 +6,20 @@ use Prim.Native.Nat.{ℕ, suc, _-_}
 use lib.Dec.{eqb, leb}
 use lib.IntN.{ℤ, pos, negsuc, negℤ}
 use lib.ListN.{length}
 use Rattle.rules.specs.declared.Direction.the-variants.{Raise}
 use Rattle.rules.specs.declared.Kind.{Kind}
 use Rattle.rules.specs.declared.Kind.the-variants.{Generation, Load}
 use Rattle.rules.specs.Bytes.{listed}
 use Rattle.rules.specs.Book.{Settings, Region, Unit, Book}
 use Rattle.rules.specs.Measure.{smoothed}
 use Rattle.rules.specs.Reliability.{reliable}
 use Rattle.rules.specs.Deviation.{deviation}
 use Rattle.rules.specs.Share.{share-of, unplaced-of}
 use Rattle.rules.specs.Rcr.{rcr}
 use Rattle.rules.specs.Cents.{priced}
-use Rattle.rules.specs.Writing.{flat}
-use Rattle.rules.specs.PaperBook.{zeros, requirement, paper-book}
-use Rattle.rules.specs.Computing.{computing}
+use Rattle.books.specs.Writing.{flat}
+use Rattle.books.specs.PaperBook.{zeros, requirement, paper-book}
+use Rattle.books.specs.Computing.{computing}
 
 -- the smoothing is 10,000, so that FM is the number given at each point
 abbrev settings : Settings

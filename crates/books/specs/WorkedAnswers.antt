@@ -6,17 +6,17 @@ use mathlib.Core.Bool.{true, false}
 use mathlib.Core.List.{List, [], _∷_, map}
 use Prim.Native.Nat.{ℕ}
 use lib.ListN.{getD}
 use Rattle.rules.specs.declared.Standing.{Standing}
 use Rattle.rules.specs.declared.Standing.the-variants.{Live, Default}
 use Rattle.rules.specs.declared.Reason.the-variants.{UnreliableRegion, BadUnit, NoGoodUnit}
 use Rattle.rules.specs.Book.{Requirement, Book}
 use Rattle.rules.specs.Fields.{spare-bits-zero}
 use Rattle.rules.specs.Members.{members}
 use Rattle.rules.specs.Rcr.{rcr}
 use Rattle.rules.specs.Cents.{pool-of}
-use Rattle.rules.specs.PaperBook.{requirement}
-use Rattle.rules.specs.Computing.{computing}
-use Rattle.rules.specs.WorkedBooks.{lower-two-regions, default-reasons, weights-decide, no-units, one-side}
+use Rattle.books.specs.PaperBook.{requirement}
+use Rattle.books.specs.Computing.{computing}
+use Rattle.books.specs.WorkedBooks.{lower-two-regions, default-reasons, weights-decide, no-units, one-side}
 
 -- a requirement by its place in the book, from 0
 abbrev at : Book → ℕ → Requirement

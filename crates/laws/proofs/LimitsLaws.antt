@@ -14,22 +14,22 @@ use Rattle.integers.specs.Bounds.{Within, within-both, within-wider}
 use Rattle.integers.specs.Tests.{leZ-true}
 use Rattle.integers.specs.Sums.{both, every, every-at, none-below}
 use Rattle.integers.specs.Totals.{All}
 use Rattle.rules.specs.declared.Direction.{Direction}
 use Rattle.rules.specs.declared.Direction.the-variants.{Raise, Lower}
 use Rattle.rules.specs.declared.Refusal.{Refusal}
 use Rattle.rules.specs.declared.Refusal.the-variants.{EndsEarly, WrongMark, WrongTable, WrongCount, BytesFollow, SettingsField, FrequencyField, UnitField, UnitNotRising, RequirementField}
 use Rattle.rules.specs.Bytes.{number-at}
 use Rattle.rules.specs.Quantities.{points, regions, most-units, most-requirements, price-limit, cost-limit, amount-limit, nominal, lowest-frequency, highest-frequency, measure-limit, power-limit, unit-default-limit, residual-default-limit}
 use Rattle.rules.specs.Refusals.{Reply, taken, refused, unless, _>>=_}
 use Rattle.rules.specs.Book.{by, ByDirection, Settings, Defaults, Region, Unit, Requirement, Book, regionOf, no-region}
 use Rattle.rules.specs.Contents.{Counts, contents, contents-size, mark, entry, items, settings-size, frequency-start, frequency-size, unit-start, unit-size, requirement-start, requirement-size}
 use Rattle.rules.specs.SettingsRecord.{settings, settings-in, settings-fine}
 use Rattle.rules.specs.Fields.{good-at, spare-bits-zero, default-fine, three-fine, defaults-fine, sized}
 use Rattle.rules.specs.FrequencyRecord.{region-in, frequency-fine, frequencies-fine, frequency-record}
 use Rattle.rules.specs.UnitRecord.{unit-in, reading-fine, readings-fine, unit-record}
 use Rattle.rules.specs.RequirementRecord.{requirement-in, set-fine, requirement-fine, requirement-record}
 use Rattle.rules.specs.WholeBook.{frequency-body, unit-body, requirement-body, book}
-use Rattle.rules.specs.Limits.{SettingsFit, DefaultFits, DefaultsFit, RegionFits, UnitFits, RequirementFits, BookFits}
+use Rattle.laws.proofs.Limits.{SettingsFit, DefaultFits, DefaultsFit, RegionFits, UnitFits, RequirementFits, BookFits}
 
 -- ---- what a reply that was taken went through
 never : {A B : Type 0} {r : Refusal} {a : A} → refused r ≡ taken a → B

@@ -11,15 +11,15 @@ use Rattle.integers.specs.Pairs.{gain, loss}
 use Rattle.integers.specs.Bounds.{Within, gain-≤, loss-≤, abs-neg}
 use Rattle.integers.specs.Sums.{largest, largest-≤}
 use Rattle.integers.specs.Totals.{total, totalℕ, those, All, total-negation, total-larger, totalℕ-those-≤, those-length, all-those}
 use Rattle.rules.specs.declared.Direction.{Direction}
 use Rattle.rules.specs.declared.Direction.the-variants.{Raise, Lower}
 use Rattle.rules.specs.Quantities.{points, deviation-limit}
 use Rattle.rules.specs.Book.{toward, Unit, Requirement, covers, Book}
 use Rattle.rules.specs.Deviation.{deviation, good, good-units, units-in, residual-deviation}
-use Rattle.rules.specs.DeviationLaws.{deviation-within}
-use Rattle.rules.specs.Limits.{UnitFits, BookFits}
+use Rattle.laws.proofs.DeviationLaws.{deviation-within}
+use Rattle.laws.proofs.Limits.{UnitFits, BookFits}
 use Rattle.rules.specs.Members.{unit-members}
 use Rattle.rules.specs.Rcr.{response, right-sign, all-reliable, few-bad, rcr}
 
 -- ---- a direction turns sums and sizes as it turns numbers
 toward-negation : (d : Direction) (x : ℤ) → toward d (negℤ x) ≡ negℤ (toward d x)

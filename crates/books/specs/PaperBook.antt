@@ -3,10 +3,10 @@ use mathlib.Core.Bool.{true, false}
 use mathlib.Core.List.{List, [], _∷_}
 use Prim.Native.Nat.{ℕ}
 use lib.IntN.{ℤ, pos, negsuc, negℤ}
 use Rattle.rules.specs.declared.Direction.the-variants.{Raise, Lower}
 use Rattle.rules.specs.declared.Kind.the-variants.{Generation, Load}
 use Rattle.rules.specs.Book.{ByDirection, Defaults, Region, Unit, Requirement, Book}
-use Rattle.rules.specs.Writing.{flat}
+use Rattle.books.specs.Writing.{flat}
 
 abbrev pub none : Defaults
 none = record { payment = pos 0; used = pos 0; unused = pos 0 }

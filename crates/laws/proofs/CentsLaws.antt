@@ -14,17 +14,17 @@ use Rattle.integers.specs.Pairs.{gain, loss, gain-negation, loss-negation}
 use Rattle.integers.specs.Sums.{sumℕ}
 use Rattle.integers.specs.Nearest.{nearestℕ, nearestℕ-≤}
 use Rattle.integers.specs.Totals.{totalℕ, numbered, total-indexes, numbered-sum}
 use Rattle.rules.specs.Quantities.{total-limit, price-limit, cost-limit}
 use Rattle.rules.specs.Book.{Requirement, Book}
 use Rattle.rules.specs.Members.{Member, members}
 use Rattle.rules.specs.Share.{weight-at, share-of, unplaced-of}
-use Rattle.rules.specs.ShareLaws.{share-adds-up, placed-and-unplaced, no-weight-no-amount, not-zero}
+use Rattle.laws.proofs.ShareLaws.{share-adds-up, placed-and-unplaced, no-weight-no-amount, not-zero}
 use Rattle.rules.specs.Factors.{helpful, unhelpful}
 use Rattle.rules.specs.Rcr.{rcr, all-reliable}
-use Rattle.rules.specs.RcrLaws.{rcr-within}
+use Rattle.laws.proofs.RcrLaws.{rcr-within}
 use Rattle.rules.specs.Cents.{priced, any-weight, pool-of, used-pool-of, charge}
 use Rattle.rules.specs.Answer.{Line, Answer, lines-of, answered, answer}
-use Rattle.rules.specs.Limits.{RequirementFits, BookFits}
+use Rattle.laws.proofs.Limits.{RequirementFits, BookFits}
 
 -- ---- the pools are within the limit of T
 pub priced-within : (price rcr : ℕ) → price ≤ price-limit → rcr ≤ 7_680_000_000 → priced price rcr ≤ 853_333_333_333
