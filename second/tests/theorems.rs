@@ -8,6 +8,7 @@ use std::path::{Path, PathBuf};
 
 use common::refusal;
 use second::book::{Refusal, Requirement, Unit, CONTENTS_SIZE};
+use second::cents::payment_pool;
 use second::quantities::Direction;
 use second::share::share;
 use second::sweep::put;
@@ -237,7 +238,33 @@ fn shares_are_refused_so() {
         }
         seen += 1;
     }
-    assert_eq!(seen, 10);
+    assert_eq!(seen, 13);
+}
+
+#[test]
+fn pools_over_given_payments_are_so() {
+    let all = words(&theorems("books", "WorkedAnswers"));
+    let mut seen = 0;
+    for at in 0..all.len() {
+        let [call, _direction, open, rest @ ..] = &all[at..] else { continue };
+        if call != "pool-over" || open != "(" {
+            continue;
+        }
+        let end = rest.iter().position(|word| word == "[]").expect("the end of the payments");
+        let payments: Vec<i128> = rest[..end]
+            .split(|word| word == "∷")
+            .filter(|term| !term.is_empty())
+            .map(|term| match term {
+                [pos, size] if pos == "pos" => number(size),
+                [minus, _, pos, size, _] if minus == "negℤ" && pos == "pos" => -number(size),
+                _ => panic!("no payment: {term:?}"),
+            })
+            .collect();
+        assert_eq!(rest[end + 1..end + 3].join(" "), ") ≡");
+        assert_eq!(payment_pool(1_200, 7_500, &payments), number(&rest[end + 3]), "{payments:?}");
+        seen += 1;
+    }
+    assert_eq!(seen, 4);
 }
 
 /// The bytes of a term such as `with 2276 1 (with 2279 2 paper)` and the words behind it.

@@ -50,7 +50,7 @@ region-where good frequency before generation defaults =
       frequency = series (λ t. cond (good t) (frequency t) 0);
     }
 
--- all points good; the first alone; the first and another: FM before 0
+-- all points good; the first alone; the first and one or two others: FM before 0
 abbrev region : ℕ → ByDirection Defaults → (ℕ → ℕ) → Region
 region generation defaults frequency = region-where (λ t. true) frequency (pos 0) generation defaults
 
@@ -60,6 +60,10 @@ first-good generation defaults frequency = region-where (eqb 1) (λ t. frequency
 abbrev two-good : ℕ → ByDirection Defaults → ℕ → ℕ → ℕ → Region
 two-good generation defaults frequency other frequency′ =
     region-where (λ t. eqb t 1 || eqb t other) (λ t. cond (eqb t 1) frequency frequency′) (pos 0) generation defaults
+
+abbrev three-good : ℕ → ByDirection Defaults → ℕ → ℕ → ℕ → ℕ → ℕ → Region
+three-good generation defaults frequency middle frequency′ last frequency″ =
+    region-where (λ t. eqb t 1 || eqb t middle || eqb t last) (λ t. cond (eqb t 1) frequency (cond (eqb t middle) frequency′ frequency″)) (pos 0) generation defaults
 
 abbrev separated : Region → Region
 separated r =
@@ -98,10 +102,11 @@ lower-two-regions =
     ∷ [])
     (requirement 3 6 Lower 3_000 5_000 2_000 1_250 ∷ requirement 4 2 Lower 1_199 777 1_000 500 ∷ requirement 9 6 Raise 3_000 1_000 2_000 2_000 ∷ [])
 
--- ---- each default reason: a bad unit, regions unreliable by separation and by FM 10,000, a region with no good unit; one with no unit stays live
+-- ---- each default reason: a bad unit, regions unreliable by separation and by FM 10,000, a region with no good unit; one with no unit stays live. Two bad of
+-- three are just over 66 percent
 abbrev pub default-reasons : Book
 default-reasons =
-    book (settings 10_000 74 50 102)
+    book (settings 10_000 74 66 102)
     (first-good 100_000 (minus 1_000 2_000 3_000 0 0 0) 49_980_000
     ∷ separated (first-good 100_000 (minus 2_000 4_000 6_000 0 0 0) 49_980_000)
     ∷ first-good 100_000 (minus 3_000 6_000 9_000 0 0 0) 49_980_000
@@ -126,13 +131,22 @@ bad-frequency-points =
     (steady 1 0 Generation 0 (minus 1 1 1 0 0 0) (flat (pos 1)) ∷ steady 2 3 Generation 0 (minus 2 2 2 0 0 0) (flat (pos 1)) ∷ steady 3 0 Load 0 (minus 3 3 3 0 0 0) (flat (pos 2)) ∷ [])
     (requirement 1 1 Raise 10_000_000 100 3 1 ∷ requirement 2 8 Raise 10_000_000 100 3 1 ∷ [])
 
--- ---- generation weights turn the sign; used over enabled
+-- ---- generation weights turn the sign, and cancel it at t = 75, where the response is largest; a region without
+-- generation has no sign; used over enabled
 abbrev pub sign-turned : Book
 sign-turned =
     book (settings 10_000 74 20 104)
-    (two-good 100_000 zeros 49_980_000 61 50_020_000 ∷ two-good 200_000 zeros 49_985_000 11 50_030_000 ∷ quiet ∷ quiet ∷ quiet ∷ [])
-    (steady 1 0 Generation 0 zeros (series (λ t. pos (10 * t))) ∷ steady 2 1 Generation 500 zeros (flat (pos 400)) ∷ steady 3 1 Load 0 zeros (flat (pos 5)) ∷ [])
-    (requirement 1 3 Raise 1_800 999 600 900 ∷ requirement 2 1 Raise 1_800 999 600 600 ∷ requirement 3 3 Lower 1_800 999 600 0 ∷ [])
+    (two-good 100_000 zeros 49_980_000 61 50_020_000 ∷ three-good 200_000 zeros 49_985_000 11 50_030_000 75 49_990_000 ∷ first-good 0 zeros 49_980_000 ∷ quiet ∷ quiet ∷ [])
+    (steady 1 0 Generation 0 zeros (series (λ t. pos (10 * t)))
+    ∷ steady 2 1 Generation 500 zeros (flat (pos 400))
+    ∷ steady 3 1 Load 0 zeros (flat (pos 5))
+    ∷ steady 4 2 Generation 0 zeros (flat (pos 10))
+    ∷ [])
+    (requirement 1 3 Raise 1_800 999 600 900
+    ∷ requirement 2 1 Raise 1_800 999 600 600
+    ∷ requirement 3 3 Lower 1_800 999 600 0
+    ∷ requirement 4 4 Raise 1_800 0 600 0
+    ∷ [])
 
 -- ---- generation weights alone decide the sign: from t = 11 on region 0's FM is 20,000 and region 1's -30,000, weighing 300,000 and 100,000
 abbrev pub weights-decide : Book
@@ -181,26 +195,34 @@ ties =
 abbrev pub no-units : Book
 no-units =
     book (settings 10_000 74 20 0)
-    (first-good 10 (minus 0 0 0 9 9 2) 50_011_000 ∷ first-good 10 (minus 0 0 0 9 9 2) 50_011_000 ∷ first-good 0 zeros 50_000_000 ∷ quiet ∷ quiet ∷ [])
+    (first-good 0 zeros 50_000_000 ∷ first-good 10 (minus 0 0 0 9 9 2) 50_011_000 ∷ first-good 10 (minus 0 0 0 9 9 2) 50_011_000 ∷ quiet ∷ quiet ∷ [])
     []
-    (requirement 0 3 Lower 100 50 10 4 ∷ requirement 1 7 Lower 100 50 10 4 ∷ [])
+    (requirement 0 6 Lower 100 50 10 4 ∷ requirement 1 7 Lower 100 50 10 4 ∷ [])
 
--- ---- RCR above 0, yet no pool: unit 1 moves where its region needs lower but the set, by the other region's weight, raise
+-- ---- RCR above 0, yet no pool: unit 1 moves where its region needs lower but the set, by the other region's weight, raise; regions 3 and 4 mirror it
 abbrev pub one-side : Book
 one-side =
     book (settings 10_000 74 100 108)
     (two-good 1 zeros 49_980_000 8 50_020_000
     ∷ first-good 10 (minus 20 30 0 0 0 0) 49_980_000
     ∷ first-good 10 (minus 20 30 0 0 0 0) 49_980_000
-    ∷ quiet
-    ∷ quiet
+    ∷ two-good 1 zeros 50_020_000 8 49_980_000
+    ∷ first-good 10 (minus 0 0 0 20 30 0) 50_020_000
     ∷ [])
     (steady 1 0 Generation 0 zeros (series (λ t. cond (leb t 7) (pos 0) (pos 100)))
     ∷ bad-at 8 2 1 Generation (pos 0) (pos 0) (minus 5 10 1 0 0 0) (λ t. pos 50)
+    ∷ steady 3 3 Generation 0 zeros (series (λ t. cond (leb t 7) (pos 0) (negℤ (pos 100))))
+    ∷ bad-at 8 4 4 Generation (pos 0) (pos 0) (minus 0 0 0 5 10 1) (λ t. pos 50)
     ∷ [])
-    (requirement 1 3 Raise 1_200 100 4 1 ∷ requirement 2 5 Raise 1_200 100 4 1 ∷ requirement 3 1 Raise 1_200 100 4 1 ∷ requirement 4 1 Lower 1_200 100 4 1 ∷ [])
+    (requirement 1 3 Raise 1_200 100 4 1
+    ∷ requirement 2 5 Raise 1_200 100 4 1
+    ∷ requirement 3 1 Raise 1_200 100 4 1
+    ∷ requirement 4 1 Lower 1_200 100 4 1
+    ∷ requirement 5 24 Lower 1_200 100 4 1
+    ∷ requirement 6 8 Lower 1_200 100 4 1
+    ∷ [])
 
--- ---- lower where defaults stand in: a region with as many bad points as the limit, one separated, one with a bad point more, one that keeps the FM before the
+-- ---- lower where defaults stand in: a region with as many bad points as the limit, one separated with a good unit, one with a bad point more, one that keeps the FM before the
 -- interval to t = 74 and has no good unit, and FM -10,000 throughout
 abbrev pub lower-defaults : Book
 lower-defaults =
@@ -214,29 +236,27 @@ lower-defaults =
     (steady 1 0 Generation 1_000 (minus-from 10) (flat (pos 900))
     ∷ bad-at 40 2 0 Load (pos 2_000) (pos 2_000) (minus 21 22 23 4_000_000_000 7_000_000_000 26) (λ t. pos 2_500)
     ∷ unit 3 3 Generation (pos 0) (pos 0) (minus 31 32 33 1_000_000_000 3_000_000_000 36) (flat false) (flat (pos 0))
+    ∷ steady 4 1 Generation 1_000 (minus-from 40) (flat (pos 900))
     ∷ [])
     (lower 1 1 ∷ lower 2 9 ∷ lower 3 2 ∷ lower 4 4 ∷ lower 5 16 ∷ [])
   where
     lower : ℕ → ℕ → Requirement
     lower number set = requirement number set Lower 3_000 5_000 2_000 1_000
 
--- ---- seven or six points of FM beyond 0 of which one is beyond 10,000, FM 10,000 throughout; both directions, no units
+-- ---- seven or six points of FM beyond 0 of which one is beyond 10,000, FM 10,000 throughout; both directions. Unit 1 moves ever further from its line,
+-- unit 2 back to it: at t = 7 and at t = 69 the sign is that of FM -1 and of FM 1, weighed by 1; after the one and before the other there is none
 abbrev pub edges-of-reliability : Book
 edges-of-reliability =
     book (settings 10_000 72 20 110)
-    (three 2 8 50_010_001 50_000_001 50_000_000 (minus-from 10)
-    ∷ three 2 7 50_010_001 50_000_001 50_000_000 (minus-from 20)
-    ∷ three 2 75 50_010_000 50_010_000 50_010_000 (minus-from 30)
-    ∷ three 2 8 49_989_999 49_999_999 50_000_000 (minus-from 40)
-    ∷ three 2 7 49_989_999 49_999_999 50_000_000 (minus-from 50)
+    (three-good 1 (minus-from 10) 50_010_001 2 50_000_001 8 50_000_000
+    ∷ three-good 0 (minus-from 20) 50_010_001 2 50_000_001 7 50_000_000
+    ∷ three-good 0 (minus-from 30) 50_010_000 2 50_010_000 75 50_010_000
+    ∷ three-good 1 (minus-from 40) 50_000_000 69 49_999_999 75 49_989_999
+    ∷ three-good 0 (minus-from 50) 50_000_000 70 49_999_999 75 49_989_999
     ∷ [])
-    []
+    (steady 1 0 Generation 0 zeros (series (λ t. negℤ (pos t))) ∷ steady 2 3 Generation 0 zeros (series (λ t. pos (76 - t))) ∷ [])
     (of 0 1 Lower ∷ of 1 2 Lower ∷ of 2 4 Lower ∷ of 3 8 Raise ∷ of 4 16 Raise ∷ [])
   where
-    three : ℕ → ℕ → ℕ → ℕ → ℕ → ByDirection Defaults → Region
-    three middle last f f′ f″ defaults =
-        region-where (λ t. eqb t 1 || eqb t middle || eqb t last) (λ t. cond (eqb t 1) f (cond (eqb t middle) f′ f″)) (pos 0) 0 defaults
-
     of : ℕ → ℕ → Direction → Requirement
     of number set direction = requirement number set direction 0 50 10 4
 

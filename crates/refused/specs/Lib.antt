@@ -1,3 +1,4 @@
+pub mod Numbers
 pub mod Changed
 pub mod TableFields
 pub mod SettingsFields

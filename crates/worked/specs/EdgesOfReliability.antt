@@ -24,8 +24,9 @@ read = refl
 
 -- one FM of -10,001 and six of -1, most of them at bad points
 pub lower-seven-points : lines 0
-    ≡ text "requirement 0 lower 0 0 20 30 20 0\n"
-    ++ text "residual live 0 0 0 0 -30\n"
+    ≡ text "requirement 0 lower 525 0 20 30 0 0\n"
+    ++ (text "unit 1 live 752100 1000000000 0 0 0\n"
+    ++ text "residual live -752100 -1000000000 0 -20 -30\n")
 unfolding computing
 lower-seven-points = refl
 
@@ -42,10 +43,11 @@ pub lower-none-beyond : lines 2
 unfolding computing
 lower-none-beyond = refl
 
--- the same mirrored
+-- the same mirrored, at the last points
 pub raise-seven-points : lines 3
-    ≡ text "requirement 3 raise 0 0 20 30 20 0\n"
-    ++ text "residual live 0 0 0 0 -30\n"
+    ≡ text "requirement 3 raise 525 0 20 30 0 0\n"
+    ++ (text "unit 2 live 752100 1000000000 0 0 0\n"
+    ++ text "residual live -752100 -1000000000 0 -20 -30\n")
 unfolding computing
 raise-seven-points = refl
 
@@ -57,16 +59,18 @@ raise-six-points = refl
 
 pub edges-of-reliability-listing : settle (book-bytes edges-of-reliability)
     ≡ text "interval 110\n"
-    ++ (text "requirement 0 lower 0 0 20 30 20 0\n"
-    ++ (text "residual live 0 0 0 0 -30\n"
+    ++ (text "requirement 0 lower 525 0 20 30 0 0\n"
+    ++ (text "unit 1 live 752100 1000000000 0 0 0\n"
+    ++ (text "residual live -752100 -1000000000 0 -20 -30\n"
     ++ (text "requirement 1 lower 0 0 0 50 0 0\n"
     ++ (text "residual default -24 -1000000000 0 0 -50\n"
     ++ (text "requirement 2 lower 0 0 0 50 0 0\n"
     ++ (text "residual default -34 -1000000000 0 0 -50\n"
-    ++ (text "requirement 3 raise 0 0 20 30 20 0\n"
-    ++ (text "residual live 0 0 0 0 -30\n"
+    ++ (text "requirement 3 raise 525 0 20 30 0 0\n"
+    ++ (text "unit 2 live 752100 1000000000 0 0 0\n"
+    ++ (text "residual live -752100 -1000000000 0 -20 -30\n"
     ++ (text "requirement 4 raise 0 0 0 50 0 0\n"
-    ++ text "residual default -51 -1000000000 0 0 -50\n")))))))))
+    ++ text "residual default -51 -1000000000 0 0 -50\n")))))))))))
 unfolding listing joined text digits words
 edges-of-reliability-listing =
     settled edges-of-reliability read ∙ rw (lower-seven-points, lower-six-points, lower-none-beyond, raise-seven-points, raise-six-points)

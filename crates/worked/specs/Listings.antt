@@ -65,17 +65,20 @@ pub sign-turned-listing : settle (book-bytes sign-turned)
     ≡ text "interval 104\n"
     ++ (text "requirement 1 raise 7875 158 999 0 0 0\n"
     ++ (text "unit 1 live 27450000000 1000000000 158 0 0\n"
-    ++ (text "unit 2 live -1125000000 -40983607 -7 -41 0\n"
-    ++ (text "unit 3 live -56250000 -2049180 0 -2 0\n"
-    ++ (text "residual live -26268750000 -956967213 -151 -956 0\n"
+    ++ (text "unit 2 live -1200000000 -43715847 -7 -44 0\n"
+    ++ (text "unit 3 live -60000000 -2185792 0 -2 0\n"
+    ++ (text "residual live -26190000000 -954098361 -151 -953 0\n"
     ++ (text "requirement 2 raise 45000 900 999 0 0 0\n"
     ++ (text "unit 1 live 27450000000 1000000000 900 0 0\n"
     ++ (text "residual live -27450000000 -1000000000 -900 -999 0\n"
-    ++ (text "requirement 3 lower 56250 1125 0 999 0 999\n"
-    ++ (text "unit 1 live -15300000000 -996336996 -1121 0 0\n"
-    ++ (text "unit 2 live 14625000000 952380952 1071 0 0\n"
-    ++ (text "unit 3 live 731250000 47619048 54 0 0\n"
-    ++ text "residual live -56250000 -3663004 -4 0 0\n"))))))))))))
+    ++ (text "requirement 3 lower 55500 1110 0 999 0 999\n"
+    ++ (text "unit 1 live -15300000000 -1000000000 -1110 0 0\n"
+    ++ (text "unit 2 live 14400000000 941176471 1045 0 0\n"
+    ++ (text "unit 3 live 720000000 47058823 52 0 0\n"
+    ++ (text "residual live 180000000 11764706 13 0 0\n"
+    ++ (text "requirement 4 raise 0 0 0 0 0 0\n"
+    ++ (text "unit 4 live 1125000000 1000000000 0 0 0\n"
+    ++ text "residual live -1125000000 -1000000000 0 0 0\n")))))))))))))))
 unfolding computing
 sign-turned-listing = settled sign-turned refl
 
@@ -145,6 +148,13 @@ pub one-side-listing : settle (book-bytes one-side)
     ++ (text "residual live 0 0 0 0 0\n"
     ++ (text "requirement 4 lower 7500 100 25 75 0 75\n"
     ++ (text "unit 1 live -10200000000 -1000000000 -100 -25 0\n"
-    ++ text "residual live 10200000000 1000000000 100 0 0\n"))))))))))))
+    ++ (text "residual live 10200000000 1000000000 100 0 0\n"
+    ++ (text "requirement 5 lower 7500 0 25 75 0 0\n"
+    ++ (text "unit 3 live 0 0 0 0 0\n"
+    ++ (text "unit 4 default -5 -200000000 0 -6 -75\n"
+    ++ (text "residual default -20 -800000000 0 -19 0\n"
+    ++ (text "requirement 6 lower 0 0 25 75 25 75\n"
+    ++ (text "unit 3 live 0 0 0 0 0\n"
+    ++ text "residual live 0 0 0 0 0\n")))))))))))))))))))
 unfolding computing
 one-side-listing = settled one-side refl

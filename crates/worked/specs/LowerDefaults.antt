@@ -43,7 +43,8 @@ two-bad-of-three = refl
 
 pub separated : lines 2
     ≡ text "requirement 3 lower 0 0 0 5000 0 0\n"
-    ++ text "residual default -204 -1000000000 0 0 -5000\n"
+    ++ (text "unit 4 default -44 -177419355 0 0 -913\n"
+    ++ text "residual default -204 -822580645 0 0 -4087\n")
 unfolding computing
 separated = refl
 
@@ -73,10 +74,11 @@ pub lower-defaults-listing : settle (book-bytes lower-defaults)
     ++ (text "unit 3 default -1000000000 -50890585 0 -279 -153\n"
     ++ (text "residual default -14650000000 -745547074 0 -1569 -2169\n"
     ++ (text "requirement 3 lower 0 0 0 5000 0 0\n"
-    ++ (text "residual default -204 -1000000000 0 0 -5000\n"
+    ++ (text "unit 4 default -44 -177419355 0 0 -913\n"
+    ++ (text "residual default -204 -822580645 0 0 -4087\n"
     ++ (text "requirement 4 lower 0 0 0 5000 0 0\n"
     ++ (text "residual default -304 -1000000000 0 0 -5000\n"
     ++ (text "requirement 5 lower 0 0 0 5000 0 0\n"
-    ++ text "residual default -504 -1000000000 0 0 -5000\n"))))))))))))))
+    ++ text "residual default -504 -1000000000 0 0 -5000\n")))))))))))))))
 unfolding listing joined text digits words
 lower-defaults-listing = settled lower-defaults read ∙ rw (one-bad-of-two, two-bad-of-three, separated, bad-points-over, none-beyond)
