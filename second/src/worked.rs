@@ -387,14 +387,14 @@ fn edges_of_reliability() -> Book {
         let step = -10 * (region as i128 + 1);
         book.frequencies[region].defaults = [step - 1, step - 2, step - 3, step - 4, step - 5, step - 6];
     }
-    good_only_at(&mut book, 0, &[(1, 50_010_001), (2, 50_000_001), (8, 50_000_000)]);
-    good_only_at(&mut book, 1, &[(1, 50_010_001), (2, 50_000_001), (7, 50_000_000)]);
-    good_only_at(&mut book, 2, &[(1, 50_010_000), (2, 50_010_000), (75, 50_010_000)]);
+    good_only_at(&mut book, 0, &[(1, 50_010_001), (2, 50_000_000), (70, 50_000_001)]);
+    good_only_at(&mut book, 1, &[(1, 50_010_001), (2, 50_000_000), (71, 50_000_001)]);
+    good_only_at(&mut book, 2, &[(1, 50_010_000), (2, 50_010_000), (75, 49_989_999)]);
     good_only_at(&mut book, 3, &[(1, 50_000_000), (69, 49_999_999), (75, 49_989_999)]);
-    good_only_at(&mut book, 4, &[(1, 50_000_000), (70, 49_999_999), (75, 49_989_999)]);
+    good_only_at(&mut book, 4, &[(1, 50_000_001), (70, 49_999_999), (75, 49_989_999)]);
     book.frequencies[0].generation = 1;
     book.frequencies[3].generation = 1;
-    book.units = vec![unit(1, 0, false, 0, 0, |t| -t), unit(2, 3, false, 0, 0, |t| 76 - t)];
+    book.units = vec![unit(1, 0, false, 0, 0, |t| if t <= 69 { -t } else { -7 }), unit(2, 3, false, 0, 0, |t| 76 - t)];
     book.requirements = (0..REGIONS)
         .map(|region| {
             let direction = if region < 3 { Direction::Lower } else { Direction::Raise };
@@ -611,11 +611,11 @@ pub fn all() -> Vec<Worked> {
         },
         Worked {
             name: "edges_of_reliability",
-            shows: "72 bad points, the limit: they count with the FM that they keep. Lower:\n\
-                    region 0 has one FM of -10001 and six of -1, region 1 five of -1, region 2 FM -10000 at\n\
-                    all points. Raise: region 3 has one FM of 10001 and six of 1, region 4 five of 1.\n\
-                    Unit 1 moves ever further from its line, unit 2 back to it: RCR is that at t 7, the last\n\
-                    point with a sign, and at t 69, the first.",
+            shows: "72 bad points, the limit: they count with the FM that they keep. Lower: region 0 has one\n\
+                    FM of -10001 at t 1 and six of -1 from t 70 on, region 1 five of -1, region 2 74 of -10000\n\
+                    and one of 10001. Raise: region 3 has six FM of 1 and one of 10001, region 4 five of 1, one\n\
+                    of 10001 and 69 of -1. Units 1 and 2 are furthest from their lines where FM is 0: there is\n\
+                    no sign, and RCR is taken at t 70 and at t 69.",
             book: edges_of_reliability(),
             behind: &[],
         },

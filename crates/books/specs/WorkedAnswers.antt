@@ -1,6 +1,6 @@
 -- Worked answers, straight from what a book says: facts that the paper's own listing never uses, each a theorem by computing. The figures are the
 -- second program's (tests/worked/); whole listings of these books, but for `weights-decide`, are theorems of the crate `worked`. The reasons of the defaults,
--- which no listing prints, are worked out by hand; pools over given payments are the second program's too.
+-- which no listing prints, and the lowest limits are worked out by hand; pools over given payments are the second program's too.
 use mathlib.Core.Path.{_≡_, refl}
 use mathlib.Core.Bool.{true, false}
 use mathlib.Core.List.{List, [], _∷_, map}
@@ -14,8 +14,9 @@ use Rattle.rules.specs.declared.Standing.the-variants.{Live, Default}
 use Rattle.rules.specs.declared.Reason.the-variants.{UnreliableRegion, BadUnit, NoGoodUnit}
 use Rattle.rules.specs.Book.{Requirement, Book}
 use Rattle.rules.specs.Fields.{spare-bits-zero}
+use Rattle.rules.specs.Reliability.{sound}
 use Rattle.rules.specs.Members.{residual, Member, members}
-use Rattle.rules.specs.Rcr.{rcr}
+use Rattle.rules.specs.Rcr.{few-bad, rcr}
 use Rattle.rules.specs.Cents.{pool-of}
 use Rattle.rules.specs.Text.{text, natural, integer}
 use Rattle.books.specs.PaperBook.{requirement}
@@ -76,6 +77,17 @@ raise-pools = record { both-sides = refl; positive-alone = refl; negative-alone 
 pub lower-pools : Pools Lower
 unfolding computing
 lower-pools = record { both-sides = refl; positive-alone = refl; negative-alone = refl; neither = refl }
+
+-- both sides of the lowest limits: no bad point, no bad unit
+pub record Lowest : Type 0 where
+  pub no-bad-point : sound false 0 0 ≡ true
+  pub one-bad-point : sound false 1 0 ≡ false
+  pub no-bad-unit : few-bad 0 (lower-two-regions .roster) ≡ true
+  pub bad-units : few-bad 0 (default-reasons .roster) ≡ false
+
+pub lowest-limits : Lowest
+unfolding computing
+lowest-limits = record { no-bad-point = refl; one-bad-point = refl; no-bad-unit = refl; bad-units = refl }
 
 -- numbers as text: 20 digits at most, no leading 0, no sign at 0
 pub record Texts : Type 0 where

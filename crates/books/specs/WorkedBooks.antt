@@ -243,18 +243,18 @@ lower-defaults =
     lower : ℕ → ℕ → Requirement
     lower number set = requirement number set Lower 3_000 5_000 2_000 1_000
 
--- ---- seven or six points of FM beyond 0 of which one is beyond 10,000, FM 10,000 throughout; both directions. Unit 1 moves ever further from its line,
--- unit 2 back to it: at t = 7 and at t = 69 the sign is that of FM -1 and of FM 1, weighed by 1; after the one and before the other there is none
+-- ---- seven or six points of FM beyond 0 of which one is beyond 10,000, in a row or not; 74 points of FM 10,000; what is beyond in the other direction makes up
+-- for nothing. Units 1 and 2 are furthest from their lines where FM is 0 and the set has no sign; RCR is at FM -1 and at FM 1, weighed by 1
 abbrev pub edges-of-reliability : Book
 edges-of-reliability =
     book (settings 10_000 72 20 110)
-    (three-good 1 (minus-from 10) 50_010_001 2 50_000_001 8 50_000_000
-    ∷ three-good 0 (minus-from 20) 50_010_001 2 50_000_001 7 50_000_000
-    ∷ three-good 0 (minus-from 30) 50_010_000 2 50_010_000 75 50_010_000
+    (three-good 1 (minus-from 10) 50_010_001 2 50_000_000 70 50_000_001
+    ∷ three-good 0 (minus-from 20) 50_010_001 2 50_000_000 71 50_000_001
+    ∷ three-good 0 (minus-from 30) 50_010_000 2 50_010_000 75 49_989_999
     ∷ three-good 1 (minus-from 40) 50_000_000 69 49_999_999 75 49_989_999
-    ∷ three-good 0 (minus-from 50) 50_000_000 70 49_999_999 75 49_989_999
+    ∷ three-good 0 (minus-from 50) 50_000_001 70 49_999_999 75 49_989_999
     ∷ [])
-    (steady 1 0 Generation 0 zeros (series (λ t. negℤ (pos t))) ∷ steady 2 3 Generation 0 zeros (series (λ t. pos (76 - t))) ∷ [])
+    (steady 1 0 Generation 0 zeros (series (λ t. negℤ (pos (cond (leb t 69) t 7)))) ∷ steady 2 3 Generation 0 zeros (series (λ t. pos (76 - t))) ∷ [])
     (of 0 1 Lower ∷ of 1 2 Lower ∷ of 2 4 Lower ∷ of 3 8 Raise ∷ of 4 16 Raise ∷ [])
   where
     of : ℕ → ℕ → Direction → Requirement

@@ -75,7 +75,7 @@ pub lower-defaults-bytes : Written lower-defaults 3_512 1_428_601_350_260_363_85
 unfolding computing
 lower-defaults-bytes = record { long = refl; same = refl }
 
-pub edges-of-reliability-bytes : Written edges-of-reliability 2_768 1_548_798_623_423_979_283
+pub edges-of-reliability-bytes : Written edges-of-reliability 2_768 1_269_543_760_970_343_735
 unfolding computing
 edges-of-reliability-bytes = record { long = refl; same = refl }
 

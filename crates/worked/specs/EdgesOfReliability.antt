@@ -22,11 +22,11 @@ pub read : book (book-bytes edges-of-reliability) ≡ taken edges-of-reliability
 unfolding computing
 read = refl
 
--- one FM of -10,001 and six of -1, most of them at bad points
+-- one FM of -10,001 and six of -1, not in a row, most of them at bad points
 pub lower-seven-points : lines 0
     ≡ text "requirement 0 lower 525 0 20 30 0 0\n"
-    ++ (text "unit 1 live 752100 1000000000 0 0 0\n"
-    ++ text "residual live -752100 -1000000000 0 -20 -30\n")
+    ++ (text "unit 1 live 753225 1000000000 0 0 0\n"
+    ++ text "residual live -753225 -1000000000 0 -20 -30\n")
 unfolding computing
 lower-seven-points = refl
 
@@ -36,14 +36,14 @@ pub lower-six-points : lines 1
 unfolding computing
 lower-six-points = refl
 
--- FM -10,000 at all points
+-- FM -10,000 at all points but the last, where it is 10,001
 pub lower-none-beyond : lines 2
     ≡ text "requirement 2 lower 0 0 0 50 0 0\n"
     ++ text "residual default -34 -1000000000 0 0 -50\n"
 unfolding computing
 lower-none-beyond = refl
 
--- the same mirrored, at the last points
+-- the same mirrored, in a row; of six points the others need lower
 pub raise-seven-points : lines 3
     ≡ text "requirement 3 raise 525 0 20 30 0 0\n"
     ++ (text "unit 2 live 752100 1000000000 0 0 0\n"
@@ -60,8 +60,8 @@ raise-six-points = refl
 pub edges-of-reliability-listing : settle (book-bytes edges-of-reliability)
     ≡ text "interval 110\n"
     ++ (text "requirement 0 lower 525 0 20 30 0 0\n"
-    ++ (text "unit 1 live 752100 1000000000 0 0 0\n"
-    ++ (text "residual live -752100 -1000000000 0 -20 -30\n"
+    ++ (text "unit 1 live 753225 1000000000 0 0 0\n"
+    ++ (text "residual live -753225 -1000000000 0 -20 -30\n"
     ++ (text "requirement 1 lower 0 0 0 50 0 0\n"
     ++ (text "residual default -24 -1000000000 0 0 -50\n"
     ++ (text "requirement 2 lower 0 0 0 50 0 0\n"
