@@ -394,7 +394,8 @@ fn edges_of_reliability() -> Book {
     good_only_at(&mut book, 4, &[(1, 50_000_001), (70, 49_999_999), (75, 49_989_999)]);
     book.frequencies[0].generation = 1;
     book.frequencies[3].generation = 1;
-    book.units = vec![unit(1, 0, false, 0, 0, |t| if t <= 69 { -t } else { -7 }), unit(2, 3, false, 0, 0, |t| 76 - t)];
+    book.units =
+        vec![unit(1, 0, false, 0, 0, |t| if t <= 69 { -t } else { -7 }), unit(2, 3, false, 0, 0, |t| 76 - t)];
     book.requirements = (0..REGIONS)
         .map(|region| {
             let direction = if region < 3 { Direction::Lower } else { Direction::Raise };

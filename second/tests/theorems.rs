@@ -267,6 +267,31 @@ fn pools_over_given_payments_are_so() {
     assert_eq!(seen, 4);
 }
 
+#[test]
+fn third_numbers_are_refused_so() {
+    let all = words(&theorems("refused", "ThirdNumbers"));
+    let mut seen = 0;
+    for at in 0..all.len() {
+        let [body, _count, _least, _, concat, _, map, _kind, rest @ ..] = &all[at..] else { continue };
+        if !body.ends_with("-body") || concat != "concat" || map != "map" {
+            continue;
+        }
+        let end = rest.iter().position(|word| word == "[]").expect("the end of the numbers");
+        let numbers = rest[1..end].iter().filter(|word| *word != "∷").map(|word| number(word));
+        let mut book = base_book();
+        if body == "unit-body" {
+            book.units = numbers.map(|number| base_unit(number, 0)).collect();
+            book.requirements = vec![base_requirement(1, 1, Direction::Raise)];
+        } else {
+            book.requirements = numbers.map(|number| base_requirement(number, 1, Direction::Raise)).collect();
+        }
+        let same = rest.iter().position(|word| word == "≡").expect("what it is");
+        assert_eq!(number_of(&to_bytes(&book)), number(&rest[same + 1]), "{at}");
+        seen += 1;
+    }
+    assert_eq!(seen, 4);
+}
+
 /// The bytes of a term such as `with 2276 1 (with 2279 2 paper)` and the words behind it.
 fn term(all: &[String]) -> (Vec<u8>, &[String]) {
     let (mut bytes, mut rest) = match all {

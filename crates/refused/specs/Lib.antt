@@ -8,6 +8,7 @@ pub mod FrequenciesTaken
 pub mod UnitFields
 pub mod UnitPoints
 pub mod UnitNumbers
+pub mod ThirdNumbers
 pub mod UnitsTaken
 pub mod RequirementFields
 pub mod ShareLimits
