@@ -63,7 +63,8 @@ two-good generation defaults frequency other frequency′ =
 
 abbrev three-good : ℕ → ByDirection Defaults → ℕ → ℕ → ℕ → ℕ → ℕ → Region
 three-good generation defaults frequency middle frequency′ last frequency″ =
-    region-where (λ t. eqb t 1 || eqb t middle || eqb t last) (λ t. cond (eqb t 1) frequency (cond (eqb t middle) frequency′ frequency″)) (pos 0) generation defaults
+    region-where (λ t. eqb t 1 || eqb t middle || eqb t last) (λ t. cond (eqb t 1) frequency (cond (eqb t middle) frequency′ frequency″)) (pos 0) generation
+    defaults
 
 abbrev separated : Region → Region
 separated r =
@@ -73,7 +74,8 @@ abbrev quiet : Region
 quiet = region 0 zeros (λ t. 50_000_000)
 
 abbrev unit : ℕ → ℕ → Kind → ℤ → ℤ → ByDirection Defaults → List Bool → List ℤ → Unit
-unit number r kind start end defaults quality reading = record { number = number; region = r; kind = kind; start = start; end = end; defaults = defaults; quality = quality; reading = reading }
+unit number r kind start end defaults quality reading =
+    record { number = number; region = r; kind = kind; start = start; end = end; defaults = defaults; quality = quality; reading = reading }
 
 -- a unit on a flat trajectory, all points good
 abbrev steady : ℕ → ℕ → Kind → ℕ → ByDirection Defaults → List ℤ → Unit
@@ -85,7 +87,8 @@ bad-at point number r kind start end defaults reading =
     unit number r kind start end defaults (series (λ t. not (eqb t point))) (series (λ t. cond (eqb t point) (pos 0) (reading t)))
 
 abbrev requirement : ℕ → ℕ → Direction → ℕ → ℕ → ℕ → ℕ → Requirement
-requirement number set direction price cost enabled used = record { number = number; set = set; direction = direction; price = price; cost = cost; enabled = enabled; used = used }
+requirement number set direction price cost enabled used =
+    record { number = number; set = set; direction = direction; price = price; cost = cost; enabled = enabled; used = used }
 
 abbrev book : Settings → List Region → List Unit → List Requirement → Book
 book s rs us qs = record { settings = s; regions = rs; roster = us; requirements = qs }
@@ -128,7 +131,10 @@ abbrev pub bad-frequency-points : Book
 bad-frequency-points =
     book (settings 5_000 10 20 103)
     (gap 12 ∷ quiet ∷ quiet ∷ gap 13 ∷ quiet ∷ [])
-    (steady 1 0 Generation 0 (minus 1 1 1 0 0 0) (flat (pos 1)) ∷ steady 2 3 Generation 0 (minus 2 2 2 0 0 0) (flat (pos 1)) ∷ steady 3 0 Load 0 (minus 3 3 3 0 0 0) (flat (pos 2)) ∷ [])
+    (steady 1 0 Generation 0 (minus 1 1 1 0 0 0) (flat (pos 1))
+    ∷ steady 2 3 Generation 0 (minus 2 2 2 0 0 0) (flat (pos 1))
+    ∷ steady 3 0 Load 0 (minus 3 3 3 0 0 0) (flat (pos 2))
+    ∷ [])
     (requirement 1 1 Raise 10_000_000 100 3 1 ∷ requirement 2 8 Raise 10_000_000 100 3 1 ∷ [])
 
 -- ---- generation weights turn the sign, and cancel it at t = 75, where the response is largest; a region without
@@ -136,7 +142,12 @@ bad-frequency-points =
 abbrev pub sign-turned : Book
 sign-turned =
     book (settings 10_000 74 20 104)
-    (two-good 100_000 zeros 49_980_000 61 50_020_000 ∷ three-good 200_000 zeros 49_985_000 11 50_030_000 75 49_990_000 ∷ first-good 0 zeros 49_980_000 ∷ quiet ∷ quiet ∷ [])
+    (two-good 100_000 zeros 49_980_000 61 50_020_000
+    ∷ three-good 200_000 zeros 49_985_000 11 50_030_000 75 49_990_000
+    ∷ first-good 0 zeros 49_980_000
+    ∷ quiet
+    ∷ quiet
+    ∷ [])
     (steady 1 0 Generation 0 zeros (series (λ t. pos (10 * t)))
     ∷ steady 2 1 Generation 500 zeros (flat (pos 400))
     ∷ steady 3 1 Load 0 zeros (flat (pos 5))
@@ -222,8 +233,8 @@ one-side =
     ∷ requirement 6 8 Lower 1_200 100 4 1
     ∷ [])
 
--- ---- lower where defaults stand in: a region with as many bad points as the limit, one separated with a good unit, one with a bad point more, one that keeps the FM before the
--- interval to t = 74 and has no good unit, and FM -10,000 throughout
+-- ---- lower where defaults stand in: a region with as many bad points as the limit, one separated with a good unit, one with a bad point more, one that keeps
+-- the FM before the interval to t = 74 and has no good unit, and FM -10,000 throughout
 abbrev pub lower-defaults : Book
 lower-defaults =
     book (settings 10_000 74 50 109)
@@ -243,8 +254,8 @@ lower-defaults =
     lower : ℕ → ℕ → Requirement
     lower number set = requirement number set Lower 3_000 5_000 2_000 1_000
 
--- ---- seven or six points of FM beyond 0 of which one is beyond 10,000, in a row or not; 74 points of FM 10,000; what is beyond in the other direction makes up
--- for nothing. Units 1 and 2 are furthest from their lines where FM is 0 and the set has no sign; RCR is at FM -1 and at FM 1, weighed by 1
+-- ---- seven or six points of FM beyond 0 of which one is beyond 10,000, in a row or not; 74 points of FM 10,000; what is beyond in the other direction makes
+-- up for nothing. Units 1 and 2 are furthest from their lines where FM is 0 and the set has no sign; RCR is at FM -1 and at FM 1, weighed by 1
 abbrev pub edges-of-reliability : Book
 edges-of-reliability =
     book (settings 10_000 72 20 110)

@@ -15,7 +15,8 @@ use Rattle.books.specs.PaperBook.{zeros}
 use Rattle.books.specs.Computing.{computing}
 
 abbrev unit : ℕ → List ℕ
-unit n = unit-bytes (record { number = n; region = 0; kind = Generation; start = pos 0; end = pos 0; defaults = zeros; quality = flat true; reading = flat (pos 0) })
+unit n =
+    unit-bytes (record { number = n; region = 0; kind = Generation; start = pos 0; end = pos 0; defaults = zeros; quality = flat true; reading = flat (pos 0) })
 
 abbrev requirement : ℕ → List ℕ
 requirement n = requirement-bytes (record { number = n; set = 1; direction = Raise; price = 0; cost = 0; enabled = 0; used = 0 })

@@ -39,4 +39,13 @@ pub record UnitReach : Type 0 where
 
 pub unit-reach : UnitReach
 unfolding computing
-unit-reach = record { measure-reached = refl; measure-limited = refl; measure-mirrored = refl; deviation-reached = refl; deviation-limited = refl; performance-reached = refl; performance-limited = refl }
+unit-reach =
+    record {
+      measure-reached = refl;
+      measure-limited = refl;
+      measure-mirrored = refl;
+      deviation-reached = refl;
+      deviation-limited = refl;
+      performance-reached = refl;
+      performance-limited = refl;
+    }

@@ -1,4 +1,5 @@
--- The listing of the book in which generation weights turn and cancel the sign, from its bytes to its text. The figures are the second program's (tests/worked/).
+-- The listing of the book in which generation weights turn and cancel the sign, from its bytes to its text. The figures are the second
+-- program's (tests/worked/).
 use mathlib.Core.Path.{_≡_, refl}
 use mathlib.Core.List.{_++_}
 use Rattle.rules.specs.Text.{text}
