@@ -136,7 +136,7 @@ fn lower_two_regions() -> Book {
 
 fn default_reasons() -> Book {
     let mut book = base_book();
-    book.settings.bad_unit_percent = 50;
+    book.settings.bad_unit_percent = 66;
     book.settings.interval = 102;
     book.settings.bad_frequency_limit = 74;
     for region in 0..REGIONS {
@@ -205,16 +205,19 @@ fn sign_turned() -> Book {
     book.frequencies[0].generation = 100_000;
     good_only_at(&mut book, 0, &[(1, 49_980_000), (61, 50_020_000)]);
     book.frequencies[1].generation = 200_000;
-    good_only_at(&mut book, 1, &[(1, 49_985_000), (11, 50_030_000)]);
+    good_only_at(&mut book, 1, &[(1, 49_985_000), (11, 50_030_000), (75, 49_990_000)]);
+    good_only_at(&mut book, 2, &[(1, 49_980_000)]);
     book.units = vec![
         unit(1, 0, false, 0, 0, |t| 10 * t),
         unit(2, 1, false, 500, 500, |_| 400),
         unit(3, 1, true, 0, 0, |_| 5),
+        unit(4, 2, false, 0, 0, |_| 10),
     ];
     book.requirements = vec![
         requirement(1, 0b00011, Direction::Raise, 1_800, 999, 600, 900),
         requirement(2, 0b00001, Direction::Raise, 1_800, 999, 600, 600),
         requirement(3, 0b00011, Direction::Lower, 1_800, 999, 600, 0),
+        requirement(4, 0b00100, Direction::Raise, 1_800, 0, 600, 0),
     ];
     book
 }
@@ -281,14 +284,14 @@ fn no_units() -> Book {
     let mut book = base_book();
     book.settings.interval = 0;
     book.settings.bad_frequency_limit = 74;
-    for region in [0, 1] {
+    for region in [1, 2] {
         book.frequencies[region].generation = 10;
         good_only_at(&mut book, region, &[(1, 50_011_000)]);
         book.frequencies[region].defaults = [0, 0, 0, -9, -9, -2];
     }
-    good_only_at(&mut book, 2, &[(1, 50_000_000)]);
+    good_only_at(&mut book, 0, &[(1, 50_000_000)]);
     book.requirements = vec![
-        requirement(0, 0b00011, Direction::Lower, 100, 50, 10, 4),
+        requirement(0, 0b00110, Direction::Lower, 100, 50, 10, 4),
         requirement(1, 0b00111, Direction::Lower, 100, 50, 10, 4),
     ];
     book
@@ -306,15 +309,24 @@ fn one_side() -> Book {
         good_only_at(&mut book, region, &[(1, 49_980_000)]);
         book.frequencies[region].defaults = [-20, -30, 0, 0, 0, 0];
     }
+    book.frequencies[3].generation = 1;
+    good_only_at(&mut book, 3, &[(1, 50_020_000), (8, 49_980_000)]);
+    book.frequencies[4].generation = 10;
+    good_only_at(&mut book, 4, &[(1, 50_020_000)]);
+    book.frequencies[4].defaults = [0, 0, 0, -20, -30, 0];
     book.units = vec![
         unit(1, 0, false, 0, 0, |t| if t <= 7 { 0 } else { 100 }),
         with_bad_readings(with_defaults(unit(2, 1, false, 0, 0, |_| 50), [-5, -10, -1, 0, 0, 0]), 8, 8),
+        unit(3, 3, false, 0, 0, |t| if t <= 7 { 0 } else { -100 }),
+        with_bad_readings(with_defaults(unit(4, 4, false, 0, 0, |_| 50), [0, 0, 0, -5, -10, -1]), 8, 8),
     ];
     book.requirements = vec![
         requirement(1, 0b00011, Direction::Raise, 1_200, 100, 4, 1),
         requirement(2, 0b00101, Direction::Raise, 1_200, 100, 4, 1),
         requirement(3, 0b00001, Direction::Raise, 1_200, 100, 4, 1),
         requirement(4, 0b00001, Direction::Lower, 1_200, 100, 4, 1),
+        requirement(5, 0b11000, Direction::Lower, 1_200, 100, 4, 1),
+        requirement(6, 0b01000, Direction::Lower, 1_200, 100, 4, 1),
     ];
     book
 }
@@ -355,6 +367,7 @@ fn lower_defaults() -> Book {
             1,
             75,
         ),
+        with_defaults(unit(4, 1, false, 1_000, 1_000, |_| 900), [-41, -42, -43, -44, -45, -46]),
     ];
     book.requirements = vec![
         requirement(1, 0b00001, Direction::Lower, 3_000, 5_000, 2_000, 1_000),
@@ -374,11 +387,15 @@ fn edges_of_reliability() -> Book {
         let step = -10 * (region as i128 + 1);
         book.frequencies[region].defaults = [step - 1, step - 2, step - 3, step - 4, step - 5, step - 6];
     }
-    good_only_at(&mut book, 0, &[(1, 50_010_001), (2, 50_000_001), (8, 50_000_000)]);
-    good_only_at(&mut book, 1, &[(1, 50_010_001), (2, 50_000_001), (7, 50_000_000)]);
-    good_only_at(&mut book, 2, &[(1, 50_010_000), (2, 50_010_000), (75, 50_010_000)]);
-    good_only_at(&mut book, 3, &[(1, 49_989_999), (2, 49_999_999), (8, 50_000_000)]);
-    good_only_at(&mut book, 4, &[(1, 49_989_999), (2, 49_999_999), (7, 50_000_000)]);
+    good_only_at(&mut book, 0, &[(1, 50_010_001), (2, 50_000_000), (70, 50_000_001)]);
+    good_only_at(&mut book, 1, &[(1, 50_010_001), (2, 50_000_000), (71, 50_000_001)]);
+    good_only_at(&mut book, 2, &[(1, 50_010_000), (2, 50_010_000), (75, 49_989_999)]);
+    good_only_at(&mut book, 3, &[(1, 50_000_000), (69, 49_999_999), (75, 49_989_999)]);
+    good_only_at(&mut book, 4, &[(1, 50_000_001), (70, 49_999_999), (75, 49_989_999)]);
+    book.frequencies[0].generation = 1;
+    book.frequencies[3].generation = 1;
+    book.units =
+        vec![unit(1, 0, false, 0, 0, |t| if t <= 69 { -t } else { -7 }), unit(2, 3, false, 0, 0, |t| 76 - t)];
     book.requirements = (0..REGIONS)
         .map(|region| {
             let direction = if region < 3 { Direction::Lower } else { Direction::Raise };
@@ -519,7 +536,7 @@ pub fn all() -> Vec<Worked> {
             shows: "Each default reason: unit 20 is a bad unit, region 1 is unreliable by separation,\n\
                     region 2 has no good unit, region 4 is unreliable by FM 10000 at all points.\n\
                     Region 3 has no unit and its residual is live. Requirement 1: one bad of two at\n\
-                    percent 50 keeps RCR. Requirement 2: two bad of three makes RCR 0. Requirement 3:\n\
+                    percent 66 keeps RCR. Requirement 2: two bad of three makes RCR 0. Requirement 3:\n\
                     unreliable regions make RCR and used pool 0.",
             book: default_reasons(),
             behind: &[],
@@ -535,8 +552,10 @@ pub fn all() -> Vec<Worked> {
             name: "sign_turned",
             shows: "Generation weights turn the sign: both regions need raise at t 1 to 10; at t 11 to 60\n\
                     region 0 needs raise, but region 1 weighs more and needs lower. Requirement 1 takes\n\
-                    its RCR at t 10, requirement 2 (region 0 alone) at t 60. Requirement 1 has used over\n\
-                    enabled, requirement 3 used 0.",
+                    its RCR at t 10, requirement 2 (region 0 alone) at t 60. At t 75, where the response is\n\
+                    largest, the weights cancel the sign, and it is neither's: requirement 3 takes its RCR\n\
+                    at t 74. Requirement 1 has used over enabled, requirement 3 used 0. Requirement 4:\n\
+                    a region that needs raise but has no generation, so no sign.",
             book: sign_turned(),
             behind: &[],
         },
@@ -568,7 +587,8 @@ pub fn all() -> Vec<Worked> {
                     but the set, by the weight of the other region, raise. Requirement 1: only a\n\
                     negative side, by the defaults of unit 2 and of region 1's residual. Requirement 2:\n\
                     no side at all, used and unused unplaced. Requirement 3: region 0 alone, where RCR\n\
-                    is 0 too. Requirement 4: lower, where unit 1 hinders and the residual helps.",
+                    is 0 too. Requirement 4: lower, where unit 1 hinders and the residual helps.\n\
+                    Requirements 5 and 6: 1 and 3 mirrored, in regions 3 and 4.",
             book: one_side(),
             behind: &[],
         },
@@ -582,19 +602,21 @@ pub fn all() -> Vec<Worked> {
         Worked {
             name: "lower_defaults",
             shows: "Lower where defaults stand in, in regions whose FM is what few good points left.\n\
-                    Region 0 has 74 bad points, the limit; region 1 is separated; region 2 has 75 bad\n\
+                    Region 0 has 74 bad points, the limit; region 1 is separated, its unit good; region 2 has 75 bad\n\
                     points; region 3 keeps the FM before the interval to t 74 and has no good unit; region\n\
                     4 has FM -10000 throughout. Requirement 1: one bad of two at percent 50 keeps RCR.\n\
-                    Requirement 2: two bad of three makes RCR 0, the used pool stays. The others: no unit,\n\
-                    unreliable.",
+                    Requirement 2: two bad of three makes RCR 0, the used pool stays. The others:\n\
+                    unreliable, without units but for requirement 3.",
             book: lower_defaults(),
             behind: &[],
         },
         Worked {
             name: "edges_of_reliability",
-            shows: "Roster 0, 72 bad points, the limit: they count with the FM that they keep. Lower:\n\
-                    region 0 has one FM of -10001 and six of -1, region 1 five of -1, region 2 FM -10000 at\n\
-                    all points. Raise: region 3 has one FM of 10001 and six of 1, region 4 five of 1.",
+            shows: "72 bad points, the limit: they count with the FM that they keep. Lower: region 0 has one\n\
+                    FM of -10001 at t 1 and six of -1 from t 70 on, region 1 five of -1, region 2 74 of -10000\n\
+                    and one of 10001. Raise: region 3 has six FM of 1 and one of 10001, region 4 five of 1, one\n\
+                    of 10001 and 69 of -1. Units 1 and 2 are furthest from their lines where FM is 0: there is\n\
+                    no sign, and RCR is taken at t 70 and at t 69.",
             book: edges_of_reliability(),
             behind: &[],
         },

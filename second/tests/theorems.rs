@@ -8,6 +8,7 @@ use std::path::{Path, PathBuf};
 
 use common::refusal;
 use second::book::{Refusal, Requirement, Unit, CONTENTS_SIZE};
+use second::cents::payment_pool;
 use second::quantities::Direction;
 use second::share::share;
 use second::sweep::put;
@@ -237,7 +238,58 @@ fn shares_are_refused_so() {
         }
         seen += 1;
     }
-    assert_eq!(seen, 10);
+    assert_eq!(seen, 13);
+}
+
+#[test]
+fn pools_over_given_payments_are_so() {
+    let all = words(&theorems("books", "WorkedAnswers"));
+    let mut seen = 0;
+    for at in 0..all.len() {
+        let [call, _direction, open, rest @ ..] = &all[at..] else { continue };
+        if call != "pool-over" || open != "(" {
+            continue;
+        }
+        let end = rest.iter().position(|word| word == "[]").expect("the end of the payments");
+        let payments: Vec<i128> = rest[..end]
+            .split(|word| word == "∷")
+            .filter(|term| !term.is_empty())
+            .map(|term| match term {
+                [pos, size] if pos == "pos" => number(size),
+                [minus, _, pos, size, _] if minus == "negℤ" && pos == "pos" => -number(size),
+                _ => panic!("no payment: {term:?}"),
+            })
+            .collect();
+        assert_eq!(rest[end + 1..end + 3].join(" "), ") ≡");
+        assert_eq!(payment_pool(1_200, 7_500, &payments), number(&rest[end + 3]), "{payments:?}");
+        seen += 1;
+    }
+    assert_eq!(seen, 4);
+}
+
+#[test]
+fn third_numbers_are_refused_so() {
+    let all = words(&theorems("refused", "ThirdNumbers"));
+    let mut seen = 0;
+    for at in 0..all.len() {
+        let [body, _count, _least, _, concat, _, map, _kind, rest @ ..] = &all[at..] else { continue };
+        if !body.ends_with("-body") || concat != "concat" || map != "map" {
+            continue;
+        }
+        let end = rest.iter().position(|word| word == "[]").expect("the end of the numbers");
+        let numbers = rest[1..end].iter().filter(|word| *word != "∷").map(|word| number(word));
+        let mut book = base_book();
+        if body == "unit-body" {
+            book.units = numbers.map(|number| base_unit(number, 0)).collect();
+            book.requirements = vec![base_requirement(1, 1, Direction::Raise)];
+        } else {
+            book.requirements = numbers.map(|number| base_requirement(number, 1, Direction::Raise)).collect();
+        }
+        let same = rest.iter().position(|word| word == "≡").expect("what it is");
+        assert_eq!(number_of(&to_bytes(&book)), number(&rest[same + 1]), "{at}");
+        seen += 1;
+    }
+    assert_eq!(seen, 4);
 }
 
 /// The bytes of a term such as `with 2276 1 (with 2279 2 paper)` and the words behind it.

@@ -17,7 +17,7 @@ use Rattle.rules.specs.Bytes.{number-at}
 use Rattle.rules.specs.Book.{Requirement}
 use Rattle.rules.specs.Contents.{requirement-size}
 use Rattle.rules.specs.RequirementRecord.{requirement-in, set-fine, requirement-fine, requirement-record}
-use Rattle.rules.specs.LimitsLaws.{passed, took}
+use Rattle.laws.proofs.LimitsLaws.{passed, took}
 use Rattle.interval.specs.declared.Tally.{Tally}
 use Rattle.interval.specs.Tally.{units-end, in-range, answer-turn}
 use Rattle.interval.specs.TallyLaws.{settings-stay}

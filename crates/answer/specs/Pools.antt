@@ -12,9 +12,9 @@ use Rattle.integers.specs.Totals.{totalℕ, total-indexes}
 use Rattle.rules.specs.declared.Direction.the-variants.{Raise}
 use Rattle.rules.specs.Quantities.{total-limit, price-limit}
 use Rattle.rules.specs.Share.{unplaced, unplaced-of}
-use Rattle.rules.specs.ShareLaws.{not-zero}
+use Rattle.laws.proofs.ShareLaws.{not-zero}
 use Rattle.rules.specs.Cents.{priced, any-weight}
-use Rattle.rules.specs.CentsLaws.{priced-within, used-pool-≤}
+use Rattle.laws.proofs.CentsLaws.{priced-within, used-pool-≤}
 
 -- ---- the pools
 -- `up`: a member is helpful; `down`: one is unhelpful

@@ -20,7 +20,7 @@ use Rattle.rules.specs.Quantities.{points, regions, measure-limit, amount-limit
 use Rattle.rules.specs.Bytes.{bit}
 use Rattle.rules.specs.Book.{toward}
 use Rattle.rules.specs.Fields.{sized}
-use Rattle.rules.specs.LimitsLaws.{size-fits}
+use Rattle.laws.proofs.LimitsLaws.{size-fits}
 use Rattle.interval.specs.Lent.{figures-each}
 use Rattle.kept.specs.Kept.{Kept, kept-rcr, kept-reliable, kept-few-bad}
 use Rattle.kept.specs.Range.{series-fine, figures-fine, rows-fine, kept-fine}

@@ -17,7 +17,7 @@ use Rattle.rules.specs.Quantities.{most-units, total-limit, weight-limit, billi
 use Rattle.rules.specs.Cents.{any-weight}
 use Rattle.rules.specs.Refusals.{Reply, taken}
 use Rattle.rules.specs.Share.{weight-sum, weight-at, share-of, unplaced-of, share-reply}
-use Rattle.rules.specs.ShareLaws.{never-left-overs}
+use Rattle.laws.proofs.ShareLaws.{never-left-overs}
 use Rattle.kept.specs.Kept.{Kept, kept-members}
 use Rattle.share.specs.declared.Shared.{Shared}
 use Rattle.share.specs.declared.Shared.the-variants.{Placed}

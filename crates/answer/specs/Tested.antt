@@ -12,7 +12,7 @@ use Rattle.rules.specs.Quantities.{most-units}
 use Rattle.rules.specs.Refusals.{Reply, taken, unless, _>>=_}
 use Rattle.rules.specs.Book.{Requirement}
 use Rattle.rules.specs.RequirementRecord.{requirement-record}
-use Rattle.rules.specs.LimitsLaws.{passed}
+use Rattle.laws.proofs.LimitsLaws.{passed}
 use Rattle.interval.specs.declared.Tally.{Tally}
 use Rattle.interval.specs.Tally.{in-range, answer-turn}
 use Rattle.interval.specs.TallyLaws.{ranged}

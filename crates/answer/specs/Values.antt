@@ -18,7 +18,7 @@ use Rattle.rules.specs.Quantities.{regions, amount-limit, performance-limit, un
 use Rattle.rules.specs.Bytes.{bit}
 use Rattle.rules.specs.Book.{Requirement}
 use Rattle.rules.specs.Fields.{sized, default-fine}
-use Rattle.rules.specs.LimitsLaws.{size-fits}
+use Rattle.laws.proofs.LimitsLaws.{size-fits}
 use Rattle.interval.specs.Lent.{figures-each}
 use Rattle.kept.specs.Kept.{Kept, figure, row-member, residual-row, rows, kept-members}
 use Rattle.kept.specs.Range.{from-0, series-fine, figures-fine, rows-fine, kept-fine}

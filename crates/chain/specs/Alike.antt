@@ -13,7 +13,7 @@ use Rattle.rules.specs.declared.Refusal.{Refusal}
 use Rattle.rules.specs.declared.Refusal.the-variants.{EndsEarly, WrongMark, WrongTable}
 use Rattle.rules.specs.Quantities.{points, regions}
 use Rattle.rules.specs.Bytes.{number-at, signed, integer-at}
-use Rattle.rules.specs.BytesLaws.{number-step, number-none}
+use Rattle.laws.proofs.BytesLaws.{number-step, number-none}
 use Rattle.rules.specs.Refusals.{Reply, taken, unless}
 use Rattle.rules.specs.Contents.{
   contents,

@@ -23,11 +23,11 @@ use Rattle.rules.specs.Measure.{measure-in}
 use Rattle.rules.specs.Reliability.{reliable, reliable-in}
 use Rattle.rules.specs.Deviation.{deviation, good, good-units}
 use Rattle.rules.specs.Performance.{wanted, performance, units-of, unit-performance, residual-performance}
-use Rattle.rules.specs.PerformanceLaws.{residual-is}
+use Rattle.laws.proofs.PerformanceLaws.{residual-is}
 use Rattle.rules.specs.Standings.{standing, unit-standing, some-good-or-none, live-or}
 use Rattle.rules.specs.Members.{Name, unit, residual, Member, unit-member, over-regions, each-region, residual-or, residual-member, unit-members, members}
 use Rattle.rules.specs.Rcr.{weighed-measure, response, all-reliable, few-bad, rcr}
-use Rattle.rules.specs.RcrLaws.{response-is}
+use Rattle.laws.proofs.RcrLaws.{response-is}
 use Rattle.rules.specs.Answer.{answered, answer}
 use Rattle.interval.specs.Lent.{series-start}
 use Rattle.chain.specs.ChainLaws.{listed-shift}

@@ -13,7 +13,7 @@ use Rattle.rules.specs.declared.Direction.{Direction}
 use Rattle.rules.specs.declared.Direction.the-variants.{Raise, Lower}
 use Rattle.rules.specs.Quantities.{regions}
 use Rattle.rules.specs.Bytes.{listed}
-use Rattle.rules.specs.BytesLaws.{listed-from-zero}
+use Rattle.laws.proofs.BytesLaws.{listed-from-zero}
 use Rattle.rules.specs.Refusals.{taken}
 use Rattle.rules.specs.Contents.{frequency-start, unit-start, requirement-start, requirement-size}
 use Rattle.rules.specs.FrequencyRecord.{region-in}
@@ -21,8 +21,8 @@ use Rattle.rules.specs.UnitRecord.{unit-in}
 use Rattle.rules.specs.RequirementRecord.{requirement-in}
 use Rattle.rules.specs.WholeBook.{book}
 use Rattle.rules.specs.Book.{Settings, Region, Unit, Requirement, Book, regionOf, no-region}
-use Rattle.rules.specs.Limits.{UnitFits, BookFits}
-use Rattle.rules.specs.LimitsLaws.{settings-fit, region-fits}
+use Rattle.laws.proofs.Limits.{UnitFits, BookFits}
+use Rattle.laws.proofs.LimitsLaws.{settings-fit, region-fits}
 use Rattle.rules.specs.Measure.{measure}
 use Rattle.rules.specs.Deviation.{deviation, good-units, units-in}
 use Rattle.rules.specs.Performance.{wanted, performance, unit-performance}

@@ -33,7 +33,7 @@ use Rattle.rules.specs.FrequencyRecord.{region-in, frequency-record}
 use Rattle.rules.specs.UnitRecord.{unit-in, unit-record}
 use Rattle.rules.specs.RequirementRecord.{requirement-in, requirement-record}
 use Rattle.rules.specs.WholeBook.{frequency-body, unit-body, requirement-body, book}
-use Rattle.rules.specs.LimitsLaws.{took, went-on}
+use Rattle.laws.proofs.LimitsLaws.{took, went-on}
 use Rattle.interval.specs.Tally.{before-units}
 use Rattle.chain.specs.ChainLaws.{or-true, listed-shift}
 use Rattle.chain.specs.Taken.{counts-in, contents-is, region-is, unit-is, requirement-is}

@@ -20,7 +20,7 @@ use Rattle.rules.specs.Book.{Unit, Requirement}
 use Rattle.rules.specs.Contents.{Counts, contents}
 use Rattle.rules.specs.UnitRecord.{unit-in}
 use Rattle.rules.specs.RequirementRecord.{requirement-in}
-use Rattle.rules.specs.LimitsLaws.{unit-fits}
+use Rattle.laws.proofs.LimitsLaws.{unit-fits}
 use Rattle.interval.specs.declared.Tally.{Tally}
 use Rattle.interval.specs.declared.Opened as o
 use Rattle.interval.specs.declared.Step.{Step}

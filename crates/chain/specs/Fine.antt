@@ -20,13 +20,13 @@ use Rattle.rules.specs.Quantities.{points, regions, measure-limit, amount-limit
 use Rattle.rules.specs.Book.{by, ByDirection, Settings, Defaults, Region, Unit, Book, regionOf}
 use Rattle.rules.specs.Fields.{default-fine, sized}
 use Rattle.rules.specs.UnitRecord.{unit-in}
-use Rattle.rules.specs.Limits.{DefaultFits, DefaultsFit, UnitFits, BookFits}
+use Rattle.laws.proofs.Limits.{DefaultFits, DefaultsFit, UnitFits, BookFits}
 use Rattle.rules.specs.Reliability.{reliable}
 use Rattle.rules.specs.Deviation.{deviation, good, good-units}
-use Rattle.rules.specs.DeviationLaws.{deviation-within}
+use Rattle.laws.proofs.DeviationLaws.{deviation-within}
 use Rattle.rules.specs.Performance.{wanted, units-of, unit-performance}
-use Rattle.rules.specs.PerformanceLaws.{wanted-within}
-use Rattle.rules.specs.MembersLaws.{measure-in-within, unit-performance-within}
+use Rattle.laws.proofs.PerformanceLaws.{wanted-within}
+use Rattle.laws.proofs.MembersLaws.{measure-in-within, unit-performance-within}
 use Rattle.interval.specs.Lent.{series-start, figures-of, place-of, six}
 use Rattle.kept.specs.Kept.{Kept, figure}
 use Rattle.chain.specs.Keeps.{Keeps}

@@ -15,21 +15,21 @@ use Rattle.rules.specs.declared.Direction.{Direction}
 use Rattle.rules.specs.declared.Direction.the-variants.{Raise, Lower}
 use Rattle.rules.specs.Quantities.{points, regions, most-units, most-requirements, measure-limit, deviation-limit}
 use Rattle.rules.specs.Bytes.{number-at}
-use Rattle.rules.specs.BytesLaws.{number-below}
+use Rattle.laws.proofs.BytesLaws.{number-below}
 use Rattle.rules.specs.Book.{Unit}
 use Rattle.rules.specs.SettingsRecord.{settings}
 use Rattle.rules.specs.FrequencyRecord.{frequency-record}
 use Rattle.rules.specs.UnitRecord.{unit-record}
 use Rattle.rules.specs.RequirementRecord.{requirement-record}
 use Rattle.rules.specs.Fields.{good-at}
-use Rattle.rules.specs.Limits.{UnitFits}
-use Rattle.rules.specs.LimitsLaws.{settings-fit, region-fits, unit-fits}
+use Rattle.laws.proofs.Limits.{UnitFits}
+use Rattle.laws.proofs.LimitsLaws.{settings-fit, region-fits, unit-fits}
 use Rattle.rules.specs.Measure.{measure}
-use Rattle.rules.specs.MeasureLaws.{measure-within}
+use Rattle.laws.proofs.MeasureLaws.{measure-within}
 use Rattle.rules.specs.Deviation.{deviation, good}
-use Rattle.rules.specs.DeviationLaws.{deviation-within}
+use Rattle.laws.proofs.DeviationLaws.{deviation-within}
 use Rattle.rules.specs.Performance.{wanted}
-use Rattle.rules.specs.PerformanceLaws.{wanted-within}
+use Rattle.laws.proofs.PerformanceLaws.{wanted-within}
 use Rattle.interval.specs.declared.Tally.{Tally}
 use Rattle.interval.specs.Tally.{before-units, units-end, book-end, units-taken, in-range, settings-kept}
 use Rattle.interval.specs.Lent.{series-start, series-length, figures-length, region-sized, named-region, series-in-range}

@@ -12,13 +12,13 @@ use Rattle.integers.specs.Sums.{both}
 use Rattle.integers.specs.Fills.{filled-length}
 use Rattle.rules.specs.declared.Refusal.the-variants.{EndsEarly, BytesFollow, RequirementField}
 use Rattle.rules.specs.Bytes.{number-at}
-use Rattle.rules.specs.BytesLaws.{listed-from-zero}
+use Rattle.laws.proofs.BytesLaws.{listed-from-zero}
 use Rattle.rules.specs.Refusals.{taken}
 use Rattle.rules.specs.Book.{Requirement, Book}
 use Rattle.rules.specs.Contents.{Counts, requirement-size}
 use Rattle.rules.specs.RequirementRecord.{requirement-in, requirement-fine, requirement-record}
 use Rattle.rules.specs.WholeBook.{requirement-body, book}
-use Rattle.rules.specs.LimitsLaws.{passed}
+use Rattle.laws.proofs.LimitsLaws.{passed}
 use Rattle.rules.specs.Answer.{answer}
 use Rattle.interval.specs.declared.Tally.{Tally}
 use Rattle.interval.specs.Tally.{before-units, units-end, in-range}

@@ -20,7 +20,7 @@ use Rattle.rules.specs.FrequencyRecord.{frequency-record}
 use Rattle.rules.specs.UnitRecord.{unit-record}
 use Rattle.rules.specs.RequirementRecord.{requirement-in, requirement-fine, requirement-record}
 use Rattle.rules.specs.WholeBook.{book}
-use Rattle.rules.specs.LimitsLaws.{passed}
+use Rattle.laws.proofs.LimitsLaws.{passed}
 use Rattle.interval.specs.declared.Tally.{Tally}
 use Rattle.interval.specs.Tally.{before-units}
 use Rattle.chain.specs.Taken.{counts-in, contents-is}

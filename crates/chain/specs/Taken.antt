@@ -21,7 +21,7 @@ use Rattle.rules.specs.Fields.{spare-bits-zero, defaults-fine, sized}
 use Rattle.rules.specs.FrequencyRecord.{region-in, frequencies-fine, frequency-record}
 use Rattle.rules.specs.UnitRecord.{unit-in, readings-fine, unit-record}
 use Rattle.rules.specs.RequirementRecord.{requirement-in, requirement-fine, requirement-record}
-use Rattle.rules.specs.LimitsLaws.{passed, took}
+use Rattle.laws.proofs.LimitsLaws.{passed, took}
 use Rattle.interval.specs.declared.Tally.{Tally}
 use Rattle.interval.specs.declared.Taking as k
 use Rattle.interval.specs.declared.Step.{Step}

@@ -20,14 +20,14 @@ use Rattle.rules.specs.Quantities.{points}
 use Rattle.rules.specs.Bytes.{listed}
 use Rattle.rules.specs.Book.{Unit, Book}
 use Rattle.rules.specs.Deviation.{turned, deviation, good, good-units, residual-deviation}
-use Rattle.rules.specs.DeviationLaws.{deviation-closes}
+use Rattle.laws.proofs.DeviationLaws.{deviation-closes}
 use Rattle.rules.specs.Performance.{residual-performance}
 use Rattle.rules.specs.Text.{text, words}
 use Rattle.rules.specs.Listing.{refused-line, settle}
-use Rattle.rules.specs.Writing.{book-bytes}
-use Rattle.rules.specs.PaperBook.{zeros, first, second, paper-book}
+use Rattle.books.specs.Writing.{book-bytes}
+use Rattle.books.specs.PaperBook.{zeros, first, second, paper-book}
 use Rattle.paper.specs.PaperListing.{paper-listing}
-use Rattle.rules.specs.Computing.{computing}
+use Rattle.books.specs.Computing.{computing}
 use Rattle.closing.specs.Parts.{Parts}
 use Rattle.closing.specs.Drawn.{with-roster}
 use Rattle.closing.specs.PaperCloses.{generator, generator-parts}

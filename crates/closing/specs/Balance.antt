@@ -36,12 +36,12 @@ use Rattle.rules.specs.Measure.{measure-in}
 use Rattle.rules.specs.Reliability.{reliable-in}
 use Rattle.rules.specs.Deviation.{deviation, good, good-units}
 use Rattle.rules.specs.Performance.{performance, units-of, unit-performance, residual-performance}
-use Rattle.rules.specs.PerformanceLaws.{residual-is}
+use Rattle.laws.proofs.PerformanceLaws.{residual-is}
 use Rattle.rules.specs.Standings.{standing, unit-standing, some-good-or-none, residual-standing, is-live, live-or}
 use Rattle.rules.specs.Members.{unit-member, over-regions, each-region, residual-or, residual-member, unit-members, members}
 use Rattle.rules.specs.Refusals.{taken}
 use Rattle.rules.specs.WholeBook.{book}
-use Rattle.rules.specs.LimitsLaws.{book-fits}
+use Rattle.laws.proofs.LimitsLaws.{book-fits}
 use Rattle.closing.specs.Parties.{some-helpful, some-unhelpful, no-default, Placed}
 use Rattle.closing.specs.PartiesLaws.{some-helpful-is, some-unhelpful-is}
 

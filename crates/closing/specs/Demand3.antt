@@ -14,12 +14,12 @@ use Rattle.rules.specs.Refusals.{taken}
 use Rattle.rules.specs.Book.{Unit, Requirement, covers, Book}
 use Rattle.rules.specs.WholeBook.{book}
 use Rattle.rules.specs.Deviation.{deviation, good-units, residual-deviation}
-use Rattle.rules.specs.DeviationLaws.{deviation-closes}
+use Rattle.laws.proofs.DeviationLaws.{deviation-closes}
 use Rattle.rules.specs.Performance.{units-of, unit-performance, residual-performance}
 use Rattle.rules.specs.Standings.{unit-standing, residual-standing, is-live}
 use Rattle.rules.specs.Members.{unit-member, residual-or, members}
 use Rattle.rules.specs.Cents.{priced}
-use Rattle.rules.specs.CentsLaws.{credits-are-the-pool, debits-are-the-pool}
+use Rattle.laws.proofs.CentsLaws.{credits-are-the-pool, debits-are-the-pool}
 use Rattle.rules.specs.Answer.{answered, answer}
 use Rattle.closing.specs.Parties.{some-helpful, some-unhelpful, no-default, Placed}
 use Rattle.closing.specs.PartiesLaws.{helpful-weighs, unhelpful-weighs}

@@ -12,15 +12,15 @@ use Rattle.rules.specs.declared.Direction.the-variants.{Raise, Lower}
 use Rattle.rules.specs.declared.Kind.the-variants.{Generation}
 use Rattle.rules.specs.Quantities.{points}
 use Rattle.rules.specs.Refusals.{taken}
-use Rattle.rules.specs.BytesLaws.{listed-from-zero}
+use Rattle.laws.proofs.BytesLaws.{listed-from-zero}
 use Rattle.rules.specs.Book.{ByDirection, by, Defaults, Unit, Book}
 use Rattle.rules.specs.WholeBook.{book}
 use Rattle.rules.specs.Performance.{unit-performance}
 use Rattle.rules.specs.Standings.{residual-standing, is-live}
 use Rattle.rules.specs.Rcr.{response}
-use Rattle.rules.specs.Writing.{book-bytes, flat}
-use Rattle.rules.specs.PaperBook.{none, requirement, paper-book}
-use Rattle.rules.specs.Computing.{computing}
+use Rattle.books.specs.Writing.{book-bytes, flat}
+use Rattle.books.specs.PaperBook.{none, requirement, paper-book}
+use Rattle.books.specs.Computing.{computing}
 use Rattle.integers.specs.Totals.{all, All}
 use Rattle.closing.specs.Parties.{some, some-helpful, some-unhelpful, no-default}
 use Rattle.closing.specs.Parts.{Parts, DefaultsAddUp}

@@ -13,7 +13,7 @@ use Rattle.rules.specs.Book.{Unit, Book}
 use Rattle.rules.specs.Measure.{measure-in}
 use Rattle.rules.specs.Deviation.{turned, line, deviation}
 use Rattle.rules.specs.Performance.{performance, unit-performance}
-use Rattle.rules.specs.PerformanceLaws.{performance-ext, performance-plus}
+use Rattle.laws.proofs.PerformanceLaws.{performance-ext, performance-plus}
 use Rattle.closing.specs.Parts.{Parts}
 
 -- at a point, by the paper's t

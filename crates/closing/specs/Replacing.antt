@@ -17,7 +17,7 @@ use Rattle.rules.specs.Measure.{measure-in}
 use Rattle.rules.specs.Reliability.{reliable-in}
 use Rattle.rules.specs.Deviation.{deviation, good, units-in, good-units, residual-deviation}
 use Rattle.rules.specs.Performance.{units-of, unit-performance, residual-performance}
-use Rattle.rules.specs.PerformanceLaws.{performance-ext}
+use Rattle.laws.proofs.PerformanceLaws.{performance-ext}
 use Rattle.rules.specs.Standings.{standing, unit-standing, some-good-or-none, residual-standing, live-or}
 use Rattle.rules.specs.Members.{unit-member, residual-member, unit-members, members}
 use Rattle.rules.specs.Rcr.{weighed-measure, all-reliable, rcr}

@@ -11,7 +11,7 @@ use Rattle.rules.specs.Refusals.{taken}
 use Rattle.rules.specs.Quantities.{most-units}
 use Rattle.rules.specs.Book.{Requirement, Book}
 use Rattle.rules.specs.WholeBook.{book}
-use Rattle.rules.specs.LimitsLaws.{book-fits}
+use Rattle.laws.proofs.LimitsLaws.{book-fits}
 use Rattle.interval.specs.declared.Tally.{Tally}
 use Rattle.interval.specs.Tally.{before-units}
 use Rattle.chain.specs.Taken.{counts-in}

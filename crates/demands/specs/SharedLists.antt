@@ -16,7 +16,7 @@ use Rattle.rules.specs.Quantities.{points}
 use Rattle.rules.specs.Bytes.{listed}
 use Rattle.rules.specs.Refusals.{Reply, taken, refused}
 use Rattle.rules.specs.Book.{Region, Unit}
-use Rattle.rules.specs.LimitsLaws.{passed}
+use Rattle.laws.proofs.LimitsLaws.{passed}
 use Rattle.rules.specs.Deviation.{deviation}
 use Rattle.interval.specs.declared.Tally.{Tally}
 use Rattle.interval.specs.declared.Step.{Step}

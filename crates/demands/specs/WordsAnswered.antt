@@ -14,13 +14,13 @@ use Rattle.rules.specs.declared.Standing.{Standing}
 use Rattle.rules.specs.declared.Standing.the-variants.{Live}
 use Rattle.rules.specs.declared.Refusal.the-variants.{EndsEarly, RequirementField}
 use Rattle.rules.specs.Bytes.{number-at}
-use Rattle.rules.specs.BytesLaws.{byte-is}
+use Rattle.laws.proofs.BytesLaws.{byte-is}
 use Rattle.rules.specs.Refusals.{taken}
 use Rattle.rules.specs.Book.{Requirement, covers, Book}
 use Rattle.rules.specs.Contents.{requirement-size}
 use Rattle.rules.specs.RequirementRecord as r
 use Rattle.rules.specs.RequirementRecord.{requirement-in, requirement-fine, requirement-record}
-use Rattle.rules.specs.LimitsLaws.{passed}
+use Rattle.laws.proofs.LimitsLaws.{passed}
 use Rattle.rules.specs.Members.{unit, residual}
 use Rattle.rules.specs.Answer.{Line, answer}
 use Rattle.interval.specs.declared.Tally.{Tally}

@@ -14,7 +14,7 @@ use Rattle.rules.specs.Quantities.{points}
 use Rattle.rules.specs.Refusals.{Reply, taken, refused, unless}
 use Rattle.rules.specs.Book.{Settings}
 use Rattle.rules.specs.Contents.{Counts, contents}
-use Rattle.rules.specs.LimitsLaws.{settings-fit}
+use Rattle.laws.proofs.LimitsLaws.{settings-fit}
 use Rattle.interval.specs.declared.Tally.{Tally}
 use Rattle.interval.specs.declared.Opened as o
 use Rattle.interval.specs.declared.Taking.{Taking}

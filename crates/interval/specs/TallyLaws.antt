@@ -7,7 +7,7 @@ use lib.Dec.{leb, ltb}
 use borrow.Author.Tests.{leb-true, ltb-true, ltb-false, lt-ltb, le-ltb, ne-eqb}
 use Rattle.integers.specs.Sums.{both}
 use Rattle.rules.specs.Quantities.{most-units, most-requirements}
-use Rattle.rules.specs.Limits.{SettingsFit}
+use Rattle.laws.proofs.Limits.{SettingsFit}
 use Rattle.interval.specs.declared.Tally.{Tally}
 use Rattle.interval.specs.Tally.{settings-of, before-units, units-end, book-end, most-records, settings-kept, in-range, frequency-turn, requirement-turn}
 

@@ -7,7 +7,7 @@ use native.Mathlib.Omega.{arith}
 use lib.IntN.{ℤ}
 use lib.ListN.{length}
 use Rattle.rules.specs.Bytes.{number-at, integer-at, signed}
-use Rattle.rules.specs.BytesLaws.{number-parts, number-past}
+use Rattle.laws.proofs.BytesLaws.{number-parts, number-past}
 
 -- n bytes at a place, as an unsigned number and as a signed one
 pub record Unsigned (n place : ℕ) (bytes : List ℕ) (r : ℕ) : Type 0 where

@@ -6,9 +6,9 @@ use Prim.Native.Nat.{ℕ}
 use lib.ListN.{length, take}
 use Rattle.rules.specs.Text.{text}
 use Rattle.rules.specs.Listing.{settle}
-use Rattle.rules.specs.Writing.{book-bytes}
-use Rattle.rules.specs.PaperBook.{paper-book}
-use Rattle.rules.specs.Computing.{computing}
+use Rattle.books.specs.Writing.{book-bytes}
+use Rattle.books.specs.PaperBook.{paper-book}
+use Rattle.books.specs.Computing.{computing}
 
 -- what the listing has after its first line
 abbrev pub paper-lines : List ℕ

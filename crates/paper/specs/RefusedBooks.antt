@@ -7,9 +7,9 @@ use lib.ListN.{set}
 use Rattle.rules.specs.Refusals.{number, Reply, taken, refused}
 use Rattle.rules.specs.Book.{Book}
 use Rattle.rules.specs.WholeBook.{book}
-use Rattle.rules.specs.Writing.{book-bytes}
-use Rattle.rules.specs.PaperBook.{paper-book}
-use Rattle.rules.specs.Computing.{computing}
+use Rattle.books.specs.Writing.{book-bytes}
+use Rattle.books.specs.PaperBook.{paper-book}
+use Rattle.books.specs.Computing.{computing}
 
 -- 0 where the book is taken
 abbrev number-of : Reply Book → ℕ

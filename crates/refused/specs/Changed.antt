@@ -14,8 +14,8 @@ use Rattle.rules.specs.Refusals.{number, Reply, taken, refused}
 use Rattle.rules.specs.Bytes.{listed}
 use Rattle.rules.specs.Book.{Book}
 use Rattle.rules.specs.WholeBook.{book}
-use Rattle.rules.specs.Writing.{bytes, book-bytes}
-use Rattle.rules.specs.WorkedBooks.{every-field}
+use Rattle.books.specs.Writing.{bytes, book-bytes}
+use Rattle.books.specs.WorkedBooks.{every-field}
 
 -- the number of the refusal, 0 where the book is taken
 abbrev pub number-of : Reply Book → ℕ

@@ -12,8 +12,8 @@ use Rattle.rules.specs.Contents.{contents}
 use Rattle.rules.specs.SettingsRecord.{settings}
 use Rattle.rules.specs.FrequencyRecord.{region-in, frequency-record}
 use Rattle.rules.specs.WholeBook.{frequency-body, unit-body, requirement-body, book}
-use Rattle.rules.specs.Writing.{bytes, concat, bits, regions-bytes, book-bytes}
-use Rattle.rules.specs.WorkedBooks.{every-field}
+use Rattle.books.specs.Writing.{bytes, concat, bits, regions-bytes, book-bytes}
+use Rattle.books.specs.WorkedBooks.{every-field}
 use Rattle.refused.specs.Changed.{Next}
 
 abbrev pub units : List ℕ → Reply Book

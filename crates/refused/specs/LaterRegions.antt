@@ -1,7 +1,7 @@
 -- Frequency records behind the first (01, The book), at 432, 1168 and 1536: a book that ends behind them.
 use mathlib.Core.Path.{_≡_, refl}
 use mathlib.Core.List.{[], _∷_}
-use Rattle.rules.specs.Computing.{computing}
+use Rattle.books.specs.Computing.{computing}
 use Rattle.refused.specs.Changed.{with, Alone}
 
 -- regions 0 to 4 in order

@@ -1,3 +1,4 @@
+pub mod Numbers
 pub mod Changed
 pub mod TableFields
 pub mod SettingsFields
@@ -7,6 +8,7 @@ pub mod FrequenciesTaken
 pub mod UnitFields
 pub mod UnitPoints
 pub mod UnitNumbers
+pub mod ThirdNumbers
 pub mod UnitsTaken
 pub mod RequirementFields
 pub mod ShareLimits

@@ -2,7 +2,7 @@
 use mathlib.Core.Path.{_≡_, refl}
 use mathlib.Core.List.{[], _∷_}
 use Rattle.integers.specs.Totals.{all}
-use Rattle.rules.specs.Computing.{computing}
+use Rattle.books.specs.Computing.{computing}
 use Rattle.refused.specs.Changed.{with, all-changed, Alone, Together, alone-later, together-later}
 use Rattle.refused.specs.UnitsTaken.{units-taken}
 
@@ -42,7 +42,9 @@ pub enabled-and-used :
 unfolding computing all
 enabled-and-used = alone-later units-taken refl refl
 
--- the last requirement's fields too
-pub last-fields : Alone 2_648 2_696 10 (with 2_674 1 0 ∷ with 2_675 1 2 ∷ with 2_692 4 2_000_001 ∷ [])
+-- the last requirement's fields too, which asks for lower
+pub last-fields :
+    Alone 2_648 2_696 10
+    (with 2_674 1 0 ∷ with 2_675 1 2 ∷ with 2_676 4 10_000_001 ∷ with 2_680 8 1_000_000_000_001 ∷ with 2_688 4 2_000_001 ∷ with 2_692 4 2_000_001 ∷ [])
 unfolding computing all
 last-fields = alone-later units-taken refl refl

@@ -1,7 +1,7 @@
 -- The settings record (01, The book), at 56: a book that ends behind it. A record that is taken gives 1, since nothing follows it.
 use mathlib.Core.Path.{_≡_, refl}
 use mathlib.Core.List.{[], _∷_}
-use Rattle.rules.specs.Computing.{computing}
+use Rattle.books.specs.Computing.{computing}
 use Rattle.refused.specs.Changed.{with, all-changed, Alone, Together}
 
 -- u16 smoothing a, 1 to 10,000; u8 bad-frequency limit, 0 to 75; u8 bad-unit percent, 0 to 100; u32 interval number

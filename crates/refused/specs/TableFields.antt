@@ -3,8 +3,8 @@ use mathlib.Core.Path.{_≡_, refl}
 use mathlib.Core.List.{List, [], _∷_, _++_}
 use Prim.Native.Nat.{ℕ, _+_, _*_}
 use lib.ListN.{take}
-use Rattle.rules.specs.Writing.{entry-bytes}
-use Rattle.rules.specs.Computing.{computing}
+use Rattle.books.specs.Writing.{entry-bytes}
+use Rattle.books.specs.Computing.{computing}
 use Rattle.refused.specs.Changed.{refusal, base, with, all-changed, Alone, Together}
 
 pub unchanged : Together 0 56 1 []
@@ -74,6 +74,27 @@ pub lengths :
     ∷ [])
 unfolding computing
 lengths = record { numbers = refl }
+
+-- the first wrong field by its place gives the number: the mark, the entry count, an offset, a length; a count before the next entry's kind
+pub mark-first : Together 0 56 2 (with 3 1 0x32 ∷ with 4 2 5 ∷ [])
+unfolding computing all-changed
+mark-first = record { number = refl }
+
+pub entries-first : Together 0 56 3 (with 4 2 5 ∷ with 10 2 2 ∷ [])
+unfolding computing all-changed
+entries-first = record { number = refl }
+
+pub offset-first : Together 0 56 3 (with 12 4 57 ∷ with 22 2 6 ∷ [])
+unfolding computing all-changed
+offset-first = record { number = refl }
+
+pub length-first : Together 0 56 3 (with 28 4 1_841 ∷ with 34 2 513 ∷ [])
+unfolding computing all-changed
+length-first = record { number = refl }
+
+pub count-first : Together 0 56 5 (with 34 2 513 ∷ with 44 2 5 ∷ [])
+unfolding computing all-changed
+count-first = record { number = refl }
 
 -- tables for so many units and requirements, with the offsets and lengths that belong to them
 abbrev table : ℕ → ℕ → List ℕ

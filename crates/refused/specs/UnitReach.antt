@@ -4,13 +4,14 @@ use mathlib.Core.Bool.{true}
 use lib.IntN.{pos, negℤ}
 use Rattle.rules.specs.declared.Direction.the-variants.{Raise}
 use Rattle.rules.specs.declared.Kind.the-variants.{Generation}
-use Rattle.rules.specs.Quantities.{deviation-limit, performance-limit}
+use Rattle.rules.specs.Quantities.{measure-limit, lowest-frequency, highest-frequency, deviation-limit, performance-limit}
 use Rattle.rules.specs.Book.{Unit}
+use Rattle.rules.specs.Measure.{smoothed}
 use Rattle.rules.specs.Deviation.{deviation}
 use Rattle.rules.specs.Performance.{performance}
-use Rattle.rules.specs.Writing.{flat}
-use Rattle.rules.specs.PaperBook.{zeros}
-use Rattle.rules.specs.Computing.{computing}
+use Rattle.books.specs.Writing.{flat}
+use Rattle.books.specs.PaperBook.{zeros}
+use Rattle.books.specs.Computing.{computing}
 
 -- a flat trajectory at the lowest power, and the highest readings
 abbrev largest : Unit
@@ -26,7 +27,11 @@ largest =
       reading = flat (pos 100_000);
     }
 
+-- the lowest frequency gives the largest FM, the highest the lowest
 pub record UnitReach : Type 0 where
+  pub measure-reached : smoothed 10_000 (pos 0) 45_000_000 ≡ pos 5_000_000
+  pub measure-limited : pos measure-limit ≡ smoothed 10_000 (pos 0) lowest-frequency
+  pub measure-mirrored : negℤ (pos measure-limit) ≡ smoothed 10_000 (pos 0) highest-frequency
   pub deviation-reached : deviation largest 74 ≡ pos 15_000_000
   pub deviation-limited : pos deviation-limit ≡ deviation largest 74
   pub performance-reached : performance Raise (λ t. pos 5_000_000) (deviation largest) ≡ pos 5_625_000_000_000_000
@@ -34,4 +39,13 @@ pub record UnitReach : Type 0 where
 
 pub unit-reach : UnitReach
 unfolding computing
-unit-reach = record { deviation-reached = refl; deviation-limited = refl; performance-reached = refl; performance-limited = refl }
+unit-reach =
+    record {
+      measure-reached = refl;
+      measure-limited = refl;
+      measure-mirrored = refl;
+      deviation-reached = refl;
+      deviation-limited = refl;
+      performance-reached = refl;
+      performance-limited = refl;
+    }

@@ -6,7 +6,7 @@ use Rattle.rules.specs.Refusals.{Reply, taken, _>>=_}
 use Rattle.rules.specs.Book.{Book}
 use Rattle.rules.specs.UnitRecord.{unit-in, unit-record}
 use Rattle.rules.specs.WholeBook.{unit-body, requirement-body}
-use Rattle.rules.specs.WorkedBooks.{every-field}
+use Rattle.books.specs.WorkedBooks.{every-field}
 use Rattle.refused.specs.Changed.{Next}
 use Rattle.refused.specs.FrequenciesTaken.{before-units}
 

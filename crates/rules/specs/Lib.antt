@@ -23,24 +23,3 @@ pub mod Cents
 pub mod Answer
 pub mod Text
 pub mod Listing
--- Worked books, as theorems by computing
-pub mod Writing
-pub mod Computing
-pub mod PaperBook
-pub mod Edges
-pub mod WorkedBooks
-pub mod WorkedAnswers
--- Laws of the definitions
-pub mod RefusalLaws
-pub mod Limits
-pub mod LimitsLaws
-pub mod MeasureLaws
-pub mod DeviationLaws
-pub mod PerformanceLaws
-pub mod RcrLaws
-pub mod MembersLaws
-pub mod BytesLaws
-pub mod RecordLaws
-pub mod ShareLaws
-pub mod CentsLaws
-pub mod SeriesLaws

@@ -1,5 +1,5 @@
 // rules: what the interval calculator works out, as definitions. They stand in specs/, in the order in which a book is read and
-// worked through; beside each stand its laws. Here are the few types that definitions and code share, and the number of a refusal.
+// worked through. Here are the few types that definitions and code share, and the number of a refusal.
 ghost use mathlib.Core.Path.{_≡_};
 ghost use Rattle.rules.specs.Refusals.{number};
 

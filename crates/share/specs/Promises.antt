@@ -16,7 +16,7 @@ use Rattle.rules.specs.declared.Refusal.the-variants.{TooShort, WrongCount, Lef
 use Rattle.rules.specs.Quantities.{total-limit, weight-limit}
 use Rattle.rules.specs.Refusals.{Reply, taken, refused, unless}
 use Rattle.rules.specs.Share.{weight-at, share-of, unplaced, share-reply}
-use Rattle.rules.specs.ShareLaws.{not-zero, left-overs-few}
+use Rattle.laws.proofs.ShareLaws.{not-zero, left-overs-few}
 use Rattle.share.specs.declared.Shared.{Shared}
 use Rattle.share.specs.declared.Shared.the-variants.{Placed, Refused}
 use Rattle.share.specs.declared.Tested.{Tested}

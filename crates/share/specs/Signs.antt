@@ -13,7 +13,7 @@ use Rattle.integers.specs.Fills.{filled, filled-at, filled-again, filled-ext, f
 use Rattle.integers.specs.Sums.{sumℕ-term}
 use Rattle.rules.specs.declared.Refusal.{Refusal}
 use Rattle.rules.specs.Refusals.{Reply, taken, refused}
-use Rattle.rules.specs.ShareLaws.{no-weight-no-amount}
+use Rattle.laws.proofs.ShareLaws.{no-weight-no-amount}
 use Rattle.rules.specs.Share.{weight-at, share-of, share-reply}
 use Rattle.share.specs.declared.weights.Source.{Source}
 use Rattle.share.specs.declared.weights.Source.the-variants.{Helpful, Unhelpful}

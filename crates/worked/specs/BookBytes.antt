@@ -6,10 +6,10 @@ use Prim.Native.Nat.{ℕ, _-_, _%_, _^_}
 use lib.ListN.{length}
 use Rattle.rules.specs.Bytes.{little}
 use Rattle.rules.specs.Book.{Book}
-use Rattle.rules.specs.Writing.{book-bytes}
-use Rattle.rules.specs.PaperBook.{paper-book}
-use Rattle.rules.specs.Computing.{computing}
-use Rattle.rules.specs.WorkedBooks.{
+use Rattle.books.specs.Writing.{book-bytes}
+use Rattle.books.specs.PaperBook.{paper-book}
+use Rattle.books.specs.Computing.{computing}
+use Rattle.books.specs.WorkedBooks.{
   lower-two-regions,
   default-reasons,
   bad-frequency-points,
@@ -39,7 +39,7 @@ pub lower-two-regions-bytes : Written lower-two-regions 3_464 942_753_594_471_13
 unfolding computing
 lower-two-regions-bytes = record { long = refl; same = refl }
 
-pub default-reasons-bytes : Written default-reasons 3_464 1_408_092_620_199_213_228
+pub default-reasons-bytes : Written default-reasons 3_464 1_408_655_570_152_634_540
 unfolding computing
 default-reasons-bytes = record { long = refl; same = refl }
 
@@ -47,7 +47,7 @@ pub bad-frequency-points-bytes : Written bad-frequency-points 3_068 1_779_637_71
 unfolding computing
 bad-frequency-points-bytes = record { long = refl; same = refl }
 
-pub sign-turned-bytes : Written sign-turned 3_092 232_473_964_471_579_033
+pub sign-turned-bytes : Written sign-turned 3_488 203_926_729_283_603_556
 unfolding computing
 sign-turned-bytes = record { long = refl; same = refl }
 
@@ -63,19 +63,19 @@ pub ties-bytes : Written ties 3_788 620_946_666_678_711_222
 unfolding computing
 ties-bytes = record { long = refl; same = refl }
 
-pub no-units-bytes : Written no-units 1_952 1_327_595_529_959_441_035
+pub no-units-bytes : Written no-units 1_952 158_308_877_779_805_867
 unfolding computing
 no-units-bytes = record { long = refl; same = refl }
 
-pub one-side-bytes : Written one-side 2_744 490_266_685_620_937_649
+pub one-side-bytes : Written one-side 3_536 1_316_630_522_335_365_918
 unfolding computing
 one-side-bytes = record { long = refl; same = refl }
 
-pub lower-defaults-bytes : Written lower-defaults 3_140 2_121_505_589_262_203_625
+pub lower-defaults-bytes : Written lower-defaults 3_512 1_428_601_350_260_363_853
 unfolding computing
 lower-defaults-bytes = record { long = refl; same = refl }
 
-pub edges-of-reliability-bytes : Written edges-of-reliability 2_024 1_898_456_522_626_612_499
+pub edges-of-reliability-bytes : Written edges-of-reliability 2_768 1_269_543_760_970_343_735
 unfolding computing
 edges-of-reliability-bytes = record { long = refl; same = refl }
 

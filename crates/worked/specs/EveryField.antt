@@ -1,18 +1,19 @@
 -- The book in which each field holds a value of its own is read as what it says, each field from its bytes and no other's, and gives its listing. The figures
 -- are the second program's (tests/worked/).
 use mathlib.Core.Path.{_≡_, refl, _∙_}
-use mathlib.Core.List.{List, _++_}
+use mathlib.Core.List.{List, [], _∷_, _++_}
 use Prim.Native.Nat.{ℕ}
 use lib.ListN.{getD}
 use Rattle.rules.specs.Refusals.{taken}
+use Rattle.rules.specs.SettingsRecord.{settings}
 use Rattle.rules.specs.WholeBook.{book}
 use Rattle.rules.specs.Answer.{answer}
 use Rattle.rules.specs.Text.{text, digits, words}
 use Rattle.rules.specs.Listing.{answer-lines, joined, listing, settle}
-use Rattle.rules.specs.Writing.{book-bytes, settled}
-use Rattle.rules.specs.PaperBook.{requirement}
-use Rattle.rules.specs.Computing.{computing}
-use Rattle.rules.specs.WorkedBooks.{every-field}
+use Rattle.books.specs.Writing.{settings-bytes, book-bytes, settled}
+use Rattle.books.specs.PaperBook.{requirement}
+use Rattle.books.specs.Computing.{computing}
+use Rattle.books.specs.WorkedBooks.{every-field}
 
 -- the lines of a requirement, by its place in the book
 abbrev lines : ℕ → List ℕ
@@ -21,6 +22,11 @@ lines i = answer-lines (answer every-field (getD (every-field .requirements) i r
 pub read : book (book-bytes every-field) ≡ taken every-field
 unfolding computing
 read = refl
+
+-- the settings end with their eight bytes, whatever comes behind them
+pub settings-alone : settings (settings-bytes (every-field .settings) ++ (255 ∷ [])) ≡ taken (every-field .settings)
+unfolding computing
+settings-alone = refl
 
 pub raise-in-two-regions : lines 0
     ≡ text "requirement 513 raise 131862 96774 3459921262 868798103 0 0\n"

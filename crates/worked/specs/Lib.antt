@@ -1,5 +1,9 @@
 pub mod BookBytes
 pub mod Listings
+pub mod DefaultReasons
+pub mod SignTurned
+pub mod OneSide
+pub mod NoUnits
 pub mod LowerDefaults
 pub mod EdgesOfReliability
 pub mod EveryField

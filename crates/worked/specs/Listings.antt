@@ -1,12 +1,12 @@
--- The listings of the worked books, each from its bytes to its text: the bytes are read as the book, and the book gives the text. The figures are the second
--- program's (tests/worked/).
+-- Listings of worked books, each from its bytes to its text: the bytes are read as the book, and the book gives the text. The figures are the second program's
+-- (tests/worked/). Books that wrong definitions are held against have a file of their own, so that each is checked alone.
 use mathlib.Core.Path.{_≡_, refl}
 use mathlib.Core.List.{_++_}
 use Rattle.rules.specs.Text.{text}
 use Rattle.rules.specs.Listing.{settle}
-use Rattle.rules.specs.Writing.{book-bytes, settled}
-use Rattle.rules.specs.Computing.{computing}
-use Rattle.rules.specs.WorkedBooks.{lower-two-regions, default-reasons, bad-frequency-points, sign-turned, unplaced, ramp, ties, no-units, one-side}
+use Rattle.books.specs.Writing.{book-bytes, settled}
+use Rattle.books.specs.Computing.{computing}
+use Rattle.books.specs.WorkedBooks.{lower-two-regions, bad-frequency-points, unplaced, ramp, ties}
 
 pub lower-two-regions-listing : settle (book-bytes lower-two-regions)
     ≡ text "interval 101\n"
@@ -29,26 +29,6 @@ pub lower-two-regions-listing : settle (book-bytes lower-two-regions)
 unfolding computing
 lower-two-regions-listing = settled lower-two-regions refl
 
-pub default-reasons-listing : settle (book-bytes default-reasons)
-    ≡ text "interval 102\n"
-    ++ (text "requirement 1 raise 750 75 250 750 0 0\n"
-    ++ (text "unit 10 live 1125000000 1000000000 75 0 -1\n"
-    ++ (text "unit 20 default -75000000 -62500000 -5 -63 -1\n"
-    ++ (text "residual live -1125000000 -937500000 -70 -187 -748\n"
-    ++ (text "requirement 2 raise 0 0 250 750 0 0\n"
-    ++ (text "unit 10 live 1125000000 1000000000 0 0 -1\n"
-    ++ (text "unit 20 default -75000000 -62499842 0 -62 -1\n"
-    ++ (text "unit 40 default -41 -34 0 0 -3\n"
-    ++ (text "residual default -1125003000 -937500124 0 -188 -745\n"
-    ++ (text "requirement 3 raise 0 0 0 1000 0 0\n"
-    ++ (text "unit 10 live 1125000000 1000000000 0 0 0\n"
-    ++ (text "unit 20 default -75000000 -62499475 0 0 0\n"
-    ++ (text "unit 30 default -31 -26 0 0 -1\n"
-    ++ (text "unit 40 default -41 -34 0 0 -1\n"
-    ++ text "residual default -1125010000 -937500465 0 0 -998\n"))))))))))))))
-unfolding computing
-default-reasons-listing = settled default-reasons refl
-
 pub bad-frequency-points-listing : settle (book-bytes bad-frequency-points)
     ≡ text "interval 103\n"
     ++ (text "requirement 1 raise 150 16667 33 67 0 0\n"
@@ -60,24 +40,6 @@ pub bad-frequency-points-listing : settle (book-bytes bad-frequency-points)
     ++ text "residual default -7 -777777778 0 0 -82\n"))))))
 unfolding computing
 bad-frequency-points-listing = settled bad-frequency-points refl
-
-pub sign-turned-listing : settle (book-bytes sign-turned)
-    ≡ text "interval 104\n"
-    ++ (text "requirement 1 raise 7875 158 999 0 0 0\n"
-    ++ (text "unit 1 live 27450000000 1000000000 158 0 0\n"
-    ++ (text "unit 2 live -1125000000 -40983607 -7 -41 0\n"
-    ++ (text "unit 3 live -56250000 -2049180 0 -2 0\n"
-    ++ (text "residual live -26268750000 -956967213 -151 -956 0\n"
-    ++ (text "requirement 2 raise 45000 900 999 0 0 0\n"
-    ++ (text "unit 1 live 27450000000 1000000000 900 0 0\n"
-    ++ (text "residual live -27450000000 -1000000000 -900 -999 0\n"
-    ++ (text "requirement 3 lower 56250 1125 0 999 0 999\n"
-    ++ (text "unit 1 live -15300000000 -996336996 -1121 0 0\n"
-    ++ (text "unit 2 live 14625000000 952380952 1071 0 0\n"
-    ++ (text "unit 3 live 731250000 47619048 54 0 0\n"
-    ++ text "residual live -56250000 -3663004 -4 0 0\n"))))))))))))
-unfolding computing
-sign-turned-listing = settled sign-turned refl
 
 pub unplaced-listing : settle (book-bytes unplaced)
     ≡ text "interval 105\n"
@@ -121,30 +83,3 @@ pub ties-listing : settle (book-bytes ties)
     ++ text "residual live 0 0 0 0 -2\n"))))))
 unfolding computing
 ties-listing = settled ties refl
-
-pub no-units-listing : settle (book-bytes no-units)
-    ≡ text "interval 0\n"
-    ++ (text "requirement 0 lower 0 0 20 30 20 0\n"
-    ++ (text "residual live 0 0 0 0 -30\n"
-    ++ (text "requirement 1 lower 0 0 0 50 0 0\n"
-    ++ text "residual default 0 0 0 0 -50\n")))
-unfolding computing
-no-units-listing = settled no-units refl
-
-pub one-side-listing : settle (book-bytes one-side)
-    ≡ text "interval 108\n"
-    ++ (text "requirement 1 raise 7500 0 25 75 0 0\n"
-    ++ (text "unit 1 live 0 0 0 0 0\n"
-    ++ (text "unit 2 default -5 -200000000 0 -6 -75\n"
-    ++ (text "residual default -20 -800000000 0 -19 0\n"
-    ++ (text "requirement 2 raise 7500 0 25 75 25 75\n"
-    ++ (text "unit 1 live 0 0 0 0 0\n"
-    ++ (text "residual live 0 0 0 0 0\n"
-    ++ (text "requirement 3 raise 0 0 25 75 25 75\n"
-    ++ (text "unit 1 live 0 0 0 0 0\n"
-    ++ (text "residual live 0 0 0 0 0\n"
-    ++ (text "requirement 4 lower 7500 100 25 75 0 75\n"
-    ++ (text "unit 1 live -10200000000 -1000000000 -100 -25 0\n"
-    ++ text "residual live 10200000000 1000000000 100 0 0\n"))))))))))))
-unfolding computing
-one-side-listing = settled one-side refl

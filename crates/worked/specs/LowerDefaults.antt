@@ -9,10 +9,10 @@ use Rattle.rules.specs.WholeBook.{book}
 use Rattle.rules.specs.Answer.{answer}
 use Rattle.rules.specs.Text.{text, digits, words}
 use Rattle.rules.specs.Listing.{answer-lines, joined, listing, settle}
-use Rattle.rules.specs.Writing.{book-bytes, settled}
-use Rattle.rules.specs.PaperBook.{requirement}
-use Rattle.rules.specs.Computing.{computing}
-use Rattle.rules.specs.WorkedBooks.{lower-defaults}
+use Rattle.books.specs.Writing.{book-bytes, settled}
+use Rattle.books.specs.PaperBook.{requirement}
+use Rattle.books.specs.Computing.{computing}
+use Rattle.books.specs.WorkedBooks.{lower-defaults}
 
 -- the lines of a requirement, by its place in the book
 abbrev lines : ℕ → List ℕ
@@ -43,7 +43,8 @@ two-bad-of-three = refl
 
 pub separated : lines 2
     ≡ text "requirement 3 lower 0 0 0 5000 0 0\n"
-    ++ text "residual default -204 -1000000000 0 0 -5000\n"
+    ++ (text "unit 4 default -44 -177419355 0 0 -913\n"
+    ++ text "residual default -204 -822580645 0 0 -4087\n")
 unfolding computing
 separated = refl
 
@@ -73,10 +74,11 @@ pub lower-defaults-listing : settle (book-bytes lower-defaults)
     ++ (text "unit 3 default -1000000000 -50890585 0 -279 -153\n"
     ++ (text "residual default -14650000000 -745547074 0 -1569 -2169\n"
     ++ (text "requirement 3 lower 0 0 0 5000 0 0\n"
-    ++ (text "residual default -204 -1000000000 0 0 -5000\n"
+    ++ (text "unit 4 default -44 -177419355 0 0 -913\n"
+    ++ (text "residual default -204 -822580645 0 0 -4087\n"
     ++ (text "requirement 4 lower 0 0 0 5000 0 0\n"
     ++ (text "residual default -304 -1000000000 0 0 -5000\n"
     ++ (text "requirement 5 lower 0 0 0 5000 0 0\n"
-    ++ text "residual default -504 -1000000000 0 0 -5000\n"))))))))))))))
+    ++ text "residual default -504 -1000000000 0 0 -5000\n")))))))))))))))
 unfolding listing joined text digits words
 lower-defaults-listing = settled lower-defaults read ∙ rw (one-bad-of-two, two-bad-of-three, separated, bad-points-over, none-beyond)

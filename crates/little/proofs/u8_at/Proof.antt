@@ -1,6 +1,6 @@
 -- Past the end stands 0, by the law of numbers that start there.
 use mathlib.Core.Path.{sym}
-use Rattle.rules.specs.BytesLaws.{byte-is, number-past}
+use Rattle.laws.proofs.BytesLaws.{byte-is, number-past}
 use borrow.Author.Needs.{needs}
 use Rattle.little.proofs.u8_at.Statement.{statement}
 use Rattle.little.proofs.u8_at.Tie as tie

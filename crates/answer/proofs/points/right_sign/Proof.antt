@@ -1,6 +1,6 @@
 -- For lower, FM below zero is the mirror of FM above zero.
 use mir.Facts.{toZ-ofZ}
-use Rattle.rules.specs.SeriesLaws.{mirrored}
+use Rattle.laws.proofs.SeriesLaws.{mirrored}
 use borrow.Author.Needs.{needs}
 use Rattle.answer.proofs.points.right_sign.Statement.{statement}
 use Rattle.answer.proofs.points.right_sign.Tie as tie

@@ -1,6 +1,6 @@
 -- The set shifted down by the region and masked by 1 is the bit of the definition.
 use borrow.Author.Needs.{needs}
-use Rattle.rules.specs.RecordLaws.{bit-masked}
+use Rattle.laws.proofs.RecordLaws.{bit-masked}
 use Rattle.answer.proofs.regions.covers.Statement.{statement}
 use Rattle.answer.proofs.regions.covers.Tie as tie
 

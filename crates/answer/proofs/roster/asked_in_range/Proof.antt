@@ -1,7 +1,7 @@
 -- The count first, then the laws of the set by shift and mask.
 use mathlib.Core.Path.{sym}
 use borrow.Author.Tests.{le-leb, lt-leb}
-use Rattle.rules.specs.RecordLaws.{set-high, set-low}
+use Rattle.laws.proofs.RecordLaws.{set-high, set-low}
 use Rattle.answer.proofs.roster.asked_in_range.Statement.{statement}
 use Rattle.answer.proofs.roster.asked_in_range.Tie as tie
 

@@ -1,6 +1,6 @@
 -- A byte is a number of one byte.
 use mathlib.Core.Path.{sym}
-use Rattle.rules.specs.BytesLaws.{byte-is}
+use Rattle.laws.proofs.BytesLaws.{byte-is}
 use borrow.Author.Needs.{needs}
 use Rattle.book.proofs.inside.byte_in.Statement.{statement}
 use Rattle.book.proofs.inside.byte_in.Tie as tie

@@ -1,6 +1,6 @@
 -- One byte, and one after it.
 use native.Mathlib.Omega.{arith}
-use Rattle.rules.specs.BytesLaws.{number-parts}
+use Rattle.laws.proofs.BytesLaws.{number-parts}
 use borrow.Author.Needs.{needs}
 use Rattle.book.proofs.inside.u16_in.Statement.{statement}
 use Rattle.book.proofs.inside.u16_in.Tie as tie

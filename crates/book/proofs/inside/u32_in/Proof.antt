@@ -1,6 +1,6 @@
 -- The four bytes are those of the definition, the lowest first.
 use native.Mathlib.Omega.{arith}
-use Rattle.rules.specs.BytesLaws.{four-is}
+use Rattle.laws.proofs.BytesLaws.{four-is}
 use borrow.Author.Needs.{needs}
 use Rattle.book.proofs.inside.u32_in.Statement.{statement}
 use Rattle.book.proofs.inside.u32_in.Tie as tie

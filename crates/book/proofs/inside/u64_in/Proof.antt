@@ -1,6 +1,6 @@
 -- Four bytes, and four after them.
 use native.Mathlib.Omega.{arith}
-use Rattle.rules.specs.BytesLaws.{number-parts}
+use Rattle.laws.proofs.BytesLaws.{number-parts}
 use borrow.Author.Needs.{needs}
 use Rattle.book.proofs.inside.u64_in.Statement.{statement}
 use Rattle.book.proofs.inside.u64_in.Tie as tie

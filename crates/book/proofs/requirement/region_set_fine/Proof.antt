@@ -1,6 +1,6 @@
 -- The laws of the set by shift and mask.
 use mathlib.Core.Path.{sym}
-use Rattle.rules.specs.RecordLaws.{set-high, set-low}
+use Rattle.laws.proofs.RecordLaws.{set-high, set-low}
 use Rattle.book.proofs.requirement.region_set_fine.Statement.{statement}
 use Rattle.book.proofs.requirement.region_set_fine.Tie as tie
 

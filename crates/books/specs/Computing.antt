@@ -1,0 +1,27 @@
+-- Opens every definition that a theorem by computing goes through: such a theorem says `unfolding computing` and is proved by `refl`.
+use Rattle.integers.specs.Sums.{sum, sumℕ, every, largest}
+use Rattle.integers.specs.Totals.{total, totalℕ, those, numbered}
+use Rattle.rules.specs.Bytes.{little, listed}
+use Rattle.rules.specs.Book.{no-region}
+use Rattle.rules.specs.Contents.{contents}
+use Rattle.rules.specs.SettingsRecord.{settings}
+use Rattle.rules.specs.FrequencyRecord.{region-in, frequency-record}
+use Rattle.rules.specs.UnitRecord.{unit-in, unit-record}
+use Rattle.rules.specs.RequirementRecord.{requirement-in, requirement-record}
+use Rattle.rules.specs.WholeBook.{frequency-body, unit-body, requirement-body, book}
+use Rattle.rules.specs.Measure.{measure-after}
+use Rattle.rules.specs.Reliability.{reliable, reliable-in}
+use Rattle.rules.specs.Deviation.{deviation, good}
+use Rattle.rules.specs.Performance.{performance, unit-performance, residual-performance}
+use Rattle.rules.specs.Standings.{some-good-or-none}
+use Rattle.rules.specs.Members.{unit-member, residual-member, members}
+use Rattle.rules.specs.Share.{left-over, given, amount, unplaced, share-reply}
+use Rattle.rules.specs.Rcr.{weighed-measure, response, all-reliable, rcr}
+use Rattle.rules.specs.Answer.{lines-of, answered, answer}
+use Rattle.rules.specs.Text.{text, digits, words}
+use Rattle.rules.specs.Listing.{joined, answer-lines, listing, settle}
+use Rattle.books.specs.Writing.{bytes, concat, bits, regions-bytes, book-bytes}
+
+unfoldable pub computing : Unit {0}
+unfolding sum sumℕ every largest total totalℕ those numbered little listed contents settings region-in frequency-record unit-in unit-record requirement-in requirement-record frequency-body unit-body requirement-body book measure-after reliable reliable-in deviation good performance unit-performance residual-performance some-good-or-none unit-member residual-member members left-over given amount unplaced share-reply weighed-measure response all-reliable rcr lines-of answered answer text digits words joined answer-lines listing settle bytes concat bits regions-bytes book-bytes
+computing = tt

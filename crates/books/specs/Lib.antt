@@ -1,0 +1,8 @@
+-- How a book's bytes are written, and how a theorem about one is computed
+pub mod Writing
+pub mod Computing
+-- The books, and what is quick to say of them
+pub mod PaperBook
+pub mod Edges
+pub mod WorkedBooks
+pub mod WorkedAnswers

@@ -1,0 +1,14 @@
+-- Laws of the definitions in `rules`, in their order
+pub mod RefusalLaws
+pub mod BytesLaws
+pub mod RecordLaws
+pub mod Limits
+pub mod LimitsLaws
+pub mod MeasureLaws
+pub mod DeviationLaws
+pub mod PerformanceLaws
+pub mod SeriesLaws
+pub mod MembersLaws
+pub mod ShareLaws
+pub mod RcrLaws
+pub mod CentsLaws

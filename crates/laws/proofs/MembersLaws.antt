@@ -1,0 +1,172 @@
+-- Laws of the members: their weights sum to at most 6,010,000,000,000,000,000, so no book meets the share's limit on W.
+use mathlib.Core.Path.{_≡_, refl, sym, _∙_, ap}
+use mathlib.Core.Bool.{Bool, true, false, cond}
+use mathlib.Core.List.{List, [], _∷_, _++_, map}
+use Prim.Native.Nat.{ℕ, zero, suc, _+_, _*_, _≤_, _<_}
+use native.Mathlib.Nat.{mul-le-mul-right, add-mul}
+use native.Mathlib.Omega.{arith}
+use lib.Dec.{eqb}
+use lib.IntN.{ℤ, pos, negℤ, natAbs, _+ℤ_}
+use lib.ListN.{length, getD}
+use Rattle.integers.specs.Pairs.{gain, loss}
+use Rattle.integers.specs.Bounds.{Within, abs-add, abs-neg, gain-≤, loss-≤}
+use Rattle.integers.specs.Sums.{one, sum, sumℕ, count, when, count-one, sum-size, sumℕ-plus, sumℕ-times}
+use Rattle.integers.specs.Totals.{total, totalℕ, those, All, total-those, totalℕ-map, totalℕ-++, totalℕ-≤, totalℕ-those-≤}
+use Rattle.rules.specs.declared.Direction.{Direction}
+use Rattle.rules.specs.declared.Standing.{Standing}
+use Rattle.rules.specs.declared.Standing.the-variants.{Live, Default}
+use Rattle.rules.specs.Quantities.{points, regions, measure-limit, performance-limit, residual-default-limit, unit-default-limit, weight-limit}
+use Rattle.rules.specs.Book.{by, Defaults, Unit, Requirement, covers, Book, regionOf}
+use Rattle.rules.specs.Fields.{good-at}
+use Rattle.rules.specs.Measure.{measure-in}
+use Rattle.laws.proofs.MeasureLaws.{measure-within}
+use Rattle.rules.specs.Deviation.{deviation, good, units-in}
+use Rattle.laws.proofs.DeviationLaws.{deviation-within}
+use Rattle.rules.specs.Performance.{performance, units-of, unit-performance, residual-performance}
+use Rattle.laws.proofs.PerformanceLaws.{performance-within, residual-is}
+use Rattle.rules.specs.Standings.{unit-standing, residual-standing, live-or}
+use Rattle.rules.specs.Members.{Member, unit-member, residual-or, residual-member, unit-members, members, over-regions}
+use Rattle.rules.specs.Factors.{helpful, unhelpful}
+use Rattle.rules.specs.Cents.{used-weights, unused-weights}
+use Rattle.laws.proofs.Limits.{DefaultsFit, UnitFits, BookFits}
+
+-- ---- sizes
+-- the total of what some of those pass that count is at most k for each that counts
+counted-size : {A : Type 0} (P : A → Type 0) (k : ℕ) (p g : A → Bool) (f : A → ℤ) → ((x : A) → P x → Within k (f x)) → (xs : List A) → All P xs → natAbs (total (λ x. when (p x) (when (g x) (f x))) xs) ≤ totalℕ (λ x. one (p x)) xs * k
+unfolding All total totalℕ
+counted-size P k p g f h [] a = omega arith
+counted-size P k p g f h (x ∷ xs) a =
+    omega (
+      arith,
+      abs-add (when (p x) (when (g x) (f x))) (total (λ x. when (p x) (when (g x) (f x))) xs),
+      counted-size P k p g f h xs (a .1),
+      head (p x) (g x) (f x) (h x (a .0)),
+      add-mul (one (p x)) (totalℕ (λ x. one (p x)) xs) k,
+    )
+  where
+    head : (s t : Bool) (z : ℤ) → Within k z → natAbs (when s (when t z)) ≤ one s * k
+    head true true z h = omega (arith, h .size)
+    head true false z h = omega arith
+    head false t z h = omega arith
+
+-- a unit is in one region
+in-one-region : (us : List Unit) → sumℕ regions (λ r. totalℕ (λ u. one (eqb r (u .region))) us) ≤ length us
+unfolding totalℕ sumℕ
+in-one-region [] = omega arith
+in-one-region (u ∷ us) =
+    omega (arith, sumℕ-plus regions (λ r. one (eqb r (u .region))) (λ r. totalℕ (λ u. one (eqb r (u .region))) us), count-one regions (u .region), in-one-region us)
+
+live-or-within : {k : ℕ} (s : Standing) (x y : ℤ) → Within k x → Within k y → Within k (live-or s x y)
+live-or-within Live x y hx hy = hx
+live-or-within (Default why) x y hx hy = hy
+
+module _ (b : Book) (h : BookFits b) where
+  pub measure-in-within : (r : ℕ) → r < regions → (t : ℕ) → t < points → Within measure-limit (measure-in b r t)
+  measure-in-within r l t k =
+      let f = h .region r l in
+      measure-within (b .settings .smoothing) (good-at (regionOf b r .quality)) (λ i. getD (regionOf b r .frequency) i 0) (regionOf b r .before) (h .settings .smoothing) (f .before) (f .frequency) (suc t) (omega arith)
+
+  -- a unit's performance by any region's measures
+  pub unit-performance-within : (u : Unit) → UnitFits u → (d : Direction) (r : ℕ) → r < regions → Within performance-limit (performance d (measure-in b r) (deviation u))
+  unit-performance-within u f d r l =
+      performance-within d (measure-in b r) (deviation u) (measure-in-within r l) (deviation-within u (f .start) (f .end) (f .reading))
+
+  -- a region's residual performance is at most that for each of its units
+  pub residual-performance-size : (d : Direction) (r : ℕ) → r < regions → natAbs (residual-performance b d r) ≤ totalℕ (λ u. one (eqb r (u .region))) (b .roster) * performance-limit
+  unfolding residual-performance
+  residual-performance-size d r l =
+      rw (residual-is d (measure-in b r) (units-of b r), abs-neg, total-those good (λ u. performance d (measure-in b r) (deviation u)) (units-of b r), total-those (λ u. eqb r (u .region)) _ (b .roster))
+      (counted-size UnitFits performance-limit (λ u. eqb r (u .region)) good _ (λ u f. unit-performance-within u f d r l) (b .roster) (h .roster))
+
+-- ---- the members' weights, by the default that stands in: `field` is payment or used
+module _ (b : Book) (q : Requirement) (h : BookFits b) (field : Defaults → ℤ) (fits : (k : ℕ) (f : Defaults) → DefaultsFit k f → Within k (field f)) where
+  abbrev d : Direction
+  d = q .direction
+
+  units-size : totalℕ (λ u. natAbs (live-or (unit-standing b d u) (unit-performance b d u) (field (by d (u .defaults))))) (unit-members b q) ≤ length (b .roster) * performance-limit
+  unfolding unit-performance
+  units-size =
+      totalℕ-those-≤ UnitFits performance-limit _ _ (λ u f. live-or-within (unit-standing b d u) _ _ (unit-performance-within b h u f d (u .region) (f .region)) (fits unit-default-limit (by d (u .defaults)) (f .defaults d)) .size) (b .roster) (h .roster)
+
+  residual-size : natAbs (over-regions q (residual-or b d field)) ≤ length (b .roster) * performance-limit + 250_000_000_000_000_000
+  unfolding sumℕ
+  residual-size =
+      omega (
+        arith,
+        sum-size regions (λ r. when (covers q r) (residual-or b d field r)) (λ r. n r * performance-limit + residual-default-limit) (λ r l. each (covers q r) (residual-standing b d r) (residual-performance b d r) (field (by d (regionOf b r .defaults))) (n r * performance-limit) (residual-performance-size b h d r l) (fits residual-default-limit (by d (regionOf b r .defaults)) (h .region r l .defaults d))),
+        sumℕ-plus regions (λ r. n r * performance-limit) (λ r. residual-default-limit),
+        sumℕ-times regions performance-limit n,
+        mul-le-mul-right performance-limit (in-one-region (b .roster)),
+      )
+    where
+      n : ℕ → ℕ
+      n r = totalℕ (λ u. one (eqb r (u .region))) (b .roster)
+
+      each : (t : Bool) (s : Standing) (x y : ℤ) (k : ℕ) → natAbs x ≤ k → Within residual-default-limit y → natAbs (when t (live-or s x y)) ≤ k + residual-default-limit
+      each true Live x y k hx hy = omega arith
+      each true (Default why) x y k hx hy = omega (arith, hy .size)
+      each false s x y k hx hy = omega arith
+
+-- ---- all members together
+module _ (b : Book) (q : Requirement) where
+  members-total : (g : Member → ℕ) → totalℕ g (members b q) ≡ totalℕ (λ u. g (unit-member b (q .direction) u)) (unit-members b q) + g (residual-member b q)
+  unfolding members totalℕ
+  members-total g =
+      totalℕ-++ g (map (unit-member b (q .direction)) (unit-members b q)) (residual-member b q ∷ [])
+      ∙ omega (arith, totalℕ-map g (unit-member b (q .direction)) (unit-members b q))
+
+  module _ (h : BookFits b) where
+    pub payment-size : totalℕ (λ m. natAbs (m .payment)) (members b q) ≤ weight-limit
+    unfolding unit-member residual-member
+    payment-size =
+        omega (
+          arith,
+          members-total (λ m. natAbs (m .payment)),
+          units-size b q h (λ f. f .payment) (λ k f g. g .payment .size),
+          residual-size b q h (λ f. f .payment) (λ k f g. g .payment .size),
+          h .few,
+        )
+
+    pub used-size : totalℕ (λ m. natAbs (m .used)) (members b q) ≤ weight-limit
+    unfolding unit-member residual-member
+    used-size =
+        omega (
+          arith,
+          members-total (λ m. natAbs (m .used)),
+          units-size b q h (λ f. f .used) (λ k f g. g .used .size),
+          residual-size b q h (λ f. f .used) (λ k f g. g .used .size),
+          h .few,
+        )
+
+    pub unused-size : totalℕ (λ m. natAbs (m .unused)) (members b q) ≤ weight-limit
+    unfolding unit-member residual-member sumℕ
+    unused-size =
+        let d = q .direction in
+        omega (
+          arith,
+          members-total (λ m. natAbs (m .unused)),
+          totalℕ-those-≤ UnitFits unit-default-limit (λ u. covers q (u .region)) (λ u. natAbs (by d (u .defaults) .unused)) (λ u f. f .defaults d .unused .size .size) (b .roster) (h .roster),
+          sum-size regions (λ r. when (covers q r) (by d (regionOf b r .defaults) .unused)) (λ r. residual-default-limit) (λ r l. counted (covers q r) (by d (regionOf b r .defaults) .unused) (h .region r l .defaults d .unused .size)),
+          h .few,
+        )
+      where
+        counted : (t : Bool) (z : ℤ) → Within residual-default-limit z → natAbs (when t z) ≤ residual-default-limit
+        counted true z w = w .size
+        counted false z w = omega arith
+
+-- ---- so each list of weights is within the limit of W
+weights-fit : (g : ℤ → ℕ) → ((z : ℤ) → g z ≤ natAbs z) → (f : Member → ℤ) (ms : List Member) → totalℕ (λ m. natAbs (f m)) ms ≤ weight-limit → totalℕ (λ w. w) (map (λ m. g (f m)) ms) ≤ weight-limit
+weights-fit g le f ms h = rw (totalℕ-map (λ w. w) (λ m. g (f m)) ms) (omega (arith, totalℕ-≤ (λ m. g (f m)) (λ m. natAbs (f m)) (λ m. le (f m)) ms))
+
+module _ (b : Book) (q : Requirement) (h : BookFits b) where
+  pub helpful-fits : totalℕ (λ w. w) (helpful (members b q)) ≤ weight-limit
+  helpful-fits = weights-fit gain gain-≤ (λ m. m .payment) (members b q) (payment-size b q h)
+
+  pub unhelpful-fits : totalℕ (λ w. w) (unhelpful (members b q)) ≤ weight-limit
+  unhelpful-fits = weights-fit loss loss-≤ (λ m. m .payment) (members b q) (payment-size b q h)
+
+  pub used-weights-fit : totalℕ (λ w. w) (used-weights (members b q)) ≤ weight-limit
+  used-weights-fit = weights-fit loss loss-≤ (λ m. m .used) (members b q) (used-size b q h)
+
+  pub unused-weights-fit : totalℕ (λ w. w) (unused-weights (members b q)) ≤ weight-limit
+  unused-weights-fit = weights-fit loss loss-≤ (λ m. m .unused) (members b q) (unused-size b q h)

@@ -1,0 +1,253 @@
+-- Laws of the share: it adds up, each amount is less than one unit away from its exact share, weight 0 gets 0, and refusal 13 is never met.
+-- Of the order among remainders the laws use `first-come`, that it is strict and total, `is-ahead`, and the ranks above, at and below a bound:
+-- nothing else looks at `ahead`.
+use mathlib.Core.Path.{_≡_, refl, sym, _∙_, ap}
+use mathlib.Core.Bool.{Bool, true, false, not, cond, _&&_, _||_}
+use mathlib.Core.List.{List}
+use Prim.Native.Nat.{ℕ, zero, suc, _+_, _*_, _-_, _/_, _%_, _≤_, _<_}
+use native.Mathlib.Omega.{arith}
+use native.Mathlib.Nat.{div-add-mod', mod-lt, le-of-mul-le-mul-right, lt-of-mul-lt-mul-right, add-mul, mul-zero, zero-mod}
+use lib.Dec.{leb, ltb, eqb}
+use lib.ListN.{length, getD}
+use borrow.Author.Tests.{ltb-true, ltb-false, lt-ltb, le-ltb, leb-true, eqb-true, eqb-false, ne-eqb}
+use Rattle.integers.specs.Sums.{one, sumℕ, count, sumℕ-ext, sumℕ-zero, sumℕ-plus, sumℕ-times, sumℕ-scale, sumℕ-≤, sumℕ-<, some-term, one-≤, one-mono, count-≤, count-below}
+use Rattle.integers.specs.Ranks.{rank, Total, ranked}
+use Rattle.integers.specs.Division.{taken-≤, taken-rest}
+use Rattle.rules.specs.Share.{weight-sum, whole, remainder, left-over, ahead, given, amount, unplaced, with-weight}
+
+-- ---- who comes first
+module _ (r : ℕ → ℕ) where
+  -- larger, or equal and earlier: one test on numbers
+  pub ahead-is : (j i : ℕ) → ahead r j i ≡ ltb (r i) (r j + one (ltb j i))
+  ahead-is j i = go (ltb (r i) (r j)) refl (eqb (r i) (r j)) refl (ltb j i)
+    where
+      go : (a : Bool) → ltb (r i) (r j) ≡ a → (b : Bool) → eqb (r i) (r j) ≡ b → (c : Bool) → a || b && c ≡ ltb (r i) (r j + one c)
+      go true e b f c = sym (lt-ltb (r i) (r j + one c) (omega (arith, ltb-true (r i) (r j) e)))
+      go false e true f true = sym (lt-ltb (r i) (r j + 1) (omega (arith, eqb-true (r i) (r j) f)))
+      go false e true f false = sym (le-ltb (r i) (r j + 0) (omega (arith, ltb-false (r i) (r j) e)))
+      go false e false f true =
+          sym (le-ltb (r i) (r j + 1) (more (r i) (r j) (ltb-false (r i) (r j) e) (eqb-false (r i) (r j) f)))
+        where
+          more : (a b : ℕ) → b ≤ a → (a ≡ b → ⊥) → b + 1 ≤ a
+          more a b h n = omega (arith, n)
+      go false e false f false = sym (le-ltb (r i) (r j + 0) (omega (arith, ltb-false (r i) (r j) e)))
+
+  pub is-ahead : (j i : ℕ) → r i < r j + one (ltb j i) → ahead r j i ≡ true
+  is-ahead j i h = ahead-is j i ∙ lt-ltb (r i) (r j + one (ltb j i)) h
+
+  pub ahead-means : (j i : ℕ) → ahead r j i ≡ true → r i < r j + one (ltb j i)
+  ahead-means j i e = ltb-true (r i) (r j + one (ltb j i)) (sym (ahead-is j i) ∙ e)
+
+  -- the order is strict and total
+  pub first-come : Total (ahead r)
+  first-come =
+      record {
+        nobody = λ i. ahead-is i i ∙ le-ltb (r i) (r i + one (ltb i i)) (rw (le-ltb i i (omega arith)) (omega arith));
+        other = λ i j h. ahead-is j i ∙ rw (ahead-is i j, lt-ltb i j h, le-ltb j i (omega arith)) (flip (r i) (r j));
+        chain = λ i j k p q. is-ahead i k (order i j k (ahead-means i j p) (ahead-means j k q));
+      }
+    where
+      flip : (a b : ℕ) → ltb a (b + 0) ≡ not (ltb b (a + 1))
+      flip a b = go (ltb b (a + 1)) refl
+        where
+          go : (t : Bool) → ltb b (a + 1) ≡ t → ltb a (b + 0) ≡ not t
+          go true e = le-ltb a (b + 0) (omega (arith, ltb-true b (a + 1) e))
+          go false e = lt-ltb a (b + 0) (omega (arith, ltb-false b (a + 1) e))
+
+      order : (i j k : ℕ) → r j < r i + one (ltb i j) → r k < r j + one (ltb j k) → r k < r i + one (ltb i k)
+      order i j k p q = go (ltb i j) refl (ltb j k) refl p q
+        where
+          go : (s : Bool) → ltb i j ≡ s → (t : Bool) → ltb j k ≡ t → r j < r i + one s → r k < r j + one t → r k < r i + one (ltb i k)
+          go true e true f p q = rw (lt-ltb i k (omega (arith, ltb-true i j e, ltb-true j k f))) (omega arith)
+          go true e false f p q = omega arith
+          go false e t f p q = omega (arith, one-≤ t)
+
+  -- before a member above a bound come fewer than are above it
+  pub rank-above : (n i bound : ℕ) → i < n → bound < r i → rank (ahead r) n i < count n (λ j. ltb bound (r j))
+  rank-above n i bound h l =
+      sumℕ-< n _ _ (λ j _. one-mono (ahead r j i) (ltb bound (r j)) (λ p. lt-ltb bound (r j) (omega (arith, ahead-means j i p, one-≤ (ltb j i))))) i h (rw (first-come .nobody i, lt-ltb bound (r i) l) (omega arith))
+
+  -- before one at the bound come those above it, and the earlier ones at it
+  pub rank-at : (n i bound : ℕ) → i < n → r i ≡ bound → rank (ahead r) n i ≡ count n (λ j. ltb bound (r j)) + count i (λ j. eqb (r j) bound)
+  rank-at n i bound h e =
+      sumℕ-ext n _ _ (λ j _. ap one (ahead-is j i) ∙ ap (λ (b : ℕ). one (ltb b (r j + one (ltb j i)))) e ∙ apart bound (r j) (ltb j i))
+      ∙ sumℕ-plus n (λ j. one (ltb bound (r j))) (λ j. one (eqb (r j) bound && ltb j i))
+      ∙ ap (λ (m : ℕ). count n (λ j. ltb bound (r j)) + m) (count-below n i (λ j. eqb (r j) bound) (omega arith))
+    where
+      apart : (b x : ℕ) (t : Bool) → one (ltb b (x + one t)) ≡ one (ltb b x) + one (eqb x b && t)
+      apart b x t = go t (ltb b x) refl (eqb x b) refl
+        where
+          go : (t s : Bool) → ltb b x ≡ s → (q : Bool) → eqb x b ≡ q → one (ltb b (x + one t)) ≡ one s + one (q && t)
+          go t true e true f = absurd (omega (arith, ltb-true b x e, eqb-true x b f))
+          go t true e false f = ap one (lt-ltb b (x + one t) (omega (arith, ltb-true b x e)))
+          go true false e true f = ap one (lt-ltb b (x + 1) (omega (arith, eqb-true x b f)))
+          go true false e false f =
+              ap one (le-ltb b (x + 1) (less x b (ltb-false b x e) (eqb-false x b f)))
+            where
+              less : (x b : ℕ) → x ≤ b → (x ≡ b → ⊥) → x + 1 ≤ b
+              less x b l d = omega arith
+          go false false e true f = ap one (le-ltb b (x + 0) (omega (arith, ltb-false b x e)))
+          go false false e false f = ap one (le-ltb b (x + 0) (omega (arith, ltb-false b x e)))
+
+  -- before one below it come all at it or above
+  pub rank-below : (n i bound : ℕ) → r i < bound → count n (λ j. leb bound (r j)) ≤ rank (ahead r) n i
+  rank-below n i bound l =
+      sumℕ-≤ n _ _ (λ j _. one-mono (leb bound (r j)) (ahead r j i) (λ p. is-ahead j i (omega (arith, leb-true bound (r j) p))))
+
+-- ---- the share
+module _ (T n : ℕ) (w : ℕ → ℕ) (h : 0 < weight-sum n w) where
+  -- T·W is what the whole parts take, and the remainders
+  split : T * weight-sum n w ≡ sumℕ n (whole T n w) * weight-sum n w + sumℕ n (remainder T n w)
+  split =
+      sym (sumℕ-scale n T w)
+      ∙ sumℕ-ext n _ _ (λ i _. sym (div-add-mod' (T * w i) (weight-sum n w)))
+      ∙ sumℕ-plus n (λ i. whole T n w i * weight-sum n w) (remainder T n w)
+      ∙ ap (λ (x : ℕ). x + sumℕ n (remainder T n w)) (sumℕ-times n (weight-sum n w) (whole T n w))
+
+  -- what is left over, in Wths, is the remainders
+  pub left-over-is : left-over T n w * weight-sum n w ≡ sumℕ n (remainder T n w)
+  unfolding left-over
+  left-over-is = taken-rest T _ _ _ h split
+
+  -- what is left over is at most the number of members with a remainder
+  pub left-overs-remain : left-over T n w ≤ count n (λ i. ltb 0 (remainder T n w i))
+  left-overs-remain =
+      le-of-mul-le-mul-right (rw (left-over-is, ← sumℕ-times n (weight-sum n w) (λ i. one (ltb 0 (remainder T n w i)))) (sumℕ-≤ n _ _ (λ i _. part (remainder T n w i) (mod-lt (T * w i) h)))) h
+    where
+      part : (r : ℕ) → r < weight-sum n w → r ≤ one (ltb 0 r) * weight-sum n w
+      part r l = go (ltb 0 r) refl
+        where
+          go : (t : Bool) → ltb 0 r ≡ t → r ≤ one t * weight-sum n w
+          go true e = omega arith
+          go false e = omega (arith, ltb-false 0 r e)
+
+  pub amount-is : (i : ℕ) → amount T n w i ≡ whole T n w i + one (given T n w i)
+  unfolding amount
+  amount-is i = rw (ne-eqb (weight-sum n w) 0 (λ e. omega arith))
+
+  -- as many get one more as are left over
+  pub given-count : count n (given T n w) ≡ left-over T n w
+  unfolding given
+  given-count =
+      ranked (ahead (remainder T n w)) (first-come (remainder T n w)) n (left-over T n w) (omega (arith, left-overs-remain, count-≤ n (λ i. ltb 0 (remainder T n w i))))
+
+  pub whole-and-rest : sumℕ n (whole T n w) + left-over T n w ≡ T
+  unfolding left-over
+  whole-and-rest = omega (arith, taken-≤ T _ _ _ h split)
+
+  -- the amounts add up to T
+  pub share-adds-up : sumℕ n (amount T n w) ≡ T
+  share-adds-up =
+      sumℕ-ext n _ _ (λ i _. amount-is i)
+      ∙ sumℕ-plus n (whole T n w) (λ i. one (given T n w i))
+      ∙ ap (λ (x : ℕ). sumℕ n (whole T n w) + x) given-count
+      ∙ whole-and-rest
+
+  -- one more only where there is a remainder
+  pub given-remainder : (i : ℕ) → given T n w i ≡ true → 0 < remainder T n w i
+  unfolding given
+  given-remainder i g = go (ltb 0 (remainder T n w i)) refl
+    where
+      go : (t : Bool) → ltb 0 (remainder T n w i) ≡ t → 0 < remainder T n w i
+      go true e = ltb-true 0 _ e
+      go false e =
+          let z = ltb-false 0 (remainder T n w i) e in
+          let m : count n (λ j. ltb 0 (remainder T n w j)) ≤ rank (ahead (remainder T n w)) n i =
+          sumℕ-≤ n _ _ (λ j _. one-mono (ltb 0 (remainder T n w j)) (ahead (remainder T n w) j i) (λ p. is-ahead (remainder T n w) j i (omega (arith, ltb-true 0 (remainder T n w j) p)))) in
+          absurd (omega (arith, left-overs-remain, ltb-true (rank (ahead (remainder T n w)) n i) (left-over T n w) g))
+
+  -- every amount is less than one unit away from its exact share T·weight/W
+  pub amount-close : (i : ℕ) → (amount T n w i * weight-sum n w < T * w i + weight-sum n w) × (T * w i < amount T n w i * weight-sum n w + weight-sum n w)
+  amount-close i = rw (amount-is i) (go (given T n w i) refl)
+    where
+      go : (t : Bool) → given T n w i ≡ t → ((whole T n w i + one t) * weight-sum n w < T * w i + weight-sum n w) × (T * w i < (whole T n w i + one t) * weight-sum n w + weight-sum n w)
+      go true e = omega (arith, div-add-mod' (T * w i) (weight-sum n w), mod-lt (T * w i) h, add-mul (whole T n w i) 1 (weight-sum n w), given-remainder i e)
+      go false e = omega (arith, div-add-mod' (T * w i) (weight-sum n w), mod-lt (T * w i) h, add-mul (whole T n w i) 0 (weight-sum n w))
+
+-- what is left over is less than the members with weight: refusal 13 is never given for a real share
+module _ (T n : ℕ) (w : ℕ → ℕ) (h : 0 < weight-sum n w) where
+  pub left-overs-few : left-over T n w < with-weight T n w
+  left-overs-few =
+      let k = some-term n w h in
+      lt-of-mul-lt-mul-right (weight-sum n w) (rw (left-over-is T n w h, ← sumℕ-times n (weight-sum n w) (λ i. one (ltb 0 (w i)))) (sumℕ-< n _ _ (λ i _. part i) (k .0) (k .1) (rw (lt-ltb 0 (w (k .0)) (k .2)) (omega (arith, mod-lt (T * w (k .0)) h)))))
+    where
+      part : (i : ℕ) → remainder T n w i ≤ one (ltb 0 (w i)) * weight-sum n w
+      part i = go (ltb 0 (w i)) refl
+        where
+          go : (t : Bool) → ltb 0 (w i) ≡ t → remainder T n w i ≤ one t * weight-sum n w
+          go true e = omega (arith, mod-lt (T * w i) h)
+          go false e =
+              let z : w i ≡ 0 = omega (arith, ltb-false 0 (w i) e) in
+              rw (z, mul-zero T, zero-mod (weight-sum n w)) (omega arith)
+
+-- ---- a cut among the remainders: those above it are no more than are left over, those at it or above no fewer
+module _ (T n : ℕ) (w : ℕ → ℕ) where
+  pub record Cut (bound above : ℕ) : Type 0 where
+    pub exact : above ≡ count n (λ j. ltb bound (remainder T n w j))
+    pub few : above ≤ left-over T n w
+    pub enough : left-over T n w ≤ count n (λ j. leb bound (remainder T n w j))
+
+-- one more to a remainder above the cut, and to one at it whose place is among those that are left over
+abbrev pub one-more : ℕ → ℕ → ℕ → ℕ → Bool
+one-more rest bound place left = ltb bound rest || eqb rest bound && ltb place left
+
+module _ (T n : ℕ) (w : ℕ → ℕ) {bound above : ℕ} (c : Cut T n w bound above) where
+  -- so the cut says who gets one more
+  pub given-by-cut : (i : ℕ) → i < n → given T n w i ≡ one-more (remainder T n w i) bound (above + count i (λ j. eqb (remainder T n w j) bound)) (left-over T n w)
+  unfolding given
+  given-by-cut i h = go (ltb bound (r i)) refl (eqb (r i) bound) refl
+    where
+      r : ℕ → ℕ
+      r = remainder T n w
+
+      place : ℕ
+      place = above + count i (λ j. eqb (r j) bound)
+
+      go : (s : Bool) → ltb bound (r i) ≡ s → (t : Bool) → eqb (r i) bound ≡ t → ltb (rank (ahead r) n i) (left-over T n w) ≡ (s || t && ltb place (left-over T n w))
+      go true e t f =
+          lt-ltb (rank (ahead r) n i) (left-over T n w) (omega (arith, rank-above r n i bound h (ltb-true bound (r i) e), c .exact, c .few))
+      go false e true f =
+          ap (λ (m : ℕ). ltb m (left-over T n w)) (rank-at r n i bound h (eqb-true (r i) bound f) ∙ ap (λ (m : ℕ). m + count i (λ j. eqb (r j) bound)) (sym (c .exact)))
+      go false e false f =
+          le-ltb (rank (ahead r) n i) (left-over T n w) (omega (arith, rank-below r n i bound (less (r i) bound (ltb-false bound (r i) e) (eqb-false (r i) bound f)), c .enough))
+        where
+          less : (x b : ℕ) → x ≤ b → (x ≡ b → ⊥) → x < b
+          less x b l d = omega arith
+
+-- ---- at any weights
+pub not-zero : (m : ℕ) → eqb m 0 ≡ false → 0 < m
+not-zero m e = omega (arith, eqb-false m 0 e)
+
+module _ (T n : ℕ) (w : ℕ → ℕ) where
+  amount-none : eqb (weight-sum n w) 0 ≡ true → (i : ℕ) → amount T n w i ≡ 0
+  unfolding amount
+  amount-none e i = rw e
+
+  -- what is shared and what is unplaced add up to T
+  pub placed-and-unplaced : sumℕ n (amount T n w) + unplaced T n w ≡ T
+  unfolding unplaced
+  placed-and-unplaced = go (eqb (weight-sum n w) 0) refl
+    where
+      go : (t : Bool) → eqb (weight-sum n w) 0 ≡ t → sumℕ n (amount T n w) + cond t T 0 ≡ T
+      go true e = omega (arith, sumℕ-ext n (amount T n w) (λ i. 0) (λ i _. amount-none e i), sumℕ-zero n)
+      go false e = omega (arith, share-adds-up T n w (not-zero (weight-sum n w) e))
+
+  -- no weight, no amount
+  pub no-weight-no-amount : (i : ℕ) → w i ≡ 0 → amount T n w i ≡ 0
+  no-weight-no-amount i z = go (eqb (weight-sum n w) 0) refl
+    where
+      small : (a k x : ℕ) → x ≡ 0 → a * k < T * x + k → a ≡ 0
+      small zero k x z l = refl
+      small (suc a) k x z l = absurd (omega (arith, rw z at l, add-mul a 1 k))
+
+      go : (t : Bool) → eqb (weight-sum n w) 0 ≡ t → amount T n w i ≡ 0
+      go true e = amount-none e i
+      go false e = small (amount T n w i) (weight-sum n w) (w i) z (amount-close T n w (not-zero (weight-sum n w) e) i .0)
+
+-- refusal 13 is never met: a share that has room and is within the limits is placed, or T is unplaced
+pub never-left-overs : (T n : ℕ) (w : ℕ → ℕ) → (eqb (weight-sum n w) 0 || ltb (left-over T n w) (with-weight T n w)) ≡ true
+never-left-overs T n w = go (eqb (weight-sum n w) 0) refl
+  where
+    go : (t : Bool) → eqb (weight-sum n w) 0 ≡ t → (t || ltb (left-over T n w) (with-weight T n w)) ≡ true
+    go true e = refl
+    go false e = lt-ltb (left-over T n w) (with-weight T n w) (left-overs-few T n w (not-zero (weight-sum n w) e))
