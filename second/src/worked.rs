@@ -323,10 +323,10 @@ fn one_side() -> Book {
     book.requirements = vec![
         requirement(1, 0b00011, Direction::Raise, 1_200, 100, 4, 1),
         requirement(2, 0b00101, Direction::Raise, 1_200, 100, 4, 1),
-        requirement(3, 0b00001, Direction::Raise, 1_200, 100, 4, 1),
+        requirement(3, 0b00001, Direction::Raise, 1_200, 100, 1, 1),
         requirement(4, 0b00001, Direction::Lower, 1_200, 100, 4, 1),
         requirement(5, 0b11000, Direction::Lower, 1_200, 100, 4, 1),
-        requirement(6, 0b01000, Direction::Lower, 1_200, 100, 4, 1),
+        requirement(6, 0b01000, Direction::Lower, 1_200, 100, 1, 1),
     ];
     book
 }
@@ -587,7 +587,7 @@ pub fn all() -> Vec<Worked> {
                     but the set, by the weight of the other region, raise. Requirement 1: only a\n\
                     negative side, by the defaults of unit 2 and of region 1's residual. Requirement 2:\n\
                     no side at all, used and unused unplaced. Requirement 3: region 0 alone, where RCR\n\
-                    is 0 too. Requirement 4: lower, where unit 1 hinders and the residual helps.\n\
+                    is 0 too; enabled 1. Requirement 4: lower, where unit 1 hinders and the residual helps.\n\
                     Requirements 5 and 6: 1 and 3 mirrored, in regions 3 and 4.",
             book: one_side(),
             behind: &[],

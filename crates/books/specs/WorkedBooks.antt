@@ -210,7 +210,8 @@ no-units =
     []
     (requirement 0 6 Lower 100 50 10 4 ∷ requirement 1 7 Lower 100 50 10 4 ∷ [])
 
--- ---- RCR above 0, yet no pool: unit 1 moves where its region needs lower but the set, by the other region's weight, raise; regions 3 and 4 mirror it
+-- ---- RCR above 0, yet no pool: unit 1 moves where its region needs lower but the set, by the other region's weight, raise; regions 3 and 4 mirror
+-- it; enabled 1
 abbrev pub one-side : Book
 one-side =
     book (settings 10_000 74 100 108)
@@ -227,10 +228,10 @@ one-side =
     ∷ [])
     (requirement 1 3 Raise 1_200 100 4 1
     ∷ requirement 2 5 Raise 1_200 100 4 1
-    ∷ requirement 3 1 Raise 1_200 100 4 1
+    ∷ requirement 3 1 Raise 1_200 100 1 1
     ∷ requirement 4 1 Lower 1_200 100 4 1
     ∷ requirement 5 24 Lower 1_200 100 4 1
-    ∷ requirement 6 8 Lower 1_200 100 4 1
+    ∷ requirement 6 8 Lower 1_200 100 1 1
     ∷ [])
 
 -- ---- lower where defaults stand in: a region with as many bad points as the limit, one separated with a good unit, one with a bad point more, one that keeps

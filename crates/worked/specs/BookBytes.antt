@@ -67,7 +67,7 @@ pub no-units-bytes : Written no-units 1_952 158_308_877_779_805_867
 unfolding computing
 no-units-bytes = record { long = refl; same = refl }
 
-pub one-side-bytes : Written one-side 3_536 1_316_630_522_335_365_918
+pub one-side-bytes : Written one-side 3_536 1_316_617_328_195_734_302
 unfolding computing
 one-side-bytes = record { long = refl; same = refl }
 

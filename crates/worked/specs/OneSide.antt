@@ -16,7 +16,7 @@ pub one-side-listing : settle (book-bytes one-side)
     ++ (text "requirement 2 raise 7500 0 25 75 25 75\n"
     ++ (text "unit 1 live 0 0 0 0 0\n"
     ++ (text "residual live 0 0 0 0 0\n"
-    ++ (text "requirement 3 raise 0 0 25 75 25 75\n"
+    ++ (text "requirement 3 raise 0 0 100 0 100 0\n"
     ++ (text "unit 1 live 0 0 0 0 0\n"
     ++ (text "residual live 0 0 0 0 0\n"
     ++ (text "requirement 4 lower 7500 100 25 75 0 75\n"
@@ -26,7 +26,7 @@ pub one-side-listing : settle (book-bytes one-side)
     ++ (text "unit 3 live 0 0 0 0 0\n"
     ++ (text "unit 4 default -5 -200000000 0 -6 -75\n"
     ++ (text "residual default -20 -800000000 0 -19 0\n"
-    ++ (text "requirement 6 lower 0 0 25 75 25 75\n"
+    ++ (text "requirement 6 lower 0 0 100 0 100 0\n"
     ++ (text "unit 3 live 0 0 0 0 0\n"
     ++ text "residual live 0 0 0 0 0\n")))))))))))))))))))
 unfolding computing
