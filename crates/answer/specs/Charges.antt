@@ -1,5 +1,5 @@
 -- A requirement's cost, charged to its members: the unused part over their unused defaults, then the used part over their used ones.
-use mathlib.Core.Path.{_≡_, _∙_, ap}
+use mathlib.Core.Path.{_≡_}
 use mathlib.Core.Bool.{Bool}
 use mathlib.Core.List.{List}
 use Prim.Native.Nat.{ℕ, _-_, _≤_, _<_}

@@ -3,7 +3,7 @@
 -- The answer is the one that what is kept gives, `kept-answer`; its lines' numbers go to the columns, one row a member. The numbers of the roster are not
 -- read here, so the promise holds for any.
 use mathlib.Core.Path.{_≡_, sym, _∙_}
-use mathlib.Core.Bool.{Bool, true, false, _&&_}
+use mathlib.Core.Bool.{Bool, false, _&&_}
 use mathlib.Core.List.{List, [], _∷_, map}
 use Prim.Native.Nat.{ℕ}
 use lib.Dec.{leb, ltb}

@@ -1,5 +1,4 @@
 // The call that answers a requirement, by its record in the book.
-ghost use mathlib.Core.Path.{_≡_};
 ghost use Rattle.answer.specs.Promises.{AnswerPromise};
 use super::Answered;
 use super::given::given;

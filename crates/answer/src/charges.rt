@@ -1,5 +1,4 @@
 // A requirement's cost, charged to its members: the used part, and what is left of it.
-ghost use mathlib.Core.Path.{_≡_};
 ghost use lib.ListN.{length};
 ghost use Rattle.answer.specs.Charges.{CostReady, CostCharged};
 use super::Field;

@@ -1,8 +1,6 @@
 // Which lent lists an answer is worked out from: long enough, else 12, and of numbers in range, else 11.
 ghost use mathlib.Core.Path.{_≡_};
 ghost use mathlib.Core.List.{[]};
-ghost use Prim.Native.Nat.{_*_, _≤_};
-ghost use lib.ListN.{length};
 ghost use Rattle.kept.specs.Range.{kept-fine};
 ghost use Rattle.answer.specs.Lent.{Long};
 ghost use Rattle.answer.specs.Promises.{lists-long, columns-long, kept-lists};

@@ -1,5 +1,6 @@
-// answer: a requirement's answer, from what the calls of `interval` keep to the cents (document 01, Factors, RCR and Cents). It can be asked
-// for again, in any order, once every unit is in; nothing but the five lent columns is written.
+// answer: a requirement's answer, from what the calls of `interval` keep to the cents (document 01, Members, Factors, RCR and Cents). It can
+// be asked for again, in any order, once every unit is in; nothing but the five lent columns is written. Two doors: `call::answer`, and
+// `roster::member`, which says who stands in a row. Each tests what is lent to it, once; past it the functions ask for what was tested.
 use rules::Direction;
 use rules::Refusal;
 use rules::Standing;

@@ -1,6 +1,5 @@
 // The members' numbers, and the shares that go by them. Every number has been tested, so a share refuses none of them; its refusal would be
 // passed on.
-ghost use mathlib.Core.Path.{_≡_};
 ghost use Prim.Native.Nat.{_≤_, _<_};
 ghost use lib.ListN.{length, take};
 ghost use Rattle.integers.specs.Pairs.{gain, loss};

@@ -1,5 +1,5 @@
 -- The rest of the division tells on which side of the half a / d is, and only one number is so near.
-use mathlib.Core.Path.{_≡_, sym}
+use mathlib.Core.Path.{sym}
 use native.Mathlib.Nat.{div-add-mod, div-le-self, mod-lt}
 use native.Mathlib.Omega.{arith}
 use borrow.Author.Needs.{needs}

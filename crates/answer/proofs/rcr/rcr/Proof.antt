@@ -1,7 +1,7 @@
 -- RCR is told by reliability, bad units and the points.
 use mathlib.Core.Path.{_≡_, sym, _∙_}
 use borrow.Author.Tests.{not-true, not-false}
-use Rattle.kept.specs.Kept.{kept-reliable, kept-few-bad}
+use Rattle.kept.specs.Kept.{kept-reliable}
 use Rattle.answer.specs.Asked.{lent, asked}
 use Rattle.answer.specs.Rcr.{all-stand-is, found-unreliable, found-many-bad, found-points}
 use Rattle.answer.proofs.rcr.rcr.Statement.{statement}

@@ -1,5 +1,4 @@
 -- What was listed is within the share's limits, and the share goes over it.
-use mathlib.Core.Path.{_≡_}
 use Rattle.integers.specs.Pairs.{loss}
 use Rattle.integers.specs.Bounds.{loss-≤}
 use Rattle.answer.specs.Shares.{front, front-fits, members-charged}

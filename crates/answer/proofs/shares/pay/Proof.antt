@@ -1,5 +1,5 @@
 -- What was listed is within the limits of both shares; the factors' unplaced tell the pool.
-use mathlib.Core.Path.{_≡_, refl, sym, _∙_}
+use mathlib.Core.Path.{sym, _∙_}
 use Prim.Native.Nat.{ℕ, _≤_}
 use lib.Dec.{eqb}
 use native.Mathlib.Omega.{arith}

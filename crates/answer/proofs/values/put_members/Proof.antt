@@ -1,5 +1,5 @@
 -- The rows' numbers stand at the front of the column, and the residual's is stored behind them.
-use mathlib.Core.Path.{_≡_, _∙_, ap}
+use mathlib.Core.Path.{_∙_, ap}
 use Prim.Native.Nat.{_≤_, _<_}
 use lib.ListN.{length}
 use native.Mathlib.Omega.{arith}
