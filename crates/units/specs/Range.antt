@@ -65,12 +65,6 @@ sign-bits limit (negsuc n) {above} {below} h f ea eb fb = go (leb (suc n) limit)
         one-left : 2 ^ 63 ≤ above → above / 2 ^ 63 + below / 2 ^ 63 ≡ 0 → ⊥
         one-left l z = omega arith
 
--- a sum is 0 exactly where both numbers are
-pub none-of-both : (a b : ℕ) → eqb (a + b) 0 ≡ (eqb a 0 && eqb b 0)
-none-of-both zero zero = refl
-none-of-both zero (suc b) = ne-eqb (zero + suc b) 0 (λ z. omega arith) ∙ sym (ne-eqb (suc b) 0 (λ z. omega arith))
-none-of-both (suc a) b = rw (ne-eqb (suc a + b) 0 (λ z. omega arith), ne-eqb (suc a) 0 (λ z. omega arith))
-
 -- the bits of a number below zero are what is left of the largest 64 bits past one less than its size
 pub bits-below : (x : ℤ) → x <ℤ pos 0 → SFits w64 x → 18_446_744_073_709_551_615 - (loss x - 1) ≡ ofZ w64 x
 bits-below (pos n) h f = omega (arith, lt-in h)
