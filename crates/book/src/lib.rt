@@ -12,6 +12,9 @@ pub mod requirement;
 pub mod settings;
 pub mod unit;
 
+// The points of an interval.
+pub const POINTS: usize = 75;
+
 // What the table of contents leaves open.
 pub struct Counts {
     pub units: u16,

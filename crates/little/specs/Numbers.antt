@@ -6,15 +6,12 @@ use native.Mathlib.Nat.{mul-comm, mul-zero}
 use native.Mathlib.Omega.{arith}
 use lib.IntN.{ℤ}
 use lib.ListN.{length}
-use Rattle.rules.specs.Bytes.{number-at, integer-at, signed}
+use Rattle.rules.specs.Bytes.{number-at, signed}
 use Rattle.laws.proofs.BytesLaws.{number-parts, number-past}
 
--- n bytes at a place, as an unsigned number and as a signed one
+-- n bytes at a place, as an unsigned number
 pub record Unsigned (n place : ℕ) (bytes : List ℕ) (r : ℕ) : Type 0 where
   pub reply : r ≡ number-at n place bytes
-
-pub record Signed (n place : ℕ) (bytes : List ℕ) (r : ℤ) : Type 0 where
-  pub reply : r ≡ integer-at n place bytes
 
 -- an unsigned number of n bytes read as a signed one
 pub record Turned (n x : ℕ) (r : ℤ) : Type 0 where
@@ -35,9 +32,6 @@ lower-half m {place} {bytes} {a} h low =
 unsigned-only : {n place : ℕ} {bytes : List ℕ} {r s : ℕ} → Unsigned n place bytes r → Unsigned n place bytes s → r ≡ s
 unsigned-only a b = a .reply ∙ sym (b .reply)
 
-signed-only : {n place : ℕ} {bytes : List ℕ} {r s : ℤ} → Signed n place bytes r → Signed n place bytes s → r ≡ s
-signed-only a b = a .reply ∙ sym (b .reply)
-
 turned-only : {n x : ℕ} {r s : ℤ} → Turned n x r → Turned n x s → r ≡ s
 turned-only a b = a .reply ∙ sym (b .reply)
 
@@ -52,12 +46,6 @@ u32-at-only = unsigned-only
 
 pub u64-at-only : {place : ℕ} {bytes : List ℕ} {r s : ℕ} → Unsigned 8 place bytes r → Unsigned 8 place bytes s → r ≡ s
 u64-at-only = unsigned-only
-
-pub i32-at-only : {place : ℕ} {bytes : List ℕ} {r s : ℤ} → Signed 4 place bytes r → Signed 4 place bytes s → r ≡ s
-i32-at-only = signed-only
-
-pub i64-at-only : {place : ℕ} {bytes : List ℕ} {r s : ℤ} → Signed 8 place bytes r → Signed 8 place bytes s → r ≡ s
-i64-at-only = signed-only
 
 pub signed-four-only : {x : ℕ} {r s : ℤ} → Turned 4 x r → Turned 4 x s → r ≡ s
 signed-four-only = turned-only

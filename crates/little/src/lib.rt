@@ -1,6 +1,6 @@
 // little: numbers in bytes, the lowest byte first (document 01, The book). Every reader takes any slice and any place: a byte past
 // the end counts as 0. Where a record's length has been tested before, each compiles to one load.
-ghost use Rattle.little.specs.Numbers.{Unsigned, Signed, Turned};
+ghost use Rattle.little.specs.Numbers.{Unsigned, Turned};
 
 pub fn u8_at(bytes: &[u8], place: usize) -> u8
     ensures { λ r. ⌜ Unsigned 1 place (now (bytes .entry)) r ⌝ }
@@ -66,16 +66,4 @@ pub fn signed_eight(x: u64) -> i64
     } else {
         -((0xffff_ffff_ffff_ffff - x) as i64) - 1
     }
-}
-
-pub fn i32_at(bytes: &[u8], place: usize) -> i32
-    ensures { λ r. ⌜ Signed 4 place (now (bytes .entry)) r ⌝ }
-{
-    signed_four(u32_at(bytes, place))
-}
-
-pub fn i64_at(bytes: &[u8], place: usize) -> i64
-    ensures { λ r. ⌜ Signed 8 place (now (bytes .entry)) r ⌝ }
-{
-    signed_eight(u64_at(bytes, place))
 }

@@ -1,6 +1,8 @@
 // units: the unit call. It takes a unit's record, one after the other up to 512, and leaves its row in the lent columns and its deviations in the
 // sums of its region. The tally is that of `interval`, whose specs/ have the promise.
+mod deviation;
 mod lent;
 mod points;
+mod range;
 mod tested;
 pub mod unit;

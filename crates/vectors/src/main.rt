@@ -1,12 +1,11 @@
-// vectors: the routines of the 75 points on figures that source document 000 (the guide) publishes. It prints what is compared: a number of each
-// line is what `series` works out, beside the published one.
-ghost use Prim.Native.Nat.{_≤_};
+// vectors: the calls on figures that source document 000 (the guide) publishes. It writes their records, hands them to the frequency and the unit call, and
+// prints what is compared: a number of each line is what the calls leave, beside the published one.
+ghost use Prim.Native.Nat.{_+_, _≤_};
+ghost use lib.ListN.{length};
 ghost use Rattle.integers.specs.Bounds.{Within};
+use interval::Taking;
+use interval::Tally;
 use libc::STDOUT_FILENO;
-use rules::Direction;
-use rules::Kind;
-use series::Outcome;
-use series::Test;
 
 // Table 15, region frequency deviation, as a frequency in µHz: 50,000,000 and the published deviation. Its first point has no FM yet: it is bad, and holds 0.
 const FREQUENCIES: [u32; 75] = [
@@ -166,8 +165,6 @@ const PUBLISHED: [i64; 75] = [
     9_450,
 ];
 
-const QUALITY: [u8; 10] = [254, 255, 255, 255, 255, 255, 255, 255, 255, 7];
-
 // The guide's alpha is 2/9; a is its nearest in 10,000ths.
 const SMOOTHING: u16 = 2_222;
 
@@ -175,9 +172,9 @@ const SMOOTHING: u16 = 2_222;
 const TOLERANCE: u64 = 10;
 
 // Table 5, in hundredths of a MW: the trajectory's start and end.
-const START: i32 = 2_889;
+const START: u32 = 2_889;
 
-const END: i32 = 3_111;
+const END: u32 = 3_111;
 
 // A number that is no larger than 10,000,000 either way.
 fn bounded(x: i64) -> i64
@@ -211,8 +208,8 @@ fn one_if(test: bool) -> u64
     if test { 1 } else { 0 }
 }
 
-// At how many points are two lists no further apart than the tolerance?
-fn near_points(measures: &[i32; 75], published: &[i64; 75]) -> u64 {
+// At how many points of the first region are two lists no further apart than the tolerance?
+fn near_points(measures: &[i32; 375], published: &[i64; 75]) -> u64 {
     let mut near: u64 = 0;
     let mut t: usize = 0;
     while t < 75 {
@@ -222,7 +219,7 @@ fn near_points(measures: &[i32; 75], published: &[i64; 75]) -> u64 {
     near
 }
 
-fn largest_difference(measures: &[i32; 75], published: &[i64; 75]) -> u64 {
+fn largest_difference(measures: &[i32; 375], published: &[i64; 75]) -> u64 {
     let mut largest: u64 = 0;
     let mut t: usize = 0;
     while t < 75 {
@@ -240,32 +237,95 @@ fn say_number(n: u64) {
     io::print_decimal(STDOUT_FILENO, n);
 }
 
-fn say_test(test: Test) {
-    match test {
-        Test::Yes => say(b" yes\n"),
-        Test::No => say(b" no\n"),
-        Test::Refused(_) => say(b" refused\n"),
+fn say_reliable(figure: i64) {
+    if figure == 1 {
+        say(b" yes\n");
+    } else {
+        say(b" no\n");
     }
 }
 
-fn table_15() {
-    let quality = QUALITY;
-    let frequencies = FREQUENCIES;
+// Four bytes, the lowest first.
+fn put_number(part: &mut [u8], place: usize, number: u32)
+    requires { ⌜ place + 4 ≤ length (now part) ⌝ }
+{
+    part[place] = (number % 0x100) as u8;
+    part[place + 1] = (number / 0x100 % 0x100) as u8;
+    part[place + 2] = (number / 0x1_0000 % 0x100) as u8;
+    part[place + 3] = (number / 0x100_0000) as u8;
+}
+
+// Ten quality bytes that say that the points are good, but for what `first` says of the first eight.
+fn put_quality(part: &mut [u8], place: usize, first: u8)
+    requires { ⌜ place + 10 ≤ length (now part) ⌝ }
+{
+    put_number(part, place, 0xffff_ffff);
+    put_number(part, place + 4, 0xffff_ffff);
+    part[place] = first;
+    part[place + 8] = 255;
+    part[place + 9] = 7;
+}
+
+// So many records are taken, of a book with one unit.
+fn tally_after(records: u16) -> Tally {
+    Tally {
+        units: 1,
+        requirements: 1,
+        records: records,
+        least: 0,
+        smoothing: SMOOTHING,
+        limit: 10,
+        percent: 100,
+        interval: 1,
+    }
+}
+
+fn put_frequencies(part: &mut [u8; 368], frequencies: &[u32; 75]) {
+    let mut t: usize = 0;
+    while t < 75 {
+        put_number(part, 68 + 4 * t, frequencies[t]);
+        t += 1;
+    }
+}
+
+fn put_readings(part: &mut [u8; 372]) {
+    let mut t: usize = 0;
+    while t < 75 {
+        put_number(part, 72 + 4 * t, START);
+        t += 1;
+    }
+}
+
+fn table_15(measures: &mut [i32; 375], positive: &mut [i64; 375], negative: &mut [i64; 375]) {
     let published = PUBLISHED;
-    let mut measures = [0i32; 75];
-    let outcome = series::measure::measures(SMOOTHING, 0, &quality, &frequencies, &mut measures);
-    if let Outcome::Refused(_) = outcome {
+    let frequencies = FREQUENCIES;
+    let mut part = [0u8; 368];
+    put_quality(&mut part, 2, 254);
+    put_frequencies(&mut part, &frequencies);
+    let mut read = [0u32; 75];
+    let mut figures = [0i64; 45];
+    let step = frequencies::frequency::frequency(
+        tally_after(1),
+        &part,
+        &mut read,
+        measures,
+        positive,
+        negative,
+        &mut figures,
+    );
+    let taking = step.taking;
+    if let Taking::Refused(_) = taking {
         say(b"table 15: refused\n");
         return;
     }
     say(b"table 15: of 75 measures within 10 uHz of the published: ");
-    say_number(near_points(&measures, &published));
+    say_number(near_points(measures, &published));
     say(b"; largest difference in uHz: ");
-    say_number(largest_difference(&measures, &published));
+    say_number(largest_difference(measures, &published));
     say(b"\nreliable for raise:");
-    say_test(series::reliability::reliable(Direction::Raise, &measures, 0, 1, 10));
+    say_reliable(figures[1]);
     say(b"reliable for lower:");
-    say_test(series::reliability::reliable(Direction::Lower, &measures, 0, 1, 10));
+    say_reliable(figures[2]);
 }
 
 // A unit that stays at the start is off the line by the start less the trajectory: ten times its deviation is 75 times that in thousandths of a MW.
@@ -278,20 +338,7 @@ fn minute(deviation: i64, thousandths: i64) {
     say(b"\n");
 }
 
-fn tables_4_and_5() {
-    let readings = [START; 75];
-    let mut deviations = [0i64; 75];
-    let outcome = series::deviation::deviations(
-        Kind::Generation,
-        &readings,
-        START,
-        END,
-        &mut deviations,
-    );
-    if let Outcome::Refused(_) = outcome {
-        say(b"table 4: refused\n");
-        return;
-    }
+fn say_minutes(deviations: &[i64; 75]) {
     say(b"table 4: 29.334 MW");
     minute(deviations[14], 29_334);
     say(b"table 4: 29.778 MW");
@@ -304,7 +351,45 @@ fn tables_4_and_5() {
     minute(deviations[74], 31_110);
 }
 
+fn tables_4_and_5(measures: &[i32; 375], positive: &mut [i64; 375], negative: &mut [i64; 375]) {
+    let mut part = [0u8; 372];
+    put_number(&mut part, 4, START);
+    put_number(&mut part, 8, END);
+    put_quality(&mut part, 60, 255);
+    put_readings(&mut part);
+    let mut readings = [0i32; 75];
+    let mut deviations = [0i64; 75];
+    let mut numbers = [0u16; 1];
+    let mut places = [0u8; 1];
+    let mut raise = [0i64; 1];
+    let mut lower = [0i64; 1];
+    let mut defaults = [0i64; 6];
+    let step = units::unit::unit(
+        tally_after(6),
+        &part,
+        &mut readings,
+        &mut deviations,
+        measures,
+        positive,
+        negative,
+        &mut numbers,
+        &mut places,
+        &mut raise,
+        &mut lower,
+        &mut defaults,
+    );
+    let taking = step.taking;
+    if let Taking::Refused(_) = taking {
+        say(b"table 4: refused\n");
+        return;
+    }
+    say_minutes(&deviations);
+}
+
 fn main() {
-    table_15();
-    tables_4_and_5();
+    let mut measures = [0i32; 375];
+    let mut positive = [0i64; 375];
+    let mut negative = [0i64; 375];
+    table_15(&mut measures, &mut positive, &mut negative);
+    tables_4_and_5(&measures, &mut positive, &mut negative);
 }
