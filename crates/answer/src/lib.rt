@@ -27,11 +27,7 @@ mod tested;
 mod units;
 mod values;
 
-const POINTS: usize = 75;
-
 const REGIONS: usize = 5;
-
-const SERIES_LENGTH: usize = 375;
 
 // A region has nine figures: its generation, whether raise and lower are reliable, six defaults.
 const FIGURES: usize = 9;
@@ -39,8 +35,6 @@ const FIGURES: usize = 9;
 const GENERATION: usize = 0;
 
 const FIGURES_LENGTH: usize = 45;
-
-const MOST_UNITS: u16 = 512;
 
 // Two places for each region: of its bad units and of its good ones.
 const PLACES: u8 = 10;

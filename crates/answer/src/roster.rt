@@ -7,12 +7,12 @@ ghost use lib.ListN.{length};
 ghost use Rattle.rules.specs.RequirementRecord.{set-fine};
 ghost use Rattle.answer.specs.Roster.{roster-room, place-fine, row-told, row-answer, MemberPromise};
 use super::FIGURES_LENGTH;
-use super::MOST_UNITS;
 use super::PLACES;
 use super::Row;
 use super::made::row_standing;
 use super::places::in_set;
 use super::regions::figure_of;
+use interval::turns::MOST_UNITS;
 use rules::Direction;
 use rules::Refusal;
 

@@ -4,16 +4,15 @@ ghost use mathlib.Core.Bool.{_&&_};
 ghost use Prim.Native.Nat.{_<_, _≤_, _^_};
 ghost use lib.ListN.{length};
 ghost use Rattle.answer.specs.Ranges.{measures-here, sums-here, series-here};
-use super::POINTS;
 use super::REGIONS;
 use super::sizes::between;
 use super::sizes::size;
+use book::POINTS;
+use interval::DEVIATION_LIMIT;
 
 const LEAST_MEASURE: i64 = -5_000_000;
 
 const MOST_MEASURE: i64 = 5_000_000;
-
-const DEVIATION_LIMIT: u64 = 15_000_000;
 
 // The five regions' measures at one point.
 fn measures_within(t: usize, measures: &[i32]) -> bool

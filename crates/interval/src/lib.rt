@@ -3,6 +3,11 @@
 // what is lent only where it refuses nothing. The calls that lend lists stand above, in `frequencies` and `units`; what they promise stands in specs/.
 use rules::Refusal;
 
+// The lists that the calls lend hold a number for each point of the five regions; a unit's deviation is at most so much either way.
+pub const SERIES_LENGTH: usize = 375;
+
+pub const DEVIATION_LIMIT: u64 = 15_000_000;
+
 pub mod contents;
 pub mod requirement;
 pub mod settings;

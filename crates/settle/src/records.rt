@@ -3,6 +3,7 @@ ghost use Prim.Native.Nat.{_≤_};
 ghost use lib.ListN.{length};
 use super::input::Filled;
 use super::input::read_record;
+use book::POINTS;
 use interval::Opened;
 use interval::Step;
 use interval::Taking;
@@ -13,7 +14,7 @@ const CONTENTS: usize = 56;
 
 const SETTINGS: usize = 8;
 
-const REGIONS: u16 = 5;
+const FREQUENCIES: u16 = 5;
 
 const FREQUENCY: usize = 368;
 
@@ -23,8 +24,6 @@ const REQUIREMENT: usize = 24;
 
 // How many requirements the bytes have room for.
 const ROOM: u16 = 32;
-
-const POINTS: usize = 75;
 
 // The tally so far, or why no more is read.
 pub(crate) enum Next {
@@ -121,7 +120,7 @@ pub(crate) fn take_head(
 {
     let mut frequencies = [0u32; POINTS];
     let mut next = take_opening(bytes);
-    let mut left = to_read(next, REGIONS);
+    let mut left = to_read(next, FREQUENCIES);
     while left > 0 {
         let got = read_record(bytes, 0, FREQUENCY);
         let count = got.count;
