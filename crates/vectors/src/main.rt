@@ -1,90 +1,12 @@
-// vectors: the calls on figures that source document 000 (the guide) publishes. It writes their records, hands them to the frequency and the unit call, and
-// prints what is compared: a number of each line is what the calls leave, beside the published one.
-ghost use Prim.Native.Nat.{_+_, _≤_};
-ghost use lib.ListN.{length};
+// vectors: the calls on figures that source document 000 (the guide) publishes. It takes two records from standard input: a frequency record with Table 15's
+// region frequency deviation on top of 50,000,000 µHz (its first point has no FM yet: it is bad, and holds 0), and a unit that stays at the start of Table 5's
+// trajectory, 28.89 MW to 31.11. It prints what is compared: a number of each line is what the calls leave, beside the published one.
+ghost use Prim.Native.Nat.{_≤_};
 ghost use Rattle.integers.specs.Bounds.{Within};
 use interval::Taking;
 use interval::Tally;
+use libc::STDIN_FILENO;
 use libc::STDOUT_FILENO;
-
-// Table 15, region frequency deviation, as a frequency in µHz: 50,000,000 and the published deviation. Its first point has no FM yet: it is bad, and holds 0.
-const FREQUENCIES: [u32; 75] = [
-    0,
-    50_005_000,
-    50_041_500,
-    50_038_000,
-    50_020_750,
-    50_015_250,
-    50_019_250,
-    50_022_250,
-    50_030_250,
-    50_033_750,
-    50_033_750,
-    50_034_250,
-    50_023_750,
-    50_008_000,
-    50_004_000,
-    49_996_000,
-    50_010_750,
-    50_014_750,
-    49_997_250,
-    49_981_250,
-    49_979_250,
-    49_992_500,
-    50_000_250,
-    49_993_000,
-    49_995_000,
-    49_995_750,
-    50_007_750,
-    50_009_000,
-    50_003_500,
-    49_993_250,
-    49_985_250,
-    49_988_750,
-    49_999_250,
-    50_008_250,
-    50_016_250,
-    50_012_250,
-    49_987_000,
-    49_990_750,
-    50_019_400,
-    50_017_000,
-    49_993_500,
-    49_988_250,
-    49_987_000,
-    49_988_250,
-    49_979_000,
-    49_969_250,
-    49_981_000,
-    49_991_750,
-    49_979_400,
-    49_981_000,
-    50_001_000,
-    49_997_750,
-    49_987_000,
-    49_984_750,
-    49_988_750,
-    49_997_750,
-    50_010_500,
-    50_015_500,
-    50_014_750,
-    50_007_000,
-    50_002_000,
-    49_999_500,
-    50_012_750,
-    50_023_750,
-    50_029_250,
-    50_017_750,
-    50_001_000,
-    49_980_000,
-    49_980_500,
-    49_985_000,
-    49_989_000,
-    49_973_000,
-    49_973_750,
-    49_990_000,
-    50_003_000,
-];
 
 // Table 15, frequency measure, in µHz: the five published decimals of a Hz.
 const PUBLISHED: [i64; 75] = [
@@ -171,11 +93,6 @@ const SMOOTHING: u16 = 2_222;
 // Half of the last published decimal is 5 µHz; as much again is left for a, which is short of 2/9 by 0.0000222, and for FM carried in whole µHz.
 const TOLERANCE: u64 = 10;
 
-// Table 5, in hundredths of a MW: the trajectory's start and end.
-const START: u32 = 2_889;
-
-const END: u32 = 3_111;
-
 // A number that is no larger than 10,000,000 either way.
 fn bounded(x: i64) -> i64
     ensures { λ r. ⌜ Within 10_000_000 r ⌝ }
@@ -245,27 +162,6 @@ fn say_reliable(figure: i64) {
     }
 }
 
-// Four bytes, the lowest first.
-fn put_number(part: &mut [u8], place: usize, number: u32)
-    requires { ⌜ place + 4 ≤ length (now part) ⌝ }
-{
-    part[place] = (number % 0x100) as u8;
-    part[place + 1] = (number / 0x100 % 0x100) as u8;
-    part[place + 2] = (number / 0x1_0000 % 0x100) as u8;
-    part[place + 3] = (number / 0x100_0000) as u8;
-}
-
-// Ten quality bytes that say that the points are good, but for what `first` says of the first eight.
-fn put_quality(part: &mut [u8], place: usize, first: u8)
-    requires { ⌜ place + 10 ≤ length (now part) ⌝ }
-{
-    put_number(part, place, 0xffff_ffff);
-    put_number(part, place + 4, 0xffff_ffff);
-    part[place] = first;
-    part[place + 8] = 255;
-    part[place + 9] = 7;
-}
-
 // So many records are taken, of a book with one unit.
 fn tally_after(records: u16) -> Tally {
     Tally {
@@ -280,34 +176,19 @@ fn tally_after(records: u16) -> Tally {
     }
 }
 
-fn put_frequencies(part: &mut [u8; 368], frequencies: &[u32; 75]) {
-    let mut t: usize = 0;
-    while t < 75 {
-        put_number(part, 68 + 4 * t, frequencies[t]);
-        t += 1;
-    }
-}
-
-fn put_readings(part: &mut [u8; 372]) {
-    let mut t: usize = 0;
-    while t < 75 {
-        put_number(part, 72 + 4 * t, START);
-        t += 1;
-    }
-}
-
-fn table_15(measures: &mut [i32; 375], positive: &mut [i64; 375], negative: &mut [i64; 375]) {
+fn table_15(
+    part: &[u8; 368],
+    measures: &mut [i32; 375],
+    positive: &mut [i64; 375],
+    negative: &mut [i64; 375],
+) {
     let published = PUBLISHED;
-    let frequencies = FREQUENCIES;
-    let mut part = [0u8; 368];
-    put_quality(&mut part, 2, 254);
-    put_frequencies(&mut part, &frequencies);
-    let mut read = [0u32; 75];
+    let mut frequencies = [0u32; 75];
     let mut figures = [0i64; 45];
     let step = frequencies::frequency::frequency(
         tally_after(1),
-        &part,
-        &mut read,
+        part,
+        &mut frequencies,
         measures,
         positive,
         negative,
@@ -351,12 +232,12 @@ fn say_minutes(deviations: &[i64; 75]) {
     minute(deviations[74], 31_110);
 }
 
-fn tables_4_and_5(measures: &[i32; 375], positive: &mut [i64; 375], negative: &mut [i64; 375]) {
-    let mut part = [0u8; 372];
-    put_number(&mut part, 4, START);
-    put_number(&mut part, 8, END);
-    put_quality(&mut part, 60, 255);
-    put_readings(&mut part);
+fn tables_4_and_5(
+    part: &[u8; 372],
+    measures: &[i32; 375],
+    positive: &mut [i64; 375],
+    negative: &mut [i64; 375],
+) {
     let mut readings = [0i32; 75];
     let mut deviations = [0i64; 75];
     let mut numbers = [0u16; 1];
@@ -366,7 +247,7 @@ fn tables_4_and_5(measures: &[i32; 375], positive: &mut [i64; 375], negative: &m
     let mut defaults = [0i64; 6];
     let step = units::unit::unit(
         tally_after(6),
-        &part,
+        part,
         &mut readings,
         &mut deviations,
         measures,
@@ -387,9 +268,13 @@ fn tables_4_and_5(measures: &[i32; 375], positive: &mut [i64; 375], negative: &m
 }
 
 fn main() {
+    let mut region = [0u8; 368];
+    let mut unit = [0u8; 372];
+    io::read_full(STDIN_FILENO, &mut region);
+    io::read_full(STDIN_FILENO, &mut unit);
     let mut measures = [0i32; 375];
     let mut positive = [0i64; 375];
     let mut negative = [0i64; 375];
-    table_15(&mut measures, &mut positive, &mut negative);
-    tables_4_and_5(&measures, &mut positive, &mut negative);
+    table_15(&region, &mut measures, &mut positive, &mut negative);
+    tables_4_and_5(&unit, &measures, &mut positive, &mut negative);
 }
