@@ -45,7 +45,8 @@ abbrev pub passed : {A : Type 0} → Checked → Reply A → Reply A
 passed Fine rest = rest
 passed (Wrong r) rest = refused r
 
-pub entry-passed : {A : Type 0} (place kind least most start size : ℕ) (bs : List ℕ) (rest : Reply A) → entry place kind least most start size bs rest ≡ passed (entry-answer place kind least most start size bs) rest
+pub entry-passed : {A : Type 0} (place kind least most start size : ℕ) (bs : List ℕ) (rest : Reply A)
+    → entry place kind least most start size bs rest ≡ passed (entry-answer place kind least most start size bs) rest
 entry-passed place kind least most start size bs rest =
     go
     (eqb (number-at 2 place bs) kind)
@@ -53,7 +54,8 @@ entry-passed place kind least most start size bs rest =
     (eqb (number-at 4 (place + 4) bs) start)
     (eqb (number-at 4 (place + 8) bs) (items place bs * size))
   where
-    go : (k i o l : Bool) → cond k (cond i (cond o (cond l rest (refused WrongTable)) (refused WrongTable)) (refused WrongCount)) (refused WrongTable) ≡ passed (cond k (cond i (cond o (cond l Fine (Wrong WrongTable)) (Wrong WrongTable)) (Wrong WrongCount)) (Wrong WrongTable)) rest
+    go : (k i o l : Bool)
+        → cond k (cond i (cond o (cond l rest (refused WrongTable)) (refused WrongTable)) (refused WrongCount)) (refused WrongTable) ≡ passed (cond k (cond i (cond o (cond l Fine (Wrong WrongTable)) (Wrong WrongTable)) (Wrong WrongCount)) (Wrong WrongTable)) rest
     go false i o l = refl
     go true false o l = refl
     go true true false l = refl
@@ -82,7 +84,8 @@ unit-entry bs = entry-answer 32 3 0 most-units unit-start unit-size bs
 abbrev pub requirement-entry : List ℕ → Checked
 requirement-entry bs = entry-answer 44 4 1 most-requirements (requirement-start (items 32 bs)) requirement-size bs
 
-pub entries-passed : (bs : List ℕ) → entries bs ≡ passed (settings-entry bs) (passed (frequency-entry bs) (passed (unit-entry bs) (passed (requirement-entry bs) (taken (record { units = items 32 bs; requirements = items 44 bs })))))
+pub entries-passed : (bs : List ℕ)
+    → entries bs ≡ passed (settings-entry bs) (passed (frequency-entry bs) (passed (unit-entry bs) (passed (requirement-entry bs) (taken (record { units = items 32 bs; requirements = items 44 bs })))))
 unfolding entries
 entries-passed bs =
     entry-passed 8 1 1 1 contents-size settings-size bs _

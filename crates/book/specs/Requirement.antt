@@ -22,7 +22,8 @@ requirement-answer reply = answered (λ q. Taken (requirement-of q)) Refused rep
 pub record RequirementPromise (least : ℕ) (last : Bool) (part : List ℕ) (r : RequirementRead) : Type 0 where
   pub reply : r ≡ requirement-answer (requirement-record least last part)
 
-pub read-requirement-only : {least : ℕ} {last : Bool} {part : List ℕ} {r s : RequirementRead} → RequirementPromise least last part r → RequirementPromise least last part s → r ≡ s
+pub read-requirement-only : {least : ℕ} {last : Bool} {part : List ℕ} {r s : RequirementRead} → RequirementPromise least last part r
+    → RequirementPromise least last part s → r ≡ s
 read-requirement-only a b = a .reply ∙ sym (b .reply)
 
 -- the tests of a requirement's four amounts, in the order of the fields

@@ -18,7 +18,8 @@ pub record Turned (n x : ℕ) (r : ℤ) : Type 0 where
   pub reply : r ≡ signed n x
 
 -- a number of twice as many bytes, by halves; past the end the upper half is 0
-pub halves : (m : ℕ) {place : ℕ} {bytes : List ℕ} {a b : ℕ} → Unsigned m place bytes a → Unsigned m (place + m) bytes b → Unsigned (m + m) place bytes (a + b * 256 ^ m)
+pub halves : (m : ℕ) {place : ℕ} {bytes : List ℕ} {a b : ℕ} → Unsigned m place bytes a → Unsigned m (place + m) bytes b
+    → Unsigned (m + m) place bytes (a + b * 256 ^ m)
 halves m {place} {bytes} {a} {b} low high =
     record { reply = rw (mul-comm b (256 ^ m), low .reply, high .reply) (sym (number-parts m m place bytes)) }
 

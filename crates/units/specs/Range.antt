@@ -33,7 +33,8 @@ module _ (limit n k : ℕ) (small : limit < 2 ^ 40) where
   sum-large e l f ea = omega arith
 
 -- they are 0 exactly where x is at most the limit either way
-pub sign-bits : (limit : ℕ) (x : ℤ) {above below : ℕ} → limit < 2 ^ 40 → SFits w64 x → above ≡ (limit + ofZ w64 x) % 2 ^ 64 → (below + ofZ w64 x) % 2 ^ 64 ≡ limit → below < 2 ^ 64 → eqb (above / 2 ^ 63 + below / 2 ^ 63) 0 ≡ sized limit x
+pub sign-bits : (limit : ℕ) (x : ℤ) {above below : ℕ} → limit < 2 ^ 40 → SFits w64 x → above ≡ (limit + ofZ w64 x) % 2 ^ 64
+    → (below + ofZ w64 x) % 2 ^ 64 ≡ limit → below < 2 ^ 64 → eqb (above / 2 ^ 63 + below / 2 ^ 63) 0 ≡ sized limit x
 sign-bits limit (pos n) {above} {below} h f ea eb fb = go (leb n limit) refl
   where
     go : (t : Bool) → leb n limit ≡ t → eqb (above / 2 ^ 63 + below / 2 ^ 63) 0 ≡ leb n limit

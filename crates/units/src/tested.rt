@@ -36,7 +36,11 @@ pub(crate) fn tested_unit(
     lower: usize,
     defaults: usize,
 ) -> UnitRead
-    ensures { λ r. ⌜ UnitAnswered (tested-unit tally (now (part .entry)) (now (readings .entry)) deviations (now (measures .entry)) (now (positive .entry)) (now (negative .entry)) numbers places raise lower defaults) (now (readings .entry)) r (now (readings .exit)) ⌝ }
+    ensures { λ r. ⌜
+        UnitAnswered
+        (tested-unit tally (now (part .entry)) (now (readings .entry)) deviations (now (measures .entry)) (now (positive .entry)) (now (negative .entry)) numbers places raise lower defaults)
+        (now (readings .entry)) r (now (readings .exit))
+        ⌝ }
 {
     if !unit_turn(tally) {
         return UnitRead::Refused(Refusal::OutOfTurn);

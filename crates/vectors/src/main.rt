@@ -176,15 +176,22 @@ fn tally_after(records: u16) -> Tally {
     }
 }
 
-fn table_15(
+fn is_taken(taking: Taking) -> bool {
+    if let Taking::Taken = taking {
+        true
+    } else {
+        false
+    }
+}
+
+fn take_region(
     part: &[u8; 368],
     measures: &mut [i32; 375],
     positive: &mut [i64; 375],
     negative: &mut [i64; 375],
-) {
-    let published = PUBLISHED;
+    figures: &mut [i64; 45],
+) -> bool {
     let mut frequencies = [0u32; 75];
-    let mut figures = [0i64; 45];
     let step = frequencies::frequency::frequency(
         tally_after(1),
         part,
@@ -192,13 +199,14 @@ fn table_15(
         measures,
         positive,
         negative,
-        &mut figures,
+        figures,
     );
     let taking = step.taking;
-    if let Taking::Refused(_) = taking {
-        say(b"table 15: refused\n");
-        return;
-    }
+    is_taken(taking)
+}
+
+fn say_table_15(measures: &[i32; 375], figures: &[i64; 45]) {
+    let published = PUBLISHED;
     say(b"table 15: of 75 measures within 10 uHz of the published: ");
     say_number(near_points(measures, &published));
     say(b"; largest difference in uHz: ");
@@ -232,14 +240,14 @@ fn say_minutes(deviations: &[i64; 75]) {
     minute(deviations[74], 31_110);
 }
 
-fn tables_4_and_5(
+fn take_unit(
     part: &[u8; 372],
     measures: &[i32; 375],
     positive: &mut [i64; 375],
     negative: &mut [i64; 375],
-) {
+    deviations: &mut [i64; 75],
+) -> bool {
     let mut readings = [0i32; 75];
-    let mut deviations = [0i64; 75];
     let mut numbers = [0u16; 1];
     let mut places = [0u8; 1];
     let mut raise = [0i64; 1];
@@ -249,7 +257,7 @@ fn tables_4_and_5(
         tally_after(6),
         part,
         &mut readings,
-        &mut deviations,
+        deviations,
         measures,
         positive,
         negative,
@@ -260,11 +268,7 @@ fn tables_4_and_5(
         &mut defaults,
     );
     let taking = step.taking;
-    if let Taking::Refused(_) = taking {
-        say(b"table 4: refused\n");
-        return;
-    }
-    say_minutes(&deviations);
+    is_taken(taking)
 }
 
 fn main() {
@@ -275,6 +279,28 @@ fn main() {
     let mut measures = [0i32; 375];
     let mut positive = [0i64; 375];
     let mut negative = [0i64; 375];
-    table_15(&region, &mut measures, &mut positive, &mut negative);
-    tables_4_and_5(&unit, &measures, &mut positive, &mut negative);
+    let mut figures = [0i64; 45];
+    let mut deviations = [0i64; 75];
+    if !take_region(
+        &region,
+        &mut measures,
+        &mut positive,
+        &mut negative,
+        &mut figures,
+    ) {
+        say(b"table 15: refused\n");
+        return;
+    }
+    say_table_15(&measures, &figures);
+    if !take_unit(
+        &unit,
+        &measures,
+        &mut positive,
+        &mut negative,
+        &mut deviations,
+    ) {
+        say(b"table 4: refused\n");
+        return;
+    }
+    say_minutes(&deviations);
 }
