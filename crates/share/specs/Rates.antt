@@ -7,7 +7,7 @@ use native.Mathlib.Omega.{arith}
 use native.Mathlib.Nat.{mul-le-mul, mul-le-mul-left, mul-le-mul-right, div-add-mod', mod-lt, mod-eq-of-lt, mod-eq-sub-mod, mul-add-mod-self-right, le-of-mul-le-mul-right, lt-of-mul-lt-mul-right, mul-lt-mul-of-pos-left}
 use lib.Dec.{ltb}
 use borrow.Author.Tests.{ltb-true, ltb-false}
-use Rattle.integers.specs.Division.{Divided, divided, quotient}
+use Rattle.integers.specs.Division.{Divided, divided, quotient, remains}
 use Rattle.rules.specs.Quantities.{total-limit, weight-limit}
 use Rattle.share.specs.declared.part.Rate.{Rate}
 
@@ -37,6 +37,13 @@ module _ (M b F w W : ℕ) (low : F * W ≤ b * M) (high : b * M < F * W + W) (l
       let p : F * w + 1 ≤ (F * w / M + 1) * M = omega (arith, parted, mod-lt (F * w) some) in
       let h : b * M ≤ F * W + W = omega arith in
       lt-of-mul-lt-mul-right M (omega (arith, mul-le-mul-right W p, mul-le-mul-right w h, mul-le-mul-left W large))
+
+  -- and where it is, what is over is below w
+  pub near : W ≤ M → b * w < F * w / M * W + W + w
+  near k =
+      let p : F * w + 1 ≤ (F * w / M + 1) * M = omega (arith, parted, mod-lt (F * w) some) in
+      let h : b * M + 1 ≤ F * W + W = omega arith in
+      lt-of-mul-lt-mul-right M (omega (arith, mul-le-mul-right W p, mul-le-mul-right w h, mul-le-mul-right w k))
 
   pub few : w ≤ W → F * w / M ≤ b
   few k = le-of-mul-le-mul-right {k = W} (omega (arith, under, mul-le-mul-left b k)) (omega arith)
@@ -151,3 +158,24 @@ module _ (rate : Rate) (h : Rated rate) (w q : ℕ) (k : w ≤ rate .sum) (e : q
   -- with T's whole part
   pub with-whole : (o : ℕ) → rate .rest * w ≡ q * rate .sum + o → total-of rate * w ≡ (rate .whole * w + q) * rate .sum + o
   with-whole o f = omega (arith, f)
+
+  -- where the remainder is the weight or more, the estimate is the quotient
+  pub estimate-is : (r : ℕ) → r ≡ total-of rate * w % rate .sum → w ≤ r → total-of rate * w / rate .sum ≡ rate .whole * w + q
+  estimate-is r f l = go (ltb o (rate .sum)) refl
+    where
+      o : ℕ
+      o = rate .rest * w - q * rate .sum
+
+      all : total-of rate * w ≡ (rate .whole * w + q) * rate .sum + o
+      all = with-whole o (omega (arith, estimate-under))
+
+      close : o < rate .sum + w
+      close =
+          omega (arith, estimate-under, rw (sym e) at (near (2 ^ 64) (rate .rest) (rate .ratio) w (rate .sum) (h .low) (h .high) large (omega arith) (omega (arith, h .small))))
+
+      go : (t : Bool) → ltb o (rate .sum) ≡ t → total-of rate * w / rate .sum ≡ rate .whole * w + q
+      go true g = quotient (record { is = all; small = ltb-true o (rate .sum) g })
+      go false g =
+          let b : rate .sum ≤ o = ltb-false o (rate .sum) g in
+          let d : Divided (total-of rate * w) (rate .sum) (rate .whole * w + q + 1) (o - rate .sum) = record { is = omega (arith, all); small = omega (arith, close) } in
+          absurd (omega (arith, close, f, remains d))

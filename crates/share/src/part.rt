@@ -111,3 +111,14 @@ pub(crate) fn part_of(rate: Rate, weight: u64) -> Part
         rest: over - rate.sum,
     }
 }
+
+// The whole part alone, where the remainder is known: where that is the weight or more, the estimate is the quotient.
+pub(crate) fn whole_of(rate: Rate, weight: u64, rest: u64) -> u64
+    requires { ⌜ Rated rate × (weight ≤ rate .sum) × (rest ≡ total-of rate * weight % rate .sum) ⌝ }
+    ensures { λ r. ⌜ r ≡ total-of rate * weight / rate .sum ⌝ }
+{
+    if rest < weight {
+        return part_of(rate, weight).whole;
+    }
+    rate.whole * weight + upper(rate.ratio, weight)
+}
