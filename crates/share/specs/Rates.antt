@@ -38,15 +38,28 @@ module _ (M b F w W : ℕ) (low : F * W ≤ b * M) (high : b * M < F * W + W) (l
       let h : b * M ≤ F * W + W = omega arith in
       lt-of-mul-lt-mul-right M (omega (arith, mul-le-mul-right W p, mul-le-mul-right w h, mul-le-mul-left W large))
 
-  -- and where it is, what is over is below w
-  pub near : W ≤ M → b * w < F * w / M * W + W + w
-  near k =
-      let p : F * w + 1 ≤ (F * w / M + 1) * M = omega (arith, parted, mod-lt (F * w) some) in
-      let h : b * M + 1 ≤ F * W + W = omega arith in
-      lt-of-mul-lt-mul-right M (omega (arith, mul-le-mul-right W p, mul-le-mul-right w h, mul-le-mul-right w k))
-
   pub few : w ≤ W → F * w / M ≤ b
   few k = le-of-mul-le-mul-right {k = W} (omega (arith, under, mul-le-mul-left b k)) (omega arith)
+
+-- by the ratio rounded up: at most one too large, and right where w has room between the remainder r and W
+module _ (M b F w W q r : ℕ) (low : F * W ≤ b * M) (high : b * M < F * W + W) (large : W < M) (d : Divided (b * w) W q r) where
+  rounded : (F + 1) * w / M * M + (F + 1) * w % M ≡ (F + 1) * w
+  rounded = div-add-mod' ((F + 1) * w) M
+
+  not-below : q ≤ (F + 1) * w / M
+  not-below =
+      let p : (F + 1) * w + 1 ≤ ((F + 1) * w / M + 1) * M = omega (arith, rounded, mod-lt ((F + 1) * w) {m = M} (omega arith)) in
+      let h : b * M ≤ (F + 1) * W = omega arith in
+      let l : q * W < ((F + 1) * w / M + 1) * W = lt-of-mul-lt-mul-right M (omega (arith, ap (λ (z : ℕ). z * M) (d .is), mul-le-mul-right W p, mul-le-mul-right w h)) in
+      omega (arith, lt-of-mul-lt-mul-right W {m = q} {n = (F + 1) * w / M + 1} l)
+
+  not-above : 0 < w → r + w ≤ W → (F + 1) * w / M ≤ q
+  not-above some k =
+      let p : (F + 1) * w / M * M ≤ (F + 1) * w = omega (arith, rounded) in
+      let h : (F + 1) * W ≤ b * M + W = omega arith in
+      let m : W + 1 ≤ M = omega arith in
+      let l : (F + 1) * w / M * W < (q + 1) * W = lt-of-mul-lt-mul-right M (omega (arith, ap (λ (z : ℕ). z * M) (d .is), mul-le-mul-right W p, mul-le-mul-right w h, mul-le-mul-right w m, mul-le-mul-right M k)) in
+      omega (arith, lt-of-mul-lt-mul-right W {m = (F + 1) * w / M} {n = q + 1} l)
 
 -- what is taken away in words is taken away in numbers, where that fits a word
 pub taken-away : (M x y d r : ℕ) → 0 < M → y ≡ x + d → d < M → r < M → (r + x % M) % M ≡ y % M → r ≡ d
@@ -159,23 +172,22 @@ module _ (rate : Rate) (h : Rated rate) (w q : ℕ) (k : w ≤ rate .sum) (e : q
   pub with-whole : (o : ℕ) → rate .rest * w ≡ q * rate .sum + o → total-of rate * w ≡ (rate .whole * w + q) * rate .sum + o
   with-whole o f = omega (arith, f)
 
-  -- where the remainder is the weight or more, the estimate is the quotient
-  pub estimate-is : (r : ℕ) → r ≡ total-of rate * w % rate .sum → w ≤ r → total-of rate * w / rate .sum ≡ rate .whole * w + q
-  estimate-is r f l = go (ltb o (rate .sum)) refl
-    where
-      o : ℕ
-      o = rate .rest * w - q * rate .sum
+-- the whole part by the ratio rounded up
+pub rounded-up : (rate : Rate) (w : ℕ) → Rated rate → 0 < w → total-of rate * w % rate .sum + w ≤ rate .sum → total-of rate * w / rate .sum ≡ rate .whole * w + (rate .ratio + 1) * w / 2 ^ 64
+rounded-up rate w h some k =
+    quotient all ∙ ap (λ (m : ℕ). rate .whole * w + m) (omega (arith, not-below (2 ^ 64) (rate .rest) (rate .ratio) w (rate .sum) q r (h .low) (h .high) small d, not-above (2 ^ 64) (rate .rest) (rate .ratio) w (rate .sum) q r (h .low) (h .high) small d some (omega (arith, remains all))))
+  where
+    q : ℕ
+    q = rate .rest * w / rate .sum
 
-      all : total-of rate * w ≡ (rate .whole * w + q) * rate .sum + o
-      all = with-whole o (omega (arith, estimate-under))
+    r : ℕ
+    r = rate .rest * w % rate .sum
 
-      close : o < rate .sum + w
-      close =
-          omega (arith, estimate-under, rw (sym e) at (near (2 ^ 64) (rate .rest) (rate .ratio) w (rate .sum) (h .low) (h .high) large (omega arith) (omega (arith, h .small))))
+    small : rate .sum < 2 ^ 64
+    small = omega (arith, h .small)
 
-      go : (t : Bool) → ltb o (rate .sum) ≡ t → total-of rate * w / rate .sum ≡ rate .whole * w + q
-      go true g = quotient (record { is = all; small = ltb-true o (rate .sum) g })
-      go false g =
-          let b : rate .sum ≤ o = ltb-false o (rate .sum) g in
-          let d : Divided (total-of rate * w) (rate .sum) (rate .whole * w + q + 1) (o - rate .sum) = record { is = omega (arith, all); small = omega (arith, close) } in
-          absurd (omega (arith, close, f, remains d))
+    d : Divided (rate .rest * w) (rate .sum) q r
+    d = divided (rate .rest * w) (rate .sum) (omega (arith, h .below))
+
+    all : Divided (total-of rate * w) (rate .sum) (rate .whole * w + q) r
+    all = record { is = omega (arith, d .is); small = d .small }
