@@ -1,5 +1,6 @@
-/* Instructions of one share: the library's, and C with 128-bit integers by the same cut among the remainders.
-   share N SHAPE WHICH: N weights; SHAPE random, equal, one or two; WHICH lib or c. Prints a sum of the amounts, to compare the two. */
+/* Instructions of one share: the library's, and C with 128-bit integers, which halves among the remainders.
+   share N SHAPE WHICH: N weights; SHAPE random, equal, one or two, distances or digits (made against a cut among remainders), or hard and a number
+   (drawn like those, for bench/share_search); WHICH lib or c. Prints a sum of the amounts, to compare the two. */
 #include <stdint.h>
 #include <stdio.h>
 #include <stdlib.h>
@@ -64,6 +65,39 @@ static uint64_t next(void) {
     return state ^= state << 17;
 }
 
+/* Weights against a cut. A total of half the members is so small that the remainders are the weights times the total, and half of them get one more.
+   distances: on either side of a middle weight, growing geometrically.
+   digits: nearly all alike, and one apart for every seven bits, so that a cut by digits loses one a pass.
+   hard SEED: alike but for some, apart by powers of 2 that are drawn, one for every seven bits or more; the total is drawn too. */
+static uint64_t against(const char *shape, size_t n, uint64_t *w) {
+    uint64_t middle = WEIGHT_LIMIT / n / 8 * 7;
+    unsigned bits = 0;
+    while (bits < 62 && middle >> (bits + 2)) bits++;
+    for (size_t i = 0; i < n; i++) w[i] = middle;
+    if (!strcmp(shape, "distances")) {
+        for (size_t i = 0; i < n; i++) {
+            uint64_t apart = 1ull << (i * bits / n);
+            apart += apart / n * (i * bits % n);
+            w[i] += i % 2 ? apart : -apart;
+        }
+        return n / 2;
+    }
+    if (!strcmp(shape, "digits")) {
+        for (size_t i = 0; i < n && 7 * i <= bits; i++) w[i] -= 1ull << (bits - 7 * i);
+        return n / 2;
+    }
+    state ^= strtoull(shape + 4, 0, 10) * 0x9e3779b97f4a7c15ull;
+    for (int i = 0; i < 20; i++) next();
+    uint64_t turn = next() % 4, few = 1 + next() % 4, total = turn == 0 ? n / 2 : turn == 1 ? (n / 2) | 1 : turn == 2 ? 1 + next() % n : 1 + next() % (1ull << next() % 40);
+    for (unsigned low = 0; low <= bits; low += 7) {
+        for (uint64_t i = 0; i < few; i++) {
+            uint64_t apart = 1ull << (low + next() % 7);
+            if (apart < middle) w[next() % n] = next() % 4 ? middle - apart : middle + apart / 2;
+        }
+    }
+    return total;
+}
+
 int main(int argc, char **argv) {
     if (argc != 4) return 2;
     size_t n = strtoull(argv[1], 0, 10);
@@ -73,6 +107,7 @@ int main(int argc, char **argv) {
         uint64_t most = WEIGHT_LIMIT / n;
         w[i] = !strcmp(argv[2], "random") ? next() % most : !strcmp(argv[2], "equal") ? most : !strcmp(argv[2], "two") ? most - i % 2 : i == n / 2;
     }
+    if (!strcmp(argv[2], "distances") || !strcmp(argv[2], "digits") || !strncmp(argv[2], "hard", 4)) total = against(argv[2], n, w);
     uint32_t r = !strcmp(argv[3], "c") ? share_in_c(total, w, n, out, n, &unplaced) : share_amounts(total, w, n, out, n, &unplaced);
     for (size_t i = 0; i < n; i++) all += out[i] * (int64_t)(i + 1);
     printf("%u %llu %lld\n", r, (unsigned long long)unplaced, (long long)all);

@@ -6,8 +6,9 @@ use crate::chance::Chance;
 use crate::quantities::*;
 use crate::write::*;
 
-/// `spread`: no two weights alike. `ties`: all weights of a share alike, so that every left-over is a tie.
-pub const SHAPES: [&str; 2] = ["spread", "ties"];
+/// `spread`: no two weights alike. `ties`: all weights of a share alike, so that every left-over is a tie. `hard`: defaults whose distances from a middle
+/// one grow geometrically, under pools of half as many cents as there are members, so that a search among remainders meets distances of every size.
+pub const SHAPES: [&str; 3] = ["spread", "ties", "hard"];
 
 /// Frequency low for half of the interval, then high, so that both directions are reliable.
 fn region(chance: &mut Chance, number: usize) -> FrequencyRecord {
@@ -42,6 +43,14 @@ fn tied_unit(number: usize) -> Unit {
     unit
 }
 
+fn hard_unit(chance: &mut Chance, number: usize, units: usize) -> Unit {
+    let mut unit = spread_unit(chance, number);
+    let apart = (1 << (number * 38 / units)) + ((number * 38 % units) << (number * 38 / units)) as i128 / units as i128;
+    let side = if number.is_multiple_of(2) { 1 } else { -1 };
+    unit.defaults = [-(500_000_000_000 + side * apart); 6];
+    unit
+}
+
 fn requirement(number: usize) -> Requirement {
     let mut requirement = base_requirement(number as i128 + 1, 31, Direction::BOTH[number % 2]);
     requirement.price = 1_234_567;
@@ -68,8 +77,15 @@ pub fn book(shape: &str, units: usize, requirements: usize) -> Option<Book> {
             }
             book.units = (0..units).map(tied_unit).collect();
         }
+        "hard" => book.units = (0..units).map(|number| hard_unit(&mut chance, number, units)).collect(),
         _ => return None,
     }
     book.requirements = (0..requirements).map(requirement).collect();
+    if shape == "hard" {
+        for requirement in &mut book.requirements {
+            requirement.cost = units as i128;
+            requirement.used = requirement.enabled / 2;
+        }
+    }
     Some(book)
 }

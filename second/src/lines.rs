@@ -12,7 +12,10 @@ const SIZES: [usize; 10] = [0, 1, 2, 3, 5, 7, 13, 76, 477, 513];
 /// The nth share: edges first, then drawn ones.
 pub fn share(seed: u64, nth: usize) -> String {
     let mut chance = Chance::new(seed.wrapping_add(nth as u64));
-    let weights = match nth % 8 {
+    if nth % 9 == 8 {
+        return hard(&mut chance);
+    }
+    let weights = match nth % 9 {
         0 => sum_to(&mut chance, WEIGHT_LIMIT),
         1 => sum_to(&mut chance, WEIGHT_LIMIT + 1),
         2 => equal(&mut chance),
@@ -27,8 +30,29 @@ pub fn share(seed: u64, nth: usize) -> String {
         2 => 1_000_000_000,
         _ => chance.any_size(TOTAL_LIMIT),
     };
+    line(total, weights)
+}
+
+fn line(total: i128, weights: Vec<i128>) -> String {
     let words: Vec<String> = std::iter::once(total).chain(weights).map(|n| n.to_string()).collect();
     words.join(" ")
+}
+
+/// Weights that are alike but for some, which are apart from the others by powers of 2. The total is so small that the remainders are the weights times the
+/// total, so that a search among remainders meets distances of every size.
+fn hard(chance: &mut Chance) -> String {
+    let n = chance.pick(&SIZES).max(2);
+    let middle = WEIGHT_LIMIT / (4 * n as i128);
+    let mut weights = vec![middle; n];
+    for bits in 0..48 {
+        for _ in 0..chance.between(0, 3) {
+            let place = chance.place(n);
+            let apart = (1 << bits).min(middle / 2);
+            weights[place] = if chance.one_in(2) { middle - apart } else { middle + apart };
+        }
+    }
+    let total = if chance.one_in(2) { n as i128 / 2 } else { chance.between(0, n as i128) };
+    line(total, weights)
 }
 
 /// Weights of many sizes whose sum is exactly `whole`.

@@ -7,7 +7,7 @@ use native.Mathlib.Omega.{arith}
 use native.Mathlib.Nat.{mul-le-mul, mul-le-mul-left, mul-le-mul-right, div-add-mod', mod-lt, mod-eq-of-lt, mod-eq-sub-mod, mul-add-mod-self-right, le-of-mul-le-mul-right, lt-of-mul-lt-mul-right, mul-lt-mul-of-pos-left}
 use lib.Dec.{ltb}
 use borrow.Author.Tests.{ltb-true, ltb-false}
-use Rattle.integers.specs.Division.{Divided, divided, quotient}
+use Rattle.integers.specs.Division.{Divided, divided, quotient, remains}
 use Rattle.rules.specs.Quantities.{total-limit, weight-limit}
 use Rattle.share.specs.declared.part.Rate.{Rate}
 
@@ -40,6 +40,26 @@ module _ (M b F w W : ℕ) (low : F * W ≤ b * M) (high : b * M < F * W + W) (l
 
   pub few : w ≤ W → F * w / M ≤ b
   few k = le-of-mul-le-mul-right {k = W} (omega (arith, under, mul-le-mul-left b k)) (omega arith)
+
+-- by the ratio rounded up: at most one too large, and right where w has room between the remainder r and W
+module _ (M b F w W q r : ℕ) (low : F * W ≤ b * M) (high : b * M < F * W + W) (large : W < M) (d : Divided (b * w) W q r) where
+  rounded : (F + 1) * w / M * M + (F + 1) * w % M ≡ (F + 1) * w
+  rounded = div-add-mod' ((F + 1) * w) M
+
+  not-below : q ≤ (F + 1) * w / M
+  not-below =
+      let p : (F + 1) * w + 1 ≤ ((F + 1) * w / M + 1) * M = omega (arith, rounded, mod-lt ((F + 1) * w) {m = M} (omega arith)) in
+      let h : b * M ≤ (F + 1) * W = omega arith in
+      let l : q * W < ((F + 1) * w / M + 1) * W = lt-of-mul-lt-mul-right M (omega (arith, ap (λ (z : ℕ). z * M) (d .is), mul-le-mul-right W p, mul-le-mul-right w h)) in
+      omega (arith, lt-of-mul-lt-mul-right W {m = q} {n = (F + 1) * w / M + 1} l)
+
+  not-above : 0 < w → r + w ≤ W → (F + 1) * w / M ≤ q
+  not-above some k =
+      let p : (F + 1) * w / M * M ≤ (F + 1) * w = omega (arith, rounded) in
+      let h : (F + 1) * W ≤ b * M + W = omega arith in
+      let m : W + 1 ≤ M = omega arith in
+      let l : (F + 1) * w / M * W < (q + 1) * W = lt-of-mul-lt-mul-right M (omega (arith, ap (λ (z : ℕ). z * M) (d .is), mul-le-mul-right W p, mul-le-mul-right w h, mul-le-mul-right w m, mul-le-mul-right M k)) in
+      omega (arith, lt-of-mul-lt-mul-right W {m = (F + 1) * w / M} {n = q + 1} l)
 
 -- what is taken away in words is taken away in numbers, where that fits a word
 pub taken-away : (M x y d r : ℕ) → 0 < M → y ≡ x + d → d < M → r < M → (r + x % M) % M ≡ y % M → r ≡ d
@@ -151,3 +171,23 @@ module _ (rate : Rate) (h : Rated rate) (w q : ℕ) (k : w ≤ rate .sum) (e : q
   -- with T's whole part
   pub with-whole : (o : ℕ) → rate .rest * w ≡ q * rate .sum + o → total-of rate * w ≡ (rate .whole * w + q) * rate .sum + o
   with-whole o f = omega (arith, f)
+
+-- the whole part by the ratio rounded up
+pub rounded-up : (rate : Rate) (w : ℕ) → Rated rate → 0 < w → total-of rate * w % rate .sum + w ≤ rate .sum → total-of rate * w / rate .sum ≡ rate .whole * w + (rate .ratio + 1) * w / 2 ^ 64
+rounded-up rate w h some k =
+    quotient all ∙ ap (λ (m : ℕ). rate .whole * w + m) (omega (arith, not-below (2 ^ 64) (rate .rest) (rate .ratio) w (rate .sum) q r (h .low) (h .high) small d, not-above (2 ^ 64) (rate .rest) (rate .ratio) w (rate .sum) q r (h .low) (h .high) small d some (omega (arith, remains all))))
+  where
+    q : ℕ
+    q = rate .rest * w / rate .sum
+
+    r : ℕ
+    r = rate .rest * w % rate .sum
+
+    small : rate .sum < 2 ^ 64
+    small = omega (arith, h .small)
+
+    d : Divided (rate .rest * w) (rate .sum) q r
+    d = divided (rate .rest * w) (rate .sum) (omega (arith, h .below))
+
+    all : Divided (total-of rate * w) (rate .sum) (rate .whole * w + q) r
+    all = record { is = omega (arith, d .is); small = d .small }

@@ -97,9 +97,6 @@ pub(crate) fn part_of(rate: Rate, weight: u64) -> Part
     requires { ⌜ Rated rate × (weight ≤ rate .sum) ⌝ }
     ensures { λ p. ⌜ Divided (total-of rate * weight) (rate .sum) (p .whole) (p .rest) ⌝ }
 {
-    if weight == 0 {
-        return Part { whole: 0, rest: 0 };
-    }
     let q = upper(rate.ratio, weight);
     let over = wrapping_sub_u64(lower(rate.rest, weight), lower(q, rate.sum));
     let whole = rate.whole * weight + q;
@@ -110,4 +107,15 @@ pub(crate) fn part_of(rate: Rate, weight: u64) -> Part
         whole: whole + 1,
         rest: over - rate.sum,
     }
+}
+
+// The whole part alone, where the remainder is known. The ratio rounded up gives the quotient, unless the remainder is nearly W.
+pub(crate) fn whole_of(rate: Rate, weight: u64, rest: u64) -> u64
+    requires { ⌜ Rated rate × (0 < weight) × (weight ≤ rate .sum) × (rest ≡ total-of rate * weight % rate .sum) ⌝ }
+    ensures { λ r. ⌜ r ≡ total-of rate * weight / rate .sum ⌝ }
+{
+    if rate.sum - weight < rest {
+        return part_of(rate, weight).whole;
+    }
+    rate.whole * weight + upper(rate.ratio + 1, weight)
 }

@@ -1,8 +1,8 @@
 -- `part_of` meets its contract: the estimate leaves less than twice the sum, so that it is the quotient or one less; the quotient is at most the
 -- total.
-use mathlib.Core.Path.{_≡_, ap}
+use mathlib.Core.Path.{_≡_}
 use Prim.Native.Nat.{ℕ, _+_, _-_, _*_, _≤_, _<_, _^_}
-use native.Mathlib.Nat.{mul-zero, mul-le-mul-left, le-of-mul-le-mul-right, le-of-lt, le-refl, le-trans}
+use native.Mathlib.Nat.{mul-le-mul-left, le-of-mul-le-mul-right, le-of-lt, le-refl, le-trans}
 use native.Mathlib.Omega.{arith}
 use borrow.Author.Needs.{needs}
 use Rattle.integers.specs.Division.{Divided, quotient-≤}
@@ -11,10 +11,6 @@ use Rattle.share.specs.declared.part.Rate.{Rate}
 use Rattle.share.specs.Rates.{total-of, Rated, estimate-few, left-by, with-whole}
 use Rattle.share.proofs.part.part_of.Statement.{statement}
 use Rattle.share.proofs.part.part_of.Tie as tie
-
--- no weight
-nothing : (T w W r : ℕ) → w ≡ 0 → r < W → Divided (T * w) W 0 0
-nothing T w W r e h = record { is = omega (arith, ap (λ (m : ℕ). T * m) e, mul-zero T); small = omega arith }
 
 -- an estimate that is right, and one that is one too small
 right : (T w W p o : ℕ) → T * w ≡ p * W + o → o < W → Divided (T * w) W p o
@@ -39,7 +35,7 @@ below a b h l = omega arith
 -- what is known at the estimate
 module _ (c : tie.After-upper) where
   abbrev S : tie.Start
-  S = c .before .before
+  S = c .before
 
   abbrev rate : Rate
   rate = S .args .rate
@@ -79,15 +75,10 @@ module _ (c : tie.After-wrapping-sub-u64) where
       some : (r W : ℕ) → r < W → 0 < W
       some r W h = omega arith
 
-next-one : (c : tie.Else2) → Divided (total-of (rate (at (c .before .before .before))) * w (at (c .before .before .before))) (rate (at (c .before .before .before)) .sum) (whole (c .before .before .before) + 1) (over (c .before .before .before) - rate (at (c .before .before .before)) .sum)
+next-one : (c : tie.Else1) → Divided (total-of (rate (at (c .before .before .before))) * w (at (c .before .before .before))) (rate (at (c .before .before .before)) .sum) (whole (c .before .before .before) + 1) (over (c .before .before .before) - rate (at (c .before .before .before)) .sum)
 next-one c =
     let u = c .before .before .before in
-    one-short (total-of (rate (at u))) (w (at u)) (rate (at u) .sum) (whole u) (over u) (all u) (c .if2 .left) (leaves u .1)
-
-returns : tie.Need-returns
-returns c =
-    let s = c .before in
-    nothing (total-of (s .args .rate)) (s .args .weight) (s .args .rate .sum) (s .args .rate .rest) (c .if1 .taken) (s .pre .0 .below)
+    one-short (total-of (rate (at u))) (w (at u)) (rate (at u) .sum) (whole u) (over u) (all u) (c .if1 .left) (leaves u .1)
 
 upper-requires : tie.Need-upper-requires
 upper-requires c κs = search needs
@@ -118,30 +109,29 @@ add-whole c =
     let u = c .before in
     record { fits = word (whole u) (total-of (rate (at u))) (few u) (rated (at u) .total) }
 
-returns-2 : tie.Need-returns-2
-returns-2 c =
+returns : tie.Need-returns
+returns c =
     let u = c .before .before .before in
-    right (total-of (rate (at u))) (w (at u)) (rate (at u) .sum) (whole u) (over u) (all u) (c .if2 .taken)
+    right (total-of (rate (at u))) (w (at u)) (rate (at u) .sum) (whole u) (over u) (all u) (c .if1 .taken)
 
 add-t7 : tie.Need-add-t7
 add-t7 c =
     let u = c .before .before .before in
     record { fits = word (whole u + 1) (total-of (rate (at u))) (quotient-≤ (total-of (rate (at u))) (w (at u)) (S (at u) .pre .1) (next-one c)) (rated (at u) .total) }
 
-returns-3 : tie.Need-returns-3
-returns-3 c = next-one (c .before)
+returns-2 : tie.Need-returns-2
+returns-2 c = next-one (c .before)
 
 pub part-of-spec : {M : Type 1} → statement M
 part-of-spec =
     tie.close
     (tie.spec
-    returns
     upper-requires
     lower-requires
     lower-requires-2
     wrapping-sub-u64-requires
     mul-whole
     add-whole
-    returns-2
+    returns
     add-t7
-    returns-3)
+    returns-2)
