@@ -23,6 +23,10 @@ pub mod Cents
 pub mod Answer
 pub mod Text
 pub mod Listing
+-- Defaults from seven days of record (document 02, R-7)
+pub mod Week
+pub mod RunningWeek
+pub mod WeekRoster
 -- Worked books, as theorems by computing
 pub mod Writing
 pub mod Computing
