@@ -6,10 +6,11 @@ use lib.Dec.{leb, ltb, eqb}
 use Rattle.integers.specs.Sums.{one}
 use Rattle.rules.specs.declared.Refusal.the-variants.{OutOfTurn, WrongCount, WrongWeek}
 use Rattle.rules.specs.declared.RunningWeek.{RunningWeek}
+use Rattle.rules.specs.declared.WeekDefault.{WeekDefault}
 use Rattle.rules.specs.declared.Whose.{Whose}
 use Rattle.rules.specs.Quantities.{most-units, performance-limit}
 use Rattle.rules.specs.Refusals.{Reply, taken, unless, _>>=_}
-use Rattle.rules.specs.Week.{Interval, is-live, shortfall, in-reach, whose-fine, most-intervals, WeekDefault, default-reply}
+use Rattle.rules.specs.Week.{Interval, is-live, shortfall, in-reach, whose-fine, most-intervals, default-reply}
 
 -- the total stands in two digits: what a residual can reach in one interval is the base
 abbrev pub base : ℕ

@@ -10,6 +10,7 @@ use Rattle.integers.specs.Pairs.{loss}
 use Rattle.integers.specs.Sums.{sumℕ, count, every}
 use Rattle.integers.specs.Nearest.{nearestℕ}
 use Rattle.rules.specs.declared.Refusal.the-variants.{TooShort, WrongCount, AverageTooLow, WrongWeek}
+use Rattle.rules.specs.declared.WeekDefault.{WeekDefault}
 use Rattle.rules.specs.declared.Whose.{Whose}
 use Rattle.rules.specs.declared.Whose.the-variants as whose
 use Rattle.rules.specs.Quantities.{most-units, performance-limit, unit-default-limit, residual-default-limit}
@@ -25,6 +26,9 @@ most-intervals = 2_016
 pub data Interval : Type 0 where
   live : ℤ → Interval
   not-live : Interval
+
+abbrev pub interval : Bool → ℤ → Interval
+interval is p = cond is (live p) not-live
 
 -- ---- who the member is
 -- a group has 1 to 512 units
@@ -55,10 +59,13 @@ abbrev pub shortfall : Interval → ℕ
 shortfall (live p) = loss p
 shortfall not-live = 0
 
--- what stands at an interval that is not live is not looked at
+-- a live performance is within a limit; what stands at an interval that is not live is not looked at
+abbrev pub within : ℕ → Interval → Bool
+within limit (live p) = sized limit p
+within limit not-live = true
+
 abbrev pub in-reach : Whose → Interval → Bool
-in-reach m (live p) = sized (reach m) p
-in-reach m not-live = true
+in-reach m x = within (reach m) x
 
 -- ---- the week
 abbrev pub live-count : ℕ → (ℕ → Interval) → ℕ
@@ -74,10 +81,6 @@ average total zero = 0
 average total (suc n) = nearestℕ total (suc n)
 
 -- how many intervals are live, and the default
-pub record WeekDefault : Type 0 where
-  pub count : ℕ
-  pub default : ℤ
-
 abbrev pub default-of : ℕ → ℕ → WeekDefault
 default-of total n = record { count = n; default = negℤ (pos (average total n)) }
 
@@ -103,7 +106,7 @@ abbrev pub live-bit : List ℕ → ℕ → Bool
 live-bit bits i = bit (i % 8) (getD bits (i / 8) 0)
 
 abbrev pub interval-at : List ℤ → List ℕ → ℕ → Interval
-interval-at ps bits i = cond (live-bit bits i) (live (getD ps i (pos 0))) not-live
+interval-at ps bits i = interval (live-bit bits i) (getD ps i (pos 0))
 
 -- the bytes that hold n bits
 abbrev pub bytes-for : ℕ → ℕ

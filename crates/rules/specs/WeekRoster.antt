@@ -9,10 +9,11 @@ use lib.ListN.{length, getD, drop}
 use Rattle.integers.specs.Sums.{every}
 use Rattle.integers.specs.Fills.{filled}
 use Rattle.rules.specs.declared.Refusal.the-variants.{TooShort, WrongCount, AverageTooLow, WrongWeek}
+use Rattle.rules.specs.declared.WeekDefault.{WeekDefault}
 use Rattle.rules.specs.declared.Whose.{Whose}
 use Rattle.rules.specs.declared.Whose.the-variants as whose
 use Rattle.rules.specs.Refusals.{Reply, taken, unless}
-use Rattle.rules.specs.Week.{Interval, interval-at, bytes-for, whose-fine, week-fine, average-fine, live-total, live-count, WeekDefault, default-of}
+use Rattle.rules.specs.Week.{Interval, interval-at, bytes-for, whose-fine, week-fine, average-fine, live-total, live-count, default-of}
 
 -- who a member is, as a number: 0 a residual, 1 a unit, more a group of so many
 abbrev pub whose-of : ℕ → Whose

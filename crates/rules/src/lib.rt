@@ -33,6 +33,12 @@ pub enum Whose {
     Residual,
 }
 
+// How many intervals of a week were live, and the default that they give.
+pub struct WeekDefault {
+    pub count: u16,
+    pub default: i64,
+}
+
 // A week of record while it runs: the intervals seen, how many of them were live, and the total of what the live ones fell short by, in two
 // digits, `high` of what a residual can reach in one interval, and `low`.
 pub struct RunningWeek {
