@@ -56,8 +56,9 @@ fn put_week(week: RunningWeek, words: &mut [u64])
     ensures { λ _. ⌜ now (words .exit) ≡ with-week week (now (words .entry)) ⌝ }
 {
     words[0] = week.low;
-    words[1] =
-        week.seen as u64 + SECOND_FIELD * (week.live as u64) + THIRD_FIELD * (week.high as u64);
+    words[1] = week.seen as u64
+        + SECOND_FIELD * (week.live as u64)
+        + THIRD_FIELD * (week.high as u64);
 }
 
 // The number of an interval added, with the week in the words where it was taken.

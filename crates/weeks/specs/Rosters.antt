@@ -2,13 +2,13 @@
 use mathlib.Core.Path.{_≡_, refl, sym, _∙_, ap, ap₂}
 use mathlib.Core.Bool.{Bool, true, false, cond, _&&_}
 use mathlib.Core.List.{List}
-use Prim.Native.Nat.{ℕ, zero, suc, _+_, _*_, _/_, _≤_, _<_, max}
+use Prim.Native.Nat.{ℕ, zero, suc, _+_, _*_, _-_, _/_, _≤_, _<_, max}
 use native.Mathlib.Nat.{mul-le-mul-right, add-mul, le-div-iff-mul-le, div-lt-iff-lt-mul}
 use native.Mathlib.Omega.{arith}
 use lib.Dec.{leb}
 use lib.IntN.{ℤ, pos}
 use lib.ListN.{length, getD, take, drop, length-drop}
-use lib.Seq.{getD-take, length-take-le}
+use lib.Seq.{getD-take, length-take-le, take-all}
 use borrow.Author.Tests.{leb-true, leb-false, le-leb, lt-leb}
 use Rattle.integers.specs.Sums.{one, every, every-at, every-more, every-none, every-ext, sumℕ-ext, both}
 use Rattle.integers.specs.Fills.{filled, filled-ext}
@@ -128,10 +128,21 @@ module _ (n : ℕ) (ms : List ℕ) (ps : List ℤ) (bits : List ℕ) where
       rw (own, le-leb b (length (drop (j * b) bits)) room)
       (week-ext _ n _ _ (λ i l. ap (interval (live-bit (drop (j * b) bits) i)) (getD-take n (drop (j * n) ps) i (pos 0) l)))
 
+  -- the same of the part as the code cuts it
+  pub own-part-cut : Long → (j : ℕ) → j < length ms → (m : Whose) (x y b : ℕ) → m ≡ member n ms ps bits j → x ≡ n → b ≡ bytes-for n → y ≡ length bits - j * b → list-reply m (take x (drop (j * n) ps)) (take y (drop (j * b) bits)) ≡ week-reply (member n ms ps bits j) n (member-interval n ms ps bits j)
+  own-part-cut long j h m x y b e f g k =
+      let all : take y (drop (j * b) bits) ≡ drop (j * b) bits = take-all y (drop (j * b) bits) (omega (arith, length-drop (j * b) bits)) in
+      rw (all, e, f, g) (own-part long j h)
+
   -- where its tests hold, a member is told its default
   pub told-default : (j : ℕ) → whose-fine (member n ms ps bits j) ≡ true → weeks-fine j ≡ true → averages-fine j ≡ true → default-in (member-told j) ≡ member-default n ms ps bits j
   unfolding week-reply
   told-default j a b c = rw (a, b, c)
+
+-- the columns are filled with what the members are told
+pub record ColumnsWritten (n : ℕ) (ms : List ℕ) (ps : List ℤ) (bits counts : List ℕ) (defaults : List ℤ) (counts′ : List ℕ) (defaults′ : List ℤ) : Type 0 where
+  pub counted : counts′ ≡ filled (length ms) (λ j. default-in (member-told n ms ps bits j) .count) counts
+  pub averaged : defaults′ ≡ filled (length ms) (λ j. default-in (member-told n ms ps bits j) .default) defaults
 
 -- ---- the whole promise, by the tests
 module _ (n : ℕ) (ms : List ℕ) (ps : List ℤ) (bits counts : List ℕ) (defaults : List ℤ) where
@@ -193,10 +204,9 @@ module _ (n : ℕ) (ms : List ℕ) (ps : List ℤ) (bits counts : List ℕ) (def
 
       pub roster-done :
           (judged n ms ps bits m ≡ 17 → ⊥) → (judged n ms ps bits m ≡ 14 → ⊥) → {counts′ : List ℕ} {defaults′ : List ℤ} →
-          counts′ ≡ filled m (λ j. default-in (member-told n ms ps bits j) .count) counts →
-          defaults′ ≡ filled m (λ j. default-in (member-told n ms ps bits j) .default) defaults →
+          ColumnsWritten n ms ps bits counts defaults counts′ defaults′ →
           RosterPromise n ms ps bits counts defaults written.Done counts′ defaults′
-      roster-done no-wrong no-low {counts′} {defaults′} e f =
+      roster-done no-wrong no-low {counts′} {defaults′} columns =
           go (every m (weeks-fine n ms ps bits)) (every m (averages-fine n ms ps bits)) refl refl no-wrong no-low
         where
           go : (c d : Bool) → every m (weeks-fine n ms ps bits) ≡ c → every m (averages-fine n ms ps bits) ≡ d → (judgement c d ≡ 17 → ⊥) → (judgement c d ≡ 14 → ⊥) → RosterPromise n ms ps bits counts defaults written.Done counts′ defaults′
@@ -205,8 +215,8 @@ module _ (n : ℕ) (ms : List ℕ) (ps : List ℤ) (bits counts : List ℕ) (def
               let same : (j : ℕ) → j < m → default-in (member-told n ms ps bits j) ≡ member-default n ms ps bits j = λ j l. told-default n ms ps bits j (every-at m fine (sym who) j l) (every-at m (weeks-fine n ms ps bits) g j l) (every-at m (averages-fine n ms ps bits) h j l) in
               record {
                 reply = rw done;
-                counted = rw done (e ∙ filled-ext m _ _ counts (λ j l. ap (λ (d : WeekDefault). d .count) (same j l)));
-                averaged = rw done (f ∙ filled-ext m _ _ defaults (λ j l. ap (λ (d : WeekDefault). d .default) (same j l)));
+                counted = rw done (columns .counted ∙ filled-ext m _ _ counts (λ j l. ap (λ (d : WeekDefault). d .count) (same j l)));
+                averaged = rw done (columns .averaged ∙ filled-ext m _ _ defaults (λ j l. ap (λ (d : WeekDefault). d .default) (same j l)));
               }
           go true false g h x y = absurd (y refl)
           go false d g h x y = absurd (x refl)

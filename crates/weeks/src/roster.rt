@@ -14,11 +14,10 @@ ghost use Prim.Native.Nat.{_≤_, _<_, _*_, max};
 ghost use lib.Dec.{leb};
 ghost use lib.ListN.{length, getD};
 ghost use Rattle.integers.specs.Sums.{every};
-ghost use Rattle.integers.specs.Fills.{filled};
 ghost use Rattle.rules.specs.Week.{whose-fine, bytes-for};
 ghost use Rattle.rules.specs.WeekRoster.{whose-of, long-enough};
 ghost use Rattle.weeks.specs.Promises.{told-of, RosterPromise};
-ghost use Rattle.weeks.specs.Rosters.{Long, AllFine, told-number, default-in, judged, member-told};
+ghost use Rattle.weeks.specs.Rosters.{Long, AllFine, ColumnsWritten, told-number, default-in, judged, member-told};
 
 // Who a member is, as a number: 0 a residual, 1 a unit, more a group of so many units.
 pub fn whose_of(number: u16) -> Whose
@@ -53,7 +52,8 @@ fn are_long(
     defaults: usize,
 ) -> bool
     requires { ⌜ intervals < 4_294_967_296 ⌝ }
-    ensures { λ r. ⌜ r ≡ long-enough intervals (now (whose .entry)) (now (performances .entry)) (now (live .entry)) counts defaults ⌝ }
+    ensures { λ r. ⌜ r ≡ long-enough intervals (now (whose .entry)) (now (performances .entry)) (now (live .entry))
+        counts defaults ⌝ }
 {
     if !is_long(whose.len(), intervals, performances.len()) {
         return false;
@@ -81,13 +81,7 @@ fn all_fine(whose: &[u16]) -> bool
 }
 
 // What the week of member j comes to.
-fn member_week(
-    intervals: usize,
-    whose: &[u16],
-    performances: &[i64],
-    live: &[u8],
-    j: usize,
-) -> Told
+fn member_week(intervals: usize, whose: &[u16], performances: &[i64], live: &[u8], j: usize) -> Told
     requires { ⌜ (j < length (now whose)) × Long intervals (now whose) (now performances) (now live) ⌝ }
     ensures { λ r. ⌜ r ≡ member-told intervals (now (whose .entry)) (now (performances .entry)) (now (live .entry)) j ⌝ }
 {
@@ -116,7 +110,8 @@ fn larger(a: u32, b: u32) -> u32
 // The tests of all members' weeks: 17 where one is wrong, else 14 where an average is too low, else 0. Of the two the larger number comes first.
 fn judge(intervals: usize, whose: &[u16], performances: &[i64], live: &[u8]) -> u32
     requires { ⌜ Long intervals (now whose) (now performances) (now live) × AllFine (now whose) ⌝ }
-    ensures { λ r. ⌜ r ≡ judged intervals (now (whose .entry)) (now (performances .entry)) (now (live .entry)) (length (now (whose .entry))) ⌝ }
+    ensures { λ r. ⌜ r ≡ judged intervals (now (whose .entry)) (now (performances .entry)) (now (live .entry))
+        (length (now (whose .entry))) ⌝ }
 {
     let mut worst: u32 = 0;
     let mut j: usize = 0;
@@ -149,8 +144,10 @@ fn write(
     counts: &mut [u16],
     defaults: &mut [i64],
 )
-    requires { ⌜ Long intervals (now whose) (now performances) (now live) × (length (now whose) ≤ length (now counts)) × (length (now whose) ≤ length (now defaults)) ⌝ }
-    ensures { λ _. ⌜ (now (counts .exit) ≡ filled (length (now (whose .entry))) (λ j. default-in (member-told intervals (now (whose .entry)) (now (performances .entry)) (now (live .entry)) j) .count) (now (counts .entry))) × (now (defaults .exit) ≡ filled (length (now (whose .entry))) (λ j. default-in (member-told intervals (now (whose .entry)) (now (performances .entry)) (now (live .entry)) j) .default) (now (defaults .entry))) ⌝ }
+    requires { ⌜ Long intervals (now whose) (now performances) (now live)
+        × (length (now whose) ≤ length (now counts)) × (length (now whose) ≤ length (now defaults)) ⌝ }
+    ensures { λ _. ⌜ ColumnsWritten intervals (now (whose .entry)) (now (performances .entry)) (now (live .entry))
+        (now (counts .entry)) (now (defaults .entry)) (now (counts .exit)) (now (defaults .exit)) ⌝ }
 {
     let mut j: usize = 0;
     while j < whose.len() {
@@ -171,7 +168,8 @@ pub fn roster(
     counts: &mut [u16],
     defaults: &mut [i64],
 ) -> Written
-    ensures { λ r. ⌜ RosterPromise intervals (now (whose .entry)) (now (performances .entry)) (now (live .entry)) (now (counts .entry)) (now (defaults .entry)) r (now (counts .exit)) (now (defaults .exit)) ⌝ }
+    ensures { λ r. ⌜ RosterPromise intervals (now (whose .entry)) (now (performances .entry)) (now (live .entry))
+        (now (counts .entry)) (now (defaults .entry)) r (now (counts .exit)) (now (defaults .exit)) ⌝ }
 {
     let n = intervals as usize;
     if !are_long(n, whose, performances, live, counts.len(), defaults.len()) {

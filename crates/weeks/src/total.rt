@@ -44,10 +44,10 @@ fn shortfall(performance: i64) -> u64
 pub(crate) fn is_within(limit: u64, live: bool, performance: i64) -> bool
     ensures { λ r. ⌜ r ≡ within limit (interval live performance) ⌝ }
 {
-    if !live {
-        return true;
+    if live {
+        return size(performance) <= limit;
     }
-    size(performance) <= limit
+    true
 }
 
 // Is this a record that some run of calls leaves? With `low` below the base, a total is over what so many live ones can reach where `high` is

@@ -1,19 +1,15 @@
 -- Its own part of the lists: they hold every member's.
 use borrow.Author.Needs.{needs}
-use mathlib.Core.Path.{_≡_, sym, _∙_, ap}
-use Prim.Native.Nat.{ℕ, _+_, _*_, _≤_, _<_}
+use mathlib.Core.Path.{_≡_, refl, _∙_, ap}
+use Prim.Native.Nat.{ℕ, _+_, _*_, _-_, _≤_, _<_}
 use native.Mathlib.Nat.{mul-le-mul-right, add-mul}
 use lib.ListN.{length}
 use native.Mathlib.Omega.{arith}
 use Rattle.rules.specs.Week.{bytes-for}
-use Rattle.weeks.specs.Rosters.{own-part}
+use Rattle.weeks.specs.Promises.{told-of}
+use Rattle.weeks.specs.Rosters.{own-part-cut}
 use Rattle.weeks.proofs.roster.member_week.Statement.{statement}
 use Rattle.weeks.proofs.roster.member_week.Tie as tie
-use Rattle.weeks.proofs.roster.member_week.Reads as reads
-use Rattle.weeks.proofs.roster.member_week.Lts as lts
-use Rattle.weeks.proofs.list.bytes_for.Reads as bytes-for-reads
-use Rattle.weeks.proofs.list.week.Reads as week-reads
-use Rattle.weeks.proofs.roster.whose_of.Reads as whose-of-reads
 
 module _ (s : tie.Start) where
   abbrev n : ℕ
@@ -35,72 +31,62 @@ module _ (s : tie.Start) where
 start-there : (c : tie.After-bytes-for) → j (c .before .before .before) * c .bytes-for .result ≤ length (c .before .before .before .args .live .now)
 start-there c = omega (arith, bits-end (c .before .before .before), ap (λ (b : ℕ). j (c .before .before .before) * b) (c .bytes-for .ensures))
 
--- src/roster.rt:94:16
 mul-from : tie.Need-mul-from
 mul-from c =
     record { fits = omega (arith, own-end (c .before .before)) }
 
--- src/roster.rt:95:14
 add-to : tie.Need-add-to
 add-to c =
     record { fits = omega (arith, own-end (c .before .before)) }
 
--- src/roster.rt:96:18
 bytes-for-requires : tie.Need-bytes-for-requires
 bytes-for-requires c κs = search needs
 
--- src/roster.rt:96:14
 mul-at : tie.Need-mul-at
 mul-at c =
     record { fits = omega (arith, bits-end (c .before .before .before), ap (λ (b : ℕ). j (c .before .before .before) * b) (c .bytes-for .ensures)) }
 
--- src/roster.rt:97:19
 mul-whose-of : tie.Need-mul-whose-of
 mul-whose-of c = search needs
 
--- src/roster.rt:97:19
 shared-slice-read-whose-of : tie.Need-shared-slice-read-whose-of
 shared-slice-read-whose-of c = search needs
 
--- src/roster.rt:97:10
 whose-of-requires : tie.Need-whose-of-requires
 whose-of-requires c κs = search needs
 
--- src/roster.rt:97:30
 mul-week : tie.Need-mul-week
 mul-week c = let h = own-end (c .before .before .before .before .before) in search needs
 
--- src/roster.rt:97:30
 sub-week : tie.Need-sub-week
 sub-week c = search needs
 
--- src/roster.rt:97:30
 part-week-start : tie.Need-part-week-start
 part-week-start c = search needs
 
--- src/roster.rt:97:30
 part-week-end : tie.Need-part-week-end
 part-week-end c = let h = own-end (c .before .before .before .before .before) in search needs
 
--- src/roster.rt:97:55
 sub-week-2 : tie.Need-sub-week-2
 sub-week-2 c = start-there (c .before .before .before)
 
--- src/roster.rt:97:55
 part-week-start-2 : tie.Need-part-week-start-2
 part-week-start-2 c = let h = start-there (c .before .before .before) in search needs
 
--- src/roster.rt:97:55
 part-week-end-2 : tie.Need-part-week-end-2
 part-week-end-2 c = search needs
 
--- src/roster.rt:97:5
 week-requires : tie.Need-week-requires
 week-requires c κs = search needs
 
--- src/roster.rt:84:1
 returns : tie.Need-returns
-returns c = let x = c .week .ensures .reply in ?
+returns c =
+    let w = c .before .before .before in
+    let b = w .before .before in
+    let s = b .before .before .before in
+    let a = s .args in
+    c .week .ensures .reply
+    ∙ ap told-of (own-part-cut (a .intervals) (a .whose .now) (a .performances .now) (a .live .now) (s .pre .1) (a .j) (s .pre .0) (w .whose-of .result) (a .j * a .intervals + a .intervals - a .j * a .intervals) (length (a .live .now) - a .j * b .bytes-for .result) (b .bytes-for .result) (w .whose-of .ensures) (omega arith) (b .bytes-for .ensures) refl)
 
 pub member-week-spec : {M : Type 1} → statement M
 member-week-spec =

@@ -5,22 +5,20 @@ use Prim.Native.Nat.{ℕ}
 use lib.Dec.{leb}
 use lib.IntN.{natAbs}
 use mir.Facts.{toZ-ofZ}
-use borrow.Author.Tests.{not-true, not-false}
 use Rattle.weeks.proofs.total.is_within.Statement.{statement}
 use Rattle.weeks.proofs.total.is_within.Tie as tie
-
-returns : tie.Need-returns
-returns c =
-    rw (not-true (c .before .args .live) (c .if1 .taken))
 
 size-requires : tie.Need-size-requires
 size-requires c κs = search needs
 
-returns-2 : tie.Need-returns-2
-returns-2 c =
+returns : tie.Need-returns
+returns c =
     let s = c .before .before in
     let e : c .size .result ≡ natAbs (s .args .performance) = simp (toZ-ofZ, s .fits .performance) at (c .size .ensures) in
-    rw (not-false (s .args .live) (c .before .if1 .left)) (ap (λ (n : ℕ). leb n (s .args .limit)) e)
+    rw (c .before .if1 .taken) (ap (λ (n : ℕ). leb n (s .args .limit)) e)
+
+returns-2 : tie.Need-returns-2
+returns-2 c = rw (c .if1 .left)
 
 pub is-within-spec : {M : Type 1} → statement M
-is-within-spec = tie.close (tie.spec returns size-requires returns-2)
+is-within-spec = tie.close (tie.spec size-requires returns returns-2)
