@@ -8,6 +8,7 @@ use lib.Dec.{leb, ltb, eqb}
 use lib.IntN.{ℤ, pos}
 use lib.ListN.{length, getD, set, drop}
 use borrow.Author.Tests.{leb-true, leb-false, ltb-true, ltb-false, le-leb, lt-leb, lt-ltb, le-ltb}
+use Rattle.integers.specs.Division.{Divided, remains}
 use Rattle.rules.specs.declared.Refusal.the-variants.{OutOfTurn, TooShort}
 use Rattle.rules.specs.declared.RunningWeek.{RunningWeek}
 use Rattle.rules.specs.declared.WeekDefault.{WeekDefault}
@@ -61,7 +62,9 @@ pub record WeekCalled (m : ℕ) (ps : List ℤ) (bits : List ℕ) (xs : List ℤ
   pub reply : r ≡ reply-number (week-answer m ps bits xs)
   pub numbers : xs′ ≡ left with-default (week-answer m ps bits xs) xs
 
-pub dullavane-week-only : {m : ℕ} {ps : List ℤ} {bits : List ℕ} {xs : List ℤ} {r r₂ : ℕ} {xs′ xs₂ : List ℤ} → WeekCalled m ps bits xs r xs′ → WeekCalled m ps bits xs r₂ xs₂ → (r ≡ r₂) × (xs′ ≡ xs₂)
+pub dullavane-week-only :
+    {m : ℕ} {ps : List ℤ} {bits : List ℕ} {xs : List ℤ} {r r₂ : ℕ} {xs′ xs₂ : List ℤ} → WeekCalled m ps bits xs r xs′ → WeekCalled m ps bits xs r₂ xs₂ →
+    (r ≡ r₂) × (xs′ ≡ xs₂)
 dullavane-week-only a b = (a .reply ∙ sym (b .reply), a .numbers ∙ sym (b .numbers))
 
 -- a roster's
@@ -71,7 +74,9 @@ module _ (n : ℕ) (ms : List ℕ) (ps : List ℤ) (bits counts : List ℕ) (def
     pub counted : counts′ ≡ where-taken (reply-to n ms ps bits counts defaults) (counts-after n ms ps bits counts) counts
     pub averaged : defaults′ ≡ where-taken (reply-to n ms ps bits counts defaults) (defaults-after n ms ps bits defaults) defaults
 
-  pub dullavane-weeks-only : {r r₂ : ℕ} {counts′ counts₂ : List ℕ} {defaults′ defaults₂ : List ℤ} → WeeksCalled r counts′ defaults′ → WeeksCalled r₂ counts₂ defaults₂ → (r ≡ r₂) × (counts′ ≡ counts₂) × (defaults′ ≡ defaults₂)
+  pub dullavane-weeks-only :
+      {r r₂ : ℕ} {counts′ counts₂ : List ℕ} {defaults′ defaults₂ : List ℤ} → WeeksCalled r counts′ defaults′ → WeeksCalled r₂ counts₂ defaults₂ →
+      (r ≡ r₂) × (counts′ ≡ counts₂) × (defaults′ ≡ defaults₂)
   dullavane-weeks-only a b = (a .reply ∙ sym (b .reply), a .counted ∙ sym (b .counted), a .averaged ∙ sym (b .averaged))
 
 -- an interval added; any flag but 0 says that it is live
@@ -85,7 +90,9 @@ pub record WeekAddCalled (m live : ℕ) (p : ℤ) (ws : List ℕ) (r : ℕ) (ws�
   pub reply : r ≡ reply-number (add-answer m live p ws)
   pub words : ws′ ≡ left with-week (add-answer m live p ws) ws
 
-pub dullavane-week-add-only : {m live : ℕ} {p : ℤ} {ws : List ℕ} {r r₂ : ℕ} {ws′ ws₂ : List ℕ} → WeekAddCalled m live p ws r ws′ → WeekAddCalled m live p ws r₂ ws₂ → (r ≡ r₂) × (ws′ ≡ ws₂)
+pub dullavane-week-add-only :
+    {m live : ℕ} {p : ℤ} {ws : List ℕ} {r r₂ : ℕ} {ws′ ws₂ : List ℕ} → WeekAddCalled m live p ws r ws′ → WeekAddCalled m live p ws r₂ ws₂ →
+    (r ≡ r₂) × (ws′ ≡ ws₂)
 dullavane-week-add-only a b = (a .reply ∙ sym (b .reply), a .words ∙ sym (b .words))
 
 -- what is read off
@@ -96,7 +103,8 @@ pub record WeekReadCalled (m : ℕ) (ws : List ℕ) (xs : List ℤ) (r : ℕ) (x
   pub reply : r ≡ reply-number (read-answer m ws xs)
   pub numbers : xs′ ≡ left with-default (read-answer m ws xs) xs
 
-pub dullavane-week-read-only : {m : ℕ} {ws : List ℕ} {xs : List ℤ} {r r₂ : ℕ} {xs′ xs₂ : List ℤ} → WeekReadCalled m ws xs r xs′ → WeekReadCalled m ws xs r₂ xs₂ → (r ≡ r₂) × (xs′ ≡ xs₂)
+pub dullavane-week-read-only :
+    {m : ℕ} {ws : List ℕ} {xs : List ℤ} {r r₂ : ℕ} {xs′ xs₂ : List ℤ} → WeekReadCalled m ws xs r xs′ → WeekReadCalled m ws xs r₂ xs₂ → (r ≡ r₂) × (xs′ ≡ xs₂)
 dullavane-week-read-only a b = (a .reply ∙ sym (b .reply), a .numbers ∙ sym (b .numbers))
 
 -- ---- what is told of the answers of `weeks`
@@ -156,15 +164,16 @@ week-there ws h l =
 pub week-held-means : (ws : List ℕ) {r : ℕ} → r ≡ reply-number (week-held ws) → r ≡ 0 → WeekHeld ws
 week-held-means ws e none = go (leb week-words (length ws)) refl (ltb (getD ws 1 0) 281_474_976_710_656) refl
   where
-    twelve : 12 ≡ 0 → WeekHeld ws
+    twelve : _≡_ {A = ℕ} 12 0 → WeekHeld ws
     twelve e = absurd (omega arith)
 
-    eleven : 11 ≡ 0 → WeekHeld ws
+    eleven : _≡_ {A = ℕ} 11 0 → WeekHeld ws
     eleven e = absurd (omega arith)
 
     go : (x : Bool) → leb week-words (length ws) ≡ x → (y : Bool) → ltb (getD ws 1 0) 281_474_976_710_656 ≡ y → WeekHeld ws
     go true l true n = week-there ws (leb-true week-words (length ws) l) (ltb-true (getD ws 1 0) 281_474_976_710_656 n)
-    go true l false n = eleven (sym (ap reply-number (week-wide ws (leb-true week-words (length ws) l) (ltb-false (getD ws 1 0) 281_474_976_710_656 n))) ∙ sym e ∙ none)
+    go true l false n = eleven (sym (ap reply-number (week-wide ws (leb-true week-words (length ws) l) (ltb-false (getD ws 1 0) 281_474_976_710_656 n)))
+        ∙ sym e ∙ none)
     go false l y n = twelve (sym (ap reply-number (week-short ws (leb-false week-words (length ws) l))) ∙ sym e ∙ none)
 
 -- what an added interval leaves in the words is the running week that the next call reads there
@@ -175,7 +184,8 @@ week-kept r ws s l h =
     same : (f : ℕ) → f ≡ fields-of r → record { seen = f % 65_536; live = f / 65_536 % 65_536; high = f / 4_294_967_296; low = r .low } ≡ r
     same f e =
         let a : f % 65_536 ≡ r .seen = omega arith in
-        let b : f / 65_536 % 65_536 ≡ r .live = omega arith in
+        let q : f / 65_536 ≡ r .live + 65_536 * r .high = omega arith in
+        let b : f / 65_536 % 65_536 ≡ r .live = remains {q = r .high} (record { is = omega arith; small = l }) in
         let c : f / 4_294_967_296 ≡ r .high = omega arith in
         rw (a, b, c)
 
@@ -190,15 +200,24 @@ module _ (m : ℕ) (ps : List ℤ) (bits : List ℕ) (xs : List ℤ) where
   pub week-no-room : length xs < default-numbers → {r : ℕ} → r ≡ 12 → WeekCalled m ps bits xs r xs
   week-no-room h e = let l = lt-leb default-numbers (length xs) h in record { reply = e ∙ rw l; numbers = rw l }
 
-  pub week-told : default-numbers ≤ length xs → (t : Told) → WeekPromise (whose-of m) ps bits t → {r : ℕ} {xs′ : List ℤ} → r ≡ told-number t → xs′ ≡ default-after t xs → WeekCalled m ps bits xs r xs′
+  pub week-told :
+      default-numbers ≤ length xs → (t : Told) → WeekPromise (whose-of m) ps bits t → {r : ℕ} {xs′ : List ℤ} → r ≡ told-number t → xs′ ≡ default-after t xs →
+      WeekCalled m ps bits xs r xs′
   week-told h t p e f =
       let l = le-leb default-numbers (length xs) h in
       let k = told-is (list-reply (whose-of m) ps bits) xs in
       record { reply = e ∙ rw l (ap told-number (p .reply) ∙ k .0); numbers = f ∙ rw l (ap (λ (t : Told). default-after t xs) (p .reply) ∙ k .1) }
 
 module _ (n : ℕ) (ms : List ℕ) (ps : List ℤ) (bits counts : List ℕ) (defaults : List ℤ) where
-  pub weeks-told : (t : Written) {counts′ : List ℕ} {defaults′ : List ℤ} → RosterPromise n ms ps bits counts defaults t counts′ defaults′ → {r : ℕ} → r ≡ written-number t → WeeksCalled n ms ps bits counts defaults r counts′ defaults′
-  weeks-told t p e = record { reply = e ∙ ap written-number (p .reply) ∙ written-is (reply-to n ms ps bits counts defaults); counted = p .counted; averaged = p .averaged }
+  pub weeks-told :
+      (t : Written) {counts′ : List ℕ} {defaults′ : List ℤ} → RosterPromise n ms ps bits counts defaults t counts′ defaults′ → {r : ℕ} →
+      r ≡ written-number t → WeeksCalled n ms ps bits counts defaults r counts′ defaults′
+  weeks-told t p e = record {
+    reply = e ∙ ap written-number (p .reply) ∙ written-is
+        (reply-to n ms ps bits counts defaults);
+    counted = p .counted;
+    averaged = p .averaged;
+  }
 
 module _ (m live : ℕ) (p : ℤ) (ws : List ℕ) where
   pub add-unheld : (reply-number (week-held ws) ≡ 0 → ⊥) → {r : ℕ} → r ≡ reply-number (week-held ws) → WeekAddCalled m live p ws r ws
@@ -208,7 +227,9 @@ module _ (m live : ℕ) (p : ℤ) (ws : List ℕ) where
       go (taken w) f some = absurd (some refl)
       go (refused why) f some = record { reply = e ∙ rw f; words = rw f }
 
-  pub add-told : (w : RunningWeek) → week-held ws ≡ taken w → (t : Added) → AddPromise (whose-of m) (flag live) p w t → {r : ℕ} {ws′ : List ℕ} → r ≡ added-number t → ws′ ≡ week-after t ws → WeekAddCalled m live p ws r ws′
+  pub add-told :
+      (w : RunningWeek) → week-held ws ≡ taken w → (t : Added) → AddPromise (whose-of m) (flag live) p w t → {r : ℕ} {ws′ : List ℕ} → r ≡ added-number t →
+      ws′ ≡ week-after t ws → WeekAddCalled m live p ws r ws′
   add-told w h t q e f =
       let k = added-is (add-reply (whose-of m) (interval (flag live) p) w) ws in
       record { reply = e ∙ rw h (ap added-number (q .reply) ∙ k .0); words = f ∙ rw h (ap (λ (t : Added). week-after t ws) (q .reply) ∙ k .1) }
@@ -217,7 +238,8 @@ module _ (m : ℕ) (ws : List ℕ) (xs : List ℤ) where
   pub read-no-room : length xs < default-numbers → {r : ℕ} → r ≡ 12 → WeekReadCalled m ws xs r xs
   read-no-room h e = let l = lt-leb default-numbers (length xs) h in record { reply = e ∙ rw l; numbers = rw l }
 
-  pub read-unheld : default-numbers ≤ length xs → (reply-number (week-held ws) ≡ 0 → ⊥) → {r : ℕ} → r ≡ reply-number (week-held ws) → WeekReadCalled m ws xs r xs
+  pub read-unheld :
+      default-numbers ≤ length xs → (reply-number (week-held ws) ≡ 0 → ⊥) → {r : ℕ} → r ≡ reply-number (week-held ws) → WeekReadCalled m ws xs r xs
   read-unheld h some {r} e = go (week-held ws) refl some
     where
       l : leb default-numbers (length xs) ≡ true
@@ -227,8 +249,14 @@ module _ (m : ℕ) (ws : List ℕ) (xs : List ℤ) where
       go (taken w) f some = absurd (some refl)
       go (refused why) f some = record { reply = e ∙ rw (l, f); numbers = rw (l, f) }
 
-  pub read-told : default-numbers ≤ length xs → (w : RunningWeek) → week-held ws ≡ taken w → (t : Told) → ReadPromise (whose-of m) w t → {r : ℕ} {xs′ : List ℤ} → r ≡ told-number t → xs′ ≡ default-after t xs → WeekReadCalled m ws xs r xs′
+  pub read-told :
+      default-numbers ≤ length xs → (w : RunningWeek) → week-held ws ≡ taken w → (t : Told) → ReadPromise (whose-of m) w t → {r : ℕ} {xs′ : List ℤ} →
+      r ≡ told-number t → xs′ ≡ default-after t xs → WeekReadCalled m ws xs r xs′
   read-told h w held t q e f =
       let l = le-leb default-numbers (length xs) h in
       let k = told-is (read-reply (whose-of m) w) xs in
-      record { reply = e ∙ rw (l, held) (ap told-number (q .reply) ∙ k .0); numbers = f ∙ rw (l, held) (ap (λ (t : Told). default-after t xs) (q .reply) ∙ k .1) }
+      record {
+        reply = e ∙ rw (l, held) (ap told-number (q .reply) ∙ k .0);
+        numbers = f ∙ rw (l, held)
+            (ap (λ (t : Told). default-after t xs) (q .reply) ∙ k .1);
+      }

@@ -262,7 +262,8 @@ pub extern "C" fn dullavane_weeks(
     counts: &mut [u16],
     defaults: &mut [i64],
 ) -> u32
-    ensures { λ r. ⌜ WeeksCalled intervals (now (whose .entry)) (now (performances .entry)) (now (live .entry)) (now (counts .entry)) (now (defaults .entry)) r (now (counts .exit)) (now (defaults .exit)) ⌝ }
+    ensures { λ r. ⌜ WeeksCalled intervals (now (whose .entry)) (now (performances .entry)) (now (live .entry))
+        (now (counts .entry)) (now (defaults .entry)) r (now (counts .exit)) (now (defaults .exit)) ⌝ }
 {
     let written = roster(intervals, whose, performances, live, counts, defaults);
     match written {

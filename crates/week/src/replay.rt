@@ -347,8 +347,16 @@ pub(crate) fn replay(
     let mut books: u16 = 0;
     while books < MOST_BOOKS {
         let next = take_book(
-            &mut bytes, &mut measures, &mut positive, &mut negative, &mut figures, &mut numbers,
-            &mut places, &mut raise, &mut lower, &mut defaults,
+            &mut bytes,
+            &mut measures,
+            &mut positive,
+            &mut negative,
+            &mut figures,
+            &mut numbers,
+            &mut places,
+            &mut raise,
+            &mut lower,
+            &mut defaults,
         );
         let Next::Taken(tally) = next else {
             return end_of(next, books, members);

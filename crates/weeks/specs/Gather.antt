@@ -17,7 +17,8 @@ use Rattle.rules.specs.declared.Whose.{Whose}
 use Rattle.rules.specs.declared.Refusal.the-variants.{TooShort, WrongCount, WrongWeek}
 use Rattle.rules.specs.Bytes.{bit}
 use Rattle.rules.specs.Refusals.{Reply, taken, refused, unless}
-use Rattle.rules.specs.Week.{Interval, is-live, shortfall, within, in-reach, reach, whose-fine, most-intervals, live-count, live-total, week-fine, default-reply, week-reply, interval-at, bytes-for, list-reply}
+use Rattle.rules.specs.Week.{Interval, is-live, shortfall, within, in-reach, reach, whose-fine, most-intervals, live-count, live-total, week-fine}
+use Rattle.rules.specs.Week.{default-reply, week-reply, interval-at, bytes-for, list-reply}
 use Rattle.rules.specs.RunningWeek.{base, running, total-in, fresh, with-interval}
 use Rattle.weeks.specs.declared.list.Gathered.{Gathered}
 use Rattle.weeks.specs.declared.list.Gathered.the-variants.{Week, Outside}
@@ -81,7 +82,9 @@ module _ (m : Whose) (ps : List ℤ) (bits : List ℕ) where
 
     module _ (fine : whose-fine m ≡ true) (few : n ≤ most-intervals) where
       -- by what the pass finds
-      pub tested : (t : Bool) → every n (λ i. in-reach m (w i)) ≡ t → told-of (list-reply m ps bits) ≡ told-of (unless t WrongWeek (default-reply m (live-total n w) (live-count n w)))
+      pub tested :
+          (t : Bool) → every n (λ i. in-reach m (w i)) ≡ t →
+          told-of (list-reply m ps bits) ≡ told-of (unless t WrongWeek (default-reply m (live-total n w) (live-count n w)))
       unfolding list-reply week-reply
       tested t e = rw (le-leb (bytes-for n) (length bits) long, fine, le-leb n most-intervals few, e)
 
@@ -89,7 +92,9 @@ module _ (m : Whose) (ps : List ℤ) (bits : List ℕ) where
       unfolding gathered
       outside g = go (every n (λ i. in-reach m (w i))) refl g
         where
-          go : (t : Bool) → every n (λ i. in-reach m (w i)) ≡ t → Outside ≡ cond t (Week (run-of n w)) Outside → told.Refused WrongWeek ≡ told-of (list-reply m ps bits)
+          go :
+              (t : Bool) → every n (λ i. in-reach m (w i)) ≡ t → Outside ≡ cond t (Week (run-of n w)) Outside →
+              told.Refused WrongWeek ≡ told-of (list-reply m ps bits)
           go true e g = let z : _≡_ {A = ℕ} 0 1 = cc in absurd (omega arith)
           go false e g = sym (tested false e)
 

@@ -70,5 +70,7 @@ module _ (n : ℕ) (ms : List ℕ) (ps : List ℤ) (bits counts : List ℕ) (def
     pub counted : counts′ ≡ where-taken reply-to (counts-after n ms ps bits counts) counts
     pub averaged : defaults′ ≡ where-taken reply-to (defaults-after n ms ps bits defaults) defaults
 
-  pub roster-only : {r r′ : Written} {counts′ counts″ : List ℕ} {defaults′ defaults″ : List ℤ} → RosterPromise r counts′ defaults′ → RosterPromise r′ counts″ defaults″ → (r ≡ r′) × (counts′ ≡ counts″) × (defaults′ ≡ defaults″)
+  pub roster-only :
+      {r r′ : Written} {counts′ counts″ : List ℕ} {defaults′ defaults″ : List ℤ} → RosterPromise r counts′ defaults′ → RosterPromise r′ counts″ defaults″ →
+      (r ≡ r′) × (counts′ ≡ counts″) × (defaults′ ≡ defaults″)
   roster-only a b = (a .reply ∙ sym (b .reply), a .counted ∙ sym (b .counted), a .averaged ∙ sym (b .averaged))

@@ -34,7 +34,9 @@ passed m x r {next} e = go (left-by-a-run r) (whose-fine m) refl (ltb (r .seen) 
     apart : {A : Type 0} → (_≡_ {A = ℕ} 0 1) → A
     apart z = absurd (omega arith)
 
-    go : (a b : Bool) → whose-fine m ≡ b → (c : Bool) → ltb (r .seen) most-intervals ≡ c → (d : Bool) → in-reach m x ≡ d → unless a OutOfTurn (unless b WrongCount (unless (c && d) WrongWeek (taken (with-interval r x)))) ≡ taken next → Passed m x r next
+    go :
+        (a b : Bool) → whose-fine m ≡ b → (c : Bool) → ltb (r .seen) most-intervals ≡ c → (d : Bool) → in-reach m x ≡ d →
+        unless a OutOfTurn (unless b WrongCount (unless (c && d) WrongWeek (taken (with-interval r x)))) ≡ taken next → Passed m x r next
     go true true f true g true h e = record { who = f; few = ltb-true (r .seen) most-intervals g; can = h; is = cc }
     go true true f true g false h e = apart (cc)
     go true true f false g d h e = apart (cc)
@@ -47,7 +49,9 @@ unfolding run
 run-leaves m zero w {r} e = let q : r ≡ fresh = cc in rw q (run-none w, fresh-run)
 run-leaves m (suc n) w {r} e = go (λ before f. run-leaves m n w f) (run m n w) refl e
   where
-    go : ((before : RunningWeek) → run m n w ≡ taken before → (before ≡ run-of n w) × Run before) → (y : Reply RunningWeek) → run m n w ≡ y → (y >>= add-reply (m n) (w n)) ≡ taken r → (r ≡ run-of (suc n) w) × Run r
+    go :
+        ((before : RunningWeek) → run m n w ≡ taken before → (before ≡ run-of n w) × Run before) → (y : Reply RunningWeek) → run m n w ≡ y →
+        (y >>= add-reply (m n) (w n)) ≡ taken r → (r ≡ run-of (suc n) w) × Run r
     go so (taken before) f e =
         let ih = so before f in
         let p = passed (m n) (w n) before e in
@@ -60,7 +64,7 @@ run-never-11 m n w {r} e = means-run r (run-leaves m n w e .1)
 
 -- ---- one member's
 module _ (m : Whose) (w : ℕ → Interval) where
-  abbrev runs : ℕ → Reply RunningWeek
+  abbrev pub runs : ℕ → Reply RunningWeek
   runs n = run (λ _. m) n w
 
   -- a group of 0 or over 512 units is refused at its first interval
@@ -88,10 +92,13 @@ module _ (m : Whose) (w : ℕ → Interval) where
       go false f b e = rw (lt-leb (suc n) most-intervals (omega (arith, leb-false n most-intervals f)))
 
   -- one interval more of a run whose tests have held so far
-  step : whose-fine m ≡ true → (n : ℕ) (a b : Bool) → ltb n most-intervals ≡ a → in-reach m (w n) ≡ b → Run (run-of n w) → add-reply m (w n) (run-of n w) ≡ unless (a && b) WrongWeek (taken (run-of (suc n) w))
+  step :
+      whose-fine m ≡ true → (n : ℕ) (a b : Bool) → ltb n most-intervals ≡ a → in-reach m (w n) ≡ b → Run (run-of n w) →
+      add-reply m (w n) (run-of n w) ≡ unless (a && b) WrongWeek (taken (run-of (suc n) w))
   unfolding add-reply
   step e n a b f g h =
-      rw (means-run (run-of n w) h, e, f, g) (ap (λ (r : RunningWeek). unless (a && b) WrongWeek (taken r)) (run-more n w ∙ ap (λ (k : ℕ). run-of k w) (add-one n)))
+      rw (means-run (run-of n w) h, e, f, g) (ap (λ (r : RunningWeek). unless (a && b) WrongWeek (taken r))
+      (run-more n w ∙ ap (λ (k : ℕ). run-of k w) (add-one n)))
 
   fine-run : whose-fine m ≡ true → (n : ℕ) → week-fine m n w ≡ true → Run (run-of n w)
   fine-run e n f =
@@ -99,12 +106,14 @@ module _ (m : Whose) (w : ℕ → Interval) where
       run-of-run (reach m) n w (reach-≤ m e) (leb-true n most-intervals (b .0)) (b .1)
 
   -- a run answers the week's tests, and leaves its count and total
-  fit : whose-fine m ≡ true → (n : ℕ) → runs n ≡ unless (week-fine m n w) WrongWeek (taken (run-of n w))
+  pub fit : whose-fine m ≡ true → (n : ℕ) → runs n ≡ unless (week-fine m n w) WrongWeek (taken (run-of n w))
   unfolding run
   fit e zero = rw (every-none (λ i. in-reach m (w i))) (ap taken (run-none w))
   fit e (suc n) = ap (λ (y : Reply RunningWeek). y >>= add-reply m (w n)) (fit e n) ∙ go (week-fine m n w) refl
     where
-      go : (t : Bool) → week-fine m n w ≡ t → (unless t WrongWeek (taken (run-of n w)) >>= add-reply m (w n)) ≡ unless (week-fine m (suc n) w) WrongWeek (taken (run-of (suc n) w))
+      go :
+          (t : Bool) → week-fine m n w ≡ t →
+          (unless t WrongWeek (taken (run-of n w)) >>= add-reply m (w n)) ≡ unless (week-fine m (suc n) w) WrongWeek (taken (run-of (suc n) w))
       go true f = rw (more-fine n f) (step e n _ _ refl refl (fine-run e n f))
       go false f = rw (never-again n f)
 
@@ -121,7 +130,9 @@ module _ (m : Whose) (w : ℕ → Interval) where
   unfolding read-reply
   read-off e n h = rw (means-run (run-of n w) h, e, total-kept n (live-count n w) (live-total n w))
 
-  some : whose-fine m ≡ true → (n : ℕ) (t : Bool) → week-fine m n w ≡ t → (unless t WrongWeek (taken (run-of n w)) >>= read-reply m) ≡ unless t WrongWeek (default-reply m (live-total n w) (live-count n w))
+  some :
+      whose-fine m ≡ true → (n : ℕ) (t : Bool) → week-fine m n w ≡ t →
+      (unless t WrongWeek (taken (run-of n w)) >>= read-reply m) ≡ unless t WrongWeek (default-reply m (live-total n w) (live-count n w))
   some e n true f = read-off e n (fine-run e n f)
   some e n false f = refl
 
@@ -130,6 +141,8 @@ module _ (m : Whose) (w : ℕ → Interval) where
   unfolding week-reply
   running-reads-the-list n = by (whose-fine m) refl
     where
-      by : (t : Bool) → whose-fine m ≡ t → (runs n >>= read-reply m) ≡ unless t WrongCount (unless (week-fine m n w) WrongWeek (default-reply m (live-total n w) (live-count n w)))
+      by :
+          (t : Bool) → whose-fine m ≡ t →
+          (runs n >>= read-reply m) ≡ unless t WrongCount (unless (week-fine m n w) WrongWeek (default-reply m (live-total n w) (live-count n w)))
       by true e = ap (λ (y : Reply RunningWeek). y >>= read-reply m) (fit e n) ∙ some e n (week-fine m n w) refl
       by false e = none e n

@@ -18,8 +18,10 @@ use Rattle.rules.specs.declared.WeekDefault.{WeekDefault}
 use Rattle.rules.specs.declared.Whose.{Whose}
 use Rattle.rules.specs.declared.Whose.the-variants.{Group}
 use Rattle.rules.specs.Refusals.{Reply, taken, refused, unless, number}
-use Rattle.rules.specs.Week.{Interval, interval, is-live, shortfall, in-reach, live-bit, whose-fine, most-intervals, live-total, live-count, week-fine, average-fine, default-of, default-reply, week-reply, interval-at, bytes-for, list-reply}
-use Rattle.rules.specs.WeekRoster.{whose-of, member, member-interval, member-total, member-count, member-default, long-enough, roster-reply, counts-after, defaults-after}
+use Rattle.rules.specs.Week.{Interval, interval, is-live, shortfall, in-reach, live-bit, whose-fine, most-intervals, live-total, live-count, week-fine}
+use Rattle.rules.specs.Week.{average-fine, default-of, default-reply, week-reply, interval-at, bytes-for, list-reply}
+use Rattle.rules.specs.WeekRoster.{whose-of, member, member-interval, member-total, member-count, member-default, long-enough, roster-reply, counts-after}
+use Rattle.rules.specs.WeekRoster.{defaults-after}
 use Rattle.weeks.specs.declared.Told.{Told}
 use Rattle.weeks.specs.declared.Told.the-variants as told
 use Rattle.weeks.specs.declared.Written.the-variants as written
@@ -80,7 +82,10 @@ week-ext m n w v e =
     (sumℕ-ext n _ _ (λ i h. ap shortfall (e i h)))
     (sumℕ-ext n _ _ (λ i h. ap (λ (x : Interval). one (is-live x)) (e i h)))
   where
-    go : (a b : Bool) (s t c d : ℕ) → a ≡ b → s ≡ t → c ≡ d → unless (whose-fine m) WrongCount (unless (leb n most-intervals && a) WrongWeek (default-reply m s c)) ≡ unless (whose-fine m) WrongCount (unless (leb n most-intervals && b) WrongWeek (default-reply m t d))
+    go :
+        (a b : Bool) (s t c d : ℕ) → a ≡ b → s ≡ t → c ≡ d →
+        unless (whose-fine m) WrongCount (unless (leb n most-intervals && a) WrongWeek (default-reply m s c)) ≡ unless (whose-fine m) WrongCount
+        (unless (leb n most-intervals && b) WrongWeek (default-reply m t d))
     go a b s t c d e f g = rw (e, f, g)
 
 module _ (n : ℕ) (ms : List ℕ) (ps : List ℤ) (bits : List ℕ) where
@@ -117,30 +122,39 @@ module _ (n : ℕ) (ms : List ℕ) (ps : List ℤ) (bits : List ℕ) where
       go false b = refl
 
   -- what a member's own part of the lists comes to
-  pub own-part : Long → (j : ℕ) → j < length ms → list-reply (member n ms ps bits j) (take n (drop (j * n) ps)) (drop (j * bytes-for n) bits) ≡ week-reply (member n ms ps bits j) n (member-interval n ms ps bits j)
+  pub own-part :
+      Long → (j : ℕ) → j < length ms →
+      list-reply (member n ms ps bits j) (take n (drop (j * n) ps)) (drop (j * bytes-for n) bits) ≡ week-reply (member n ms ps bits j) n
+      (member-interval n ms ps bits j)
   unfolding list-reply
   own-part long j h =
       let b = bytes-for n in
       let all-n : (j + 1) * n ≤ length ms * n = mul-le-mul-right n (omega arith) in
       let all-b : (j + 1) * b ≤ length ms * b = mul-le-mul-right b (omega arith) in
-      let own : length (take n (drop (j * n) ps)) ≡ n = length-take-le n (drop (j * n) ps) (rw (length-drop (j * n) ps) (omega (arith, long .weeks, add-mul j 1 n))) in
+      let own : length (take n (drop (j * n) ps)) ≡ n = length-take-le n (drop (j * n) ps)
+      (rw (length-drop (j * n) ps) (omega (arith, long .weeks, add-mul j 1 n))) in
       let room : b ≤ length (drop (j * b) bits) = rw (length-drop (j * b) bits) (omega (arith, long .bytes, add-mul j 1 b)) in
       rw (own, le-leb b (length (drop (j * b) bits)) room)
       (week-ext _ n _ _ (λ i l. ap (interval (live-bit (drop (j * b) bits) i)) (getD-take n (drop (j * n) ps) i (pos 0) l)))
 
   -- the same of the part as the code cuts it
-  pub own-part-cut : Long → (j : ℕ) → j < length ms → (m : Whose) (x y b : ℕ) → m ≡ member n ms ps bits j → x ≡ n → b ≡ bytes-for n → y ≡ length bits - j * b → list-reply m (take x (drop (j * n) ps)) (take y (drop (j * b) bits)) ≡ week-reply (member n ms ps bits j) n (member-interval n ms ps bits j)
+  pub own-part-cut :
+      Long → (j : ℕ) → j < length ms → (m : Whose) (x y b : ℕ) → m ≡ member n ms ps bits j → x ≡ n → b ≡ bytes-for n → y ≡ length bits - j * b →
+      list-reply m (take x (drop (j * n) ps)) (take y (drop (j * b) bits)) ≡ week-reply (member n ms ps bits j) n (member-interval n ms ps bits j)
   own-part-cut long j h m x y b e f g k =
       let all : take y (drop (j * b) bits) ≡ drop (j * b) bits = take-all y (drop (j * b) bits) (omega (arith, length-drop (j * b) bits)) in
       rw (all, e, f, g) (own-part long j h)
 
   -- where its tests hold, a member is told its default
-  pub told-default : (j : ℕ) → whose-fine (member n ms ps bits j) ≡ true → weeks-fine j ≡ true → averages-fine j ≡ true → default-in (member-told j) ≡ member-default n ms ps bits j
+  pub told-default :
+      (j : ℕ) → whose-fine (member n ms ps bits j) ≡ true → weeks-fine j ≡ true → averages-fine j ≡ true →
+      default-in (member-told j) ≡ member-default n ms ps bits j
   unfolding week-reply
   told-default j a b c = rw (a, b, c)
 
 -- the columns are filled with what the members are told
-pub record ColumnsWritten (n : ℕ) (ms : List ℕ) (ps : List ℤ) (bits counts : List ℕ) (defaults : List ℤ) (counts′ : List ℕ) (defaults′ : List ℤ) : Type 0 where
+pub record ColumnsWritten (n : ℕ) (ms : List ℕ) (ps : List ℤ) (bits counts : List ℕ) (defaults : List ℤ) (counts′ : List ℕ)
+    (defaults′ : List ℤ) : Type 0 where
   pub counted : counts′ ≡ filled (length ms) (λ j. default-in (member-told n ms ps bits j) .count) counts
   pub averaged : defaults′ ≡ filled (length ms) (λ j. default-in (member-told n ms ps bits j) .default) defaults
 
@@ -152,15 +166,22 @@ module _ (n : ℕ) (ms : List ℕ) (ps : List ℤ) (bits counts : List ℕ) (def
   abbrev m : ℕ
   m = length ms
 
-  replied : (a b c d : Bool) → long-enough n ms ps bits (length counts) (length defaults) ≡ a → every m fine ≡ b → every m (weeks-fine n ms ps bits) ≡ c → every m (averages-fine n ms ps bits) ≡ d → reply-to n ms ps bits counts defaults ≡ unless a TooShort (unless b WrongCount (unless c WrongWeek (unless d AverageTooLow (taken tt))))
+  replied :
+      (a b c d : Bool) → long-enough n ms ps bits (length counts) (length defaults) ≡ a → every m fine ≡ b → every m (weeks-fine n ms ps bits) ≡ c →
+      every m (averages-fine n ms ps bits) ≡ d →
+      reply-to n ms ps bits counts defaults ≡ unless a TooShort (unless b WrongCount (unless c WrongWeek (unless d AverageTooLow (taken tt))))
   unfolding roster-reply
   replied a b c d e f g h = rw (e, f, g, h)
 
-  pub roster-refused : (r : Refusal) → reply-to n ms ps bits counts defaults ≡ refused r → RosterPromise n ms ps bits counts defaults (written.Refused r) counts defaults
+  pub roster-refused :
+      (r : Refusal) → reply-to n ms ps bits counts defaults ≡ refused r → RosterPromise n ms ps bits counts defaults (written.Refused r) counts defaults
   roster-refused r e = record { reply = rw e; counted = rw e; averaged = rw e }
 
-  pub roster-short : false ≡ long-enough n ms ps bits (length counts) (length defaults) → RosterPromise n ms ps bits counts defaults (written.Refused TooShort) counts defaults
-  roster-short e = roster-refused TooShort (replied false (every m fine) (every m (weeks-fine n ms ps bits)) (every m (averages-fine n ms ps bits)) (sym e) refl refl refl)
+  pub roster-short :
+      false ≡ long-enough n ms ps bits (length counts) (length defaults) →
+      RosterPromise n ms ps bits counts defaults (written.Refused TooShort) counts defaults
+  roster-short e = roster-refused TooShort (replied false (every m fine) (every m (weeks-fine n ms ps bits)) (every m (averages-fine n ms ps bits))
+      (sym e) refl refl refl)
 
   module _ (long : true ≡ long-enough n ms ps bits (length counts) (length defaults)) where
     pub record Roomy : Type 0 where
@@ -180,16 +201,21 @@ module _ (n : ℕ) (ms : List ℕ) (ps : List ℤ) (bits counts : List ℕ) (def
         }
 
     pub roster-unfit : false ≡ every m fine → RosterPromise n ms ps bits counts defaults (written.Refused WrongCount) counts defaults
-    roster-unfit e = roster-refused WrongCount (replied true false (every m (weeks-fine n ms ps bits)) (every m (averages-fine n ms ps bits)) (sym long) (sym e) refl refl)
+    roster-unfit e = roster-refused WrongCount (replied true false (every m (weeks-fine n ms ps bits)) (every m (averages-fine n ms ps bits)) (sym long)
+        (sym e) refl refl)
 
     module _ (who : true ≡ every m fine) where
-      by : (c d : Bool) → every m (weeks-fine n ms ps bits) ≡ c → every m (averages-fine n ms ps bits) ≡ d → reply-to n ms ps bits counts defaults ≡ unless c WrongWeek (unless d AverageTooLow (taken tt))
+      by :
+          (c d : Bool) → every m (weeks-fine n ms ps bits) ≡ c → every m (averages-fine n ms ps bits) ≡ d →
+          reply-to n ms ps bits counts defaults ≡ unless c WrongWeek (unless d AverageTooLow (taken tt))
       by c d e f = replied true true c d (sym long) (sym who) e f
 
       pub roster-wrong : judged n ms ps bits m ≡ 17 → RosterPromise n ms ps bits counts defaults (written.Refused WrongWeek) counts defaults
       roster-wrong e = go (every m (weeks-fine n ms ps bits)) (every m (averages-fine n ms ps bits)) refl refl e
         where
-          go : (c d : Bool) → every m (weeks-fine n ms ps bits) ≡ c → every m (averages-fine n ms ps bits) ≡ d → judgement c d ≡ 17 → RosterPromise n ms ps bits counts defaults (written.Refused WrongWeek) counts defaults
+          go :
+              (c d : Bool) → every m (weeks-fine n ms ps bits) ≡ c → every m (averages-fine n ms ps bits) ≡ d → judgement c d ≡ 17 →
+              RosterPromise n ms ps bits counts defaults (written.Refused WrongWeek) counts defaults
           go true true f g e = absurd (omega arith)
           go true false f g e = absurd (omega arith)
           go false d f g e = roster-refused WrongWeek (by false d f g)
@@ -197,7 +223,9 @@ module _ (n : ℕ) (ms : List ℕ) (ps : List ℤ) (bits counts : List ℕ) (def
       pub roster-low : judged n ms ps bits m ≡ 14 → RosterPromise n ms ps bits counts defaults (written.Refused AverageTooLow) counts defaults
       roster-low e = go (every m (weeks-fine n ms ps bits)) (every m (averages-fine n ms ps bits)) refl refl e
         where
-          go : (c d : Bool) → every m (weeks-fine n ms ps bits) ≡ c → every m (averages-fine n ms ps bits) ≡ d → judgement c d ≡ 14 → RosterPromise n ms ps bits counts defaults (written.Refused AverageTooLow) counts defaults
+          go :
+              (c d : Bool) → every m (weeks-fine n ms ps bits) ≡ c → every m (averages-fine n ms ps bits) ≡ d → judgement c d ≡ 14 →
+              RosterPromise n ms ps bits counts defaults (written.Refused AverageTooLow) counts defaults
           go true true f g e = absurd (omega arith)
           go true false f g e = roster-refused AverageTooLow (by true false f g)
           go false d f g e = absurd (omega arith)
@@ -209,10 +237,13 @@ module _ (n : ℕ) (ms : List ℕ) (ps : List ℤ) (bits counts : List ℕ) (def
       roster-done no-wrong no-low {counts′} {defaults′} columns =
           go (every m (weeks-fine n ms ps bits)) (every m (averages-fine n ms ps bits)) refl refl no-wrong no-low
         where
-          go : (c d : Bool) → every m (weeks-fine n ms ps bits) ≡ c → every m (averages-fine n ms ps bits) ≡ d → (judgement c d ≡ 17 → ⊥) → (judgement c d ≡ 14 → ⊥) → RosterPromise n ms ps bits counts defaults written.Done counts′ defaults′
+          go :
+              (c d : Bool) → every m (weeks-fine n ms ps bits) ≡ c → every m (averages-fine n ms ps bits) ≡ d → (judgement c d ≡ 17 → ⊥) →
+              (judgement c d ≡ 14 → ⊥) → RosterPromise n ms ps bits counts defaults written.Done counts′ defaults′
           go true true g h x y =
               let done = by true true g h in
-              let same : (j : ℕ) → j < m → default-in (member-told n ms ps bits j) ≡ member-default n ms ps bits j = λ j l. told-default n ms ps bits j (every-at m fine (sym who) j l) (every-at m (weeks-fine n ms ps bits) g j l) (every-at m (averages-fine n ms ps bits) h j l) in
+              let same : (j : ℕ) → j < m → default-in (member-told n ms ps bits j) ≡ member-default n ms ps bits j = λ j l. told-default n ms ps bits j
+              (every-at m fine (sym who) j l) (every-at m (weeks-fine n ms ps bits) g j l) (every-at m (averages-fine n ms ps bits) h j l) in
               record {
                 reply = rw done;
                 counted = rw done (columns .counted ∙ filled-ext m _ _ counts (λ j l. ap (λ (d : WeekDefault). d .count) (same j l)));

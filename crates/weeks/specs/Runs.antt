@@ -46,7 +46,9 @@ no-run r f = go (left-by-a-run r) refl
     go false e = refl
 
 -- where `high` is the number of live ones, `low` settles it
-pub last-digit : (r : RunningWeek) → r .live ≤ r .seen → r .seen ≤ most-intervals → r .low < base → r .live ≤ r .high → r .high ≤ r .live → eqb (r .low) 0 ≡ left-by-a-run r
+pub last-digit :
+    (r : RunningWeek) → r .live ≤ r .seen → r .seen ≤ most-intervals → r .low < base → r .live ≤ r .high → r .high ≤ r .live →
+    eqb (r .low) 0 ≡ left-by-a-run r
 last-digit r counted short small low high = go (eqb (r .low) 0) refl
   where
     go : (t : Bool) → eqb (r .low) 0 ≡ t → t ≡ left-by-a-run r
@@ -61,7 +63,8 @@ pub base-some : 0 < base
 base-some = ltb→lt 0 base tt
 
 -- they are the only ones below the base
-pub digits : (seen n high low total : ℕ) → total ≡ high * base + low → low < base → record { seen = seen; live = n; high = high; low = low } ≡ running seen n total
+pub digits :
+    (seen n high low total : ℕ) → total ≡ high * base + low → low < base → record { seen = seen; live = n; high = high; low = low } ≡ running seen n total
 digits seen n high low total e h =
     let d : Divided total base high low = record { is = e; small = h } in
     rw (quotient d, remains d)
@@ -72,12 +75,17 @@ total-kept seen n total = div-add-mod' total base
 -- with one interval more: as they are, with a shortfall, or with one carried
 pub still-more : (r : RunningWeek) → r .low < base → record { seen = r .seen + 1; live = r .live; high = r .high; low = r .low } ≡ with-interval r not-live
 still-more r small =
-    digits (r .seen + 1) (r .live) (r .high) (r .low) (total-in r) refl small ∙ ap₂ (running (r .seen + 1)) (sym (add-zero (r .live))) (sym (add-zero (total-in r)))
+    digits (r .seen + 1) (r .live) (r .high) (r .low) (total-in r) refl small ∙ ap₂ (running (r .seen + 1)) (sym (add-zero (r .live)))
+    (sym (add-zero (total-in r)))
 
-pub live-more : (r : RunningWeek) (p : ℤ) (short : ℕ) → short ≡ loss p → r .low + short < base → record { seen = r .seen + 1; live = r .live + 1; high = r .high; low = r .low + short } ≡ with-interval r (live p)
+pub live-more :
+    (r : RunningWeek) (p : ℤ) (short : ℕ) → short ≡ loss p → r .low + short < base →
+    record { seen = r .seen + 1; live = r .live + 1; high = r .high; low = r .low + short } ≡ with-interval r (live p)
 live-more r p short e h = digits (r .seen + 1) (r .live + 1) (r .high) (r .low + short) (total-in r + loss p) (omega arith) h
 
-pub carried-more : (r : RunningWeek) (p : ℤ) (short : ℕ) → short ≡ loss p → r .low < base → short ≤ base → base ≤ r .low + short → record { seen = r .seen + 1; live = r .live + 1; high = r .high + 1; low = r .low + short - base } ≡ with-interval r (live p)
+pub carried-more :
+    (r : RunningWeek) (p : ℤ) (short : ℕ) → short ≡ loss p → r .low < base → short ≤ base → base ≤ r .low + short →
+    record { seen = r .seen + 1; live = r .live + 1; high = r .high + 1; low = r .low + short - base } ≡ with-interval r (live p)
 carried-more r p short e small bound h =
     digits (r .seen + 1) (r .live + 1) (r .high + 1) (r .low + short - base) (total-in r + loss p) (omega arith) (omega arith)
 
@@ -114,7 +122,8 @@ shortfall-≤ limit not-live h e = omega arith
 -- one interval more
 pub more-run : (r : RunningWeek) (x : Interval) → Run r → r .seen < most-intervals → within base x ≡ true → Run (with-interval r x)
 more-run r x h l e =
-    running-run (r .seen + 1) (r .live + one (is-live x)) (total-in r + shortfall x) (at-most (is-live x)) (omega arith) (omega (arith, shortfall-≤ base x (le-refl base) e, h .reached))
+    running-run (r .seen + 1) (r .live + one (is-live x)) (total-in r + shortfall x) (at-most (is-live x)) (omega arith)
+    (omega (arith, shortfall-≤ base x (le-refl base) e, h .reached))
   where
     at-most : (t : Bool) → r .live + one t ≤ r .seen + 1
     at-most true = omega (arith, h .counted)

@@ -53,8 +53,11 @@ pub record WorkedWeeks : Type 0 where
   pub group-week : week-reply (Group 2) 2_016 (flat (negℤ (pos (2 * unit-limit)))) ≡ refused AverageTooLow
   -- a total past 64 bits whose average is a default: 35 intervals at the limit among 2,016
   pub large-week : week-reply Residual 2_016 (λ i. live (cond (ltb i 35) (negℤ (pos residual-reach)) (pos 0))) ≡ is 2_016 (negℤ (pos 50_000_000_000_000_000))
-  pub next-week : week-reply Residual 2_016 (λ i. live (cond (ltb i 35) (negℤ (pos residual-reach)) (cond (eqb i 35) (negℤ (pos 1_008)) (pos 0)))) ≡ refused AverageTooLow
-  pub under-next : week-reply Residual 2_016 (λ i. live (cond (ltb i 35) (negℤ (pos residual-reach)) (cond (eqb i 35) (negℤ (pos 1_007)) (pos 0)))) ≡ is 2_016 (negℤ (pos 50_000_000_000_000_000))
+  pub next-week :
+      week-reply Residual 2_016 (λ i. live (cond (ltb i 35) (negℤ (pos residual-reach)) (cond (eqb i 35) (negℤ (pos 1_008)) (pos 0)))) ≡ refused AverageTooLow
+  pub under-next :
+      week-reply Residual 2_016 (λ i. live (cond (ltb i 35) (negℤ (pos residual-reach)) (cond (eqb i 35) (negℤ (pos 1_007)) (pos 0)))) ≡ is 2_016
+      (negℤ (pos 50_000_000_000_000_000))
   -- both sides of each limit
   pub unit-at : week-reply Unit 1 (flat (negℤ (pos unit-limit))) ≡ is 1 (negℤ (pos unit-limit))
   pub unit-past : week-reply Unit 1 (flat (negℤ (pos (unit-limit + 1)))) ≡ refused WrongWeek
@@ -68,7 +71,8 @@ pub record WorkedWeeks : Type 0 where
   pub too-long : week-reply Unit 2_017 (λ i. not-live) ≡ refused WrongWeek
   pub too-few-bits : list-reply Unit (pos 0 ∷ pos 0 ∷ pos 0 ∷ pos 0 ∷ pos 0 ∷ pos 0 ∷ pos 0 ∷ pos 0 ∷ pos 0 ∷ []) (0 ∷ []) ≡ refused TooShort
   -- 17 comes before 14
-  pub wrong-before-low : week-reply (Group 2) 2 (λ i. live (cond (eqb i 0) (negℤ (pos (2 * unit-limit))) (negℤ (pos (2 * unit-limit + 1))))) ≡ refused WrongWeek
+  pub wrong-before-low :
+      week-reply (Group 2) 2 (λ i. live (cond (eqb i 0) (negℤ (pos (2 * unit-limit))) (negℤ (pos (2 * unit-limit + 1))))) ≡ refused WrongWeek
   -- a record that no run leaves
   pub more-live-than-seen : left-by-a-run (record { seen = 1; live = 2; high = 0; low = 0 }) ≡ false
   pub at-its-reach : left-by-a-run (record { seen = 2; live = 2; high = 2; low = 0 }) ≡ true

@@ -47,7 +47,10 @@ abbrev L : tie.After-is-within Inv-loop μ-loop → tie.At-loop Inv-loop μ-loop
 L c = c .before .before .before .before
 
 -- the interval that the code reads is the week's
-as-at : (c : tie.After-is-within Inv-loop μ-loop) → interval (c .before .before .is-live .result) (toZ w64 (ofZ w64 (getD (S (L c) .args .performances .now) (L c .loop .i) (pos 0)))) ≡ w (L c) (L c .loop .i)
+as-at :
+    (c : tie.After-is-within Inv-loop μ-loop) →
+    interval (c .before .before .is-live .result) (toZ w64 (ofZ w64 (getD (S (L c) .args .performances .now) (L c .loop .i) (pos 0)))) ≡ w (L c)
+    (L c .loop .i)
 as-at c =
     ap₂ interval (c .before .before .is-live .ensures) (toZ-ofZ (sfits-of (c .before .performance .given)))
 
@@ -80,7 +83,8 @@ unfolding gathered
 returns c =
     let t = c .before in
     let l = L t in
-    let e = every-fails (n l) (λ j. within (S l .args .limit) (w l j)) (l .loop .i) (t .before .before .before .loop-test .taken) (sym (tested t) ∙ not-true _ (c .if1 .taken)) in
+    let e = every-fails (n l) (λ j. within (S l .args .limit) (w l j)) (l .loop .i) (t .before .before .before .loop-test .taken)
+    (sym (tested t) ∙ not-true _ (c .if1 .taken)) in
     rw e
 
 one-more-requires : tie.Need-one-more-requires Inv-loop μ-loop
@@ -118,7 +122,8 @@ unfolding gathered
 returns-2 c =
     let l = c .before in
     let e : l .loop .i ≡ n l = omega (arith, l .loop .inv .passed) in
-    rw (ap (λ (k : ℕ). every k (λ j. within (S l .args .limit) (w l j))) (sym e) ∙ l .loop .inv .inside) (ap Week (l .loop .inv .so-far ∙ ap (λ (k : ℕ). run-of k (w l)) e))
+    rw (ap (λ (k : ℕ). every k (λ j. within (S l .args .limit) (w l j))) (sym e) ∙ l .loop .inv .inside)
+    (ap Week (l .loop .inv .so-far ∙ ap (λ (k : ℕ). run-of k (w l)) e))
 
 pub gather-spec : {M : Type 1} → statement M
 gather-spec =

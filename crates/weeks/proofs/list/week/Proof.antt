@@ -30,13 +30,18 @@ module _ (c : tie.After-gather) where
   abbrev s : tie.Start
   s = second .before .before .before .before .before
 
-  found : c .gather .result ≡ gathered (reach (s .args .whose)) (length (s .args .performances .now)) (interval-at (s .args .performances .now) (s .args .live .now))
-  found = c .gather .ensures ∙ ap (λ (k : ℕ). gathered k (length (s .args .performances .now)) (interval-at (s .args .performances .now) (s .args .live .now))) (c .before .reach .ensures .0)
+  found :
+      c .gather .result ≡ gathered (reach (s .args .whose)) (length (s .args .performances .now))
+      (interval-at (s .args .performances .now) (s .args .live .now))
+  found = c .gather .ensures ∙ ap (λ (k : ℕ). gathered k (length (s .args .performances .now))
+      (interval-at (s .args .performances .now) (s .args .live .now))) (c .before .reach .ensures .0)
 
   few : length (s .args .performances .now) ≤ most-intervals
   few = third .if3 .left
 
-  read : {r : _} → c .gather .result ≡ Week r → Read (s .args .whose) (s .args .performances .now) (s .args .live .now) (long (second .before .before)) (fine second) few r
+  read :
+      {r : _} → c .gather .result ≡ Week r →
+      Read (s .args .whose) (s .args .performances .now) (s .args .live .now) (long (second .before .before)) (fine second) few r
   read e = inside (s .args .whose) (s .args .performances .now) (s .args .live .now) (long (second .before .before)) (fine second) few (sym e ∙ found)
 
 bytes-for-requires : tie.Need-bytes-for-requires
@@ -85,7 +90,10 @@ returns-4 c =
 returns-5 : tie.Need-returns-5
 returns-5 c =
     let g = c .before .before in
-    record { reply = outside (s g .args .whose) (s g .args .performances .now) (s g .args .live .now) (long (second g .before .before)) (fine (second g)) (few g) (sym (c .enum-told .given .1) ∙ found g) }
+    record {
+      reply = outside (s g .args .whose) (s g .args .performances .now) (s g .args .live .now) (long (second g .before .before)) (fine (second g))
+          (few g) (sym (c .enum-told .given .1) ∙ found g);
+    }
 
 pub week-spec : {M : Type 1} → statement M
 week-spec =

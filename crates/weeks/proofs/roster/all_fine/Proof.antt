@@ -24,7 +24,9 @@ abbrev μ-loop : tie.MeasureT-loop
 μ-loop whose j₀ j =
     length whose - j
 
-told : (c : tie.After-is-fine Inv-loop μ-loop) → let l = c .before .before .before .before in c .is-fine .result ≡ fine (l .before .before .args .whose .now) (l .loop .j)
+told :
+    (c : tie.After-is-fine Inv-loop μ-loop) →
+    let l = c .before .before .before .before in c .is-fine .result ≡ fine (l .before .before .args .whose .now) (l .loop .j)
 told c = c .is-fine .ensures ∙ ap whose-fine (c .before .whose-of .ensures)
 
 loop-holds : tie.Need-loop-holds Inv-loop μ-loop

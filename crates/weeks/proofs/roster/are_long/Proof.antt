@@ -17,7 +17,9 @@ module _ (c : tie.Else1) where
   first : leb (length (s .args .whose .now) * s .args .intervals) (length (s .args .performances .now)) ≡ true
   first = sym (c .before .is-long .ensures) ∙ not-false _ (c .if1 .left)
 
-second : (c : tie.After-is-long2) → let a = s (c .before .before) .args in c .is-long2 .result ≡ leb (length (a .whose .now) * bytes-for (a .intervals)) (length (a .live .now))
+second :
+    (c : tie.After-is-long2) →
+    let a = s (c .before .before) .args in c .is-long2 .result ≡ leb (length (a .whose .now) * bytes-for (a .intervals)) (length (a .live .now))
 second c =
     let a = s (c .before .before) .args in
     c .is-long2 .ensures ∙ ap (λ (b : ℕ). leb (length (a .whose .now) * b) (length (a .live .now))) (c .before .bytes-for .ensures)

@@ -49,8 +49,11 @@ loop-again c =
     let t = c .before .before in
     let l = t .before .before in
     let s = l .before .before .before in
-    let fine = every-at _ _ (s .pre .1 .all) (l .loop .j) (t .before .loop-test .taken) in
-    (omega arith, c .larger .ensures ∙ ap₂ max (l .loop .inv .1) (c .before .told-as-number .ensures ∙ ap told-number (t .member-week .ensures)) ∙ judged-more (s .args .intervals) (s .args .whose .now) (s .args .performances .now) (s .args .live .now) (l .loop .j) fine)
+    let fine = every-at _ _ (s .pre .1 .all) (l .loop .j) (t .before .loop-test .taken) in (
+      omega arith,
+      c .larger .ensures ∙ ap₂ max (l .loop .inv .1) (c .before .told-as-number .ensures ∙ ap told-number (t .member-week .ensures)) ∙ judged-more
+          (s .args .intervals) (s .args .whose .now) (s .args .performances .now) (s .args .live .now) (l .loop .j) fine,
+    )
 
 returns : tie.Need-returns Inv-loop μ-loop
 returns c =

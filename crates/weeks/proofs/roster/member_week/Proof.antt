@@ -86,7 +86,9 @@ returns c =
     let s = b .before .before .before in
     let a = s .args in
     c .week .ensures .reply
-    ∙ ap told-of (own-part-cut (a .intervals) (a .whose .now) (a .performances .now) (a .live .now) (s .pre .1) (a .j) (s .pre .0) (w .whose-of .result) (a .j * a .intervals + a .intervals - a .j * a .intervals) (length (a .live .now) - a .j * b .bytes-for .result) (b .bytes-for .result) (w .whose-of .ensures) (omega arith) (b .bytes-for .ensures) refl)
+    ∙ ap told-of (own-part-cut (a .intervals) (a .whose .now) (a .performances .now) (a .live .now) (s .pre .1) (a .j) (s .pre .0) (w .whose-of .result)
+    (a .j * a .intervals + a .intervals - a .j * a .intervals) (length (a .live .now) - a .j * b .bytes-for .result) (b .bytes-for .result)
+    (w .whose-of .ensures) (omega arith) (b .bytes-for .ensures) refl)
 
 pub member-week-spec : {M : Type 1} → statement M
 member-week-spec =

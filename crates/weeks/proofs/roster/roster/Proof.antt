@@ -16,7 +16,9 @@ module _ (c : tie.Else1) where
   abbrev S : tie.Start
   S = c .before .before .before .before .before
 
-  long : let a = S .args in true ≡ long-enough (a .intervals) (a .whose .now) (a .performances .now) (a .live .now) (length (a .counts .now)) (length (a .defaults .now))
+  long :
+      let a = S .args in true ≡ long-enough (a .intervals) (a .whose .now) (a .performances .now) (a .live .now) (length (a .counts .now))
+      (length (a .defaults .now))
   long = sym (not-false _ (c .if1 .left)) ∙ c .before .are-long .ensures
 
   room : let a = S .args in Roomy (a .intervals) (a .whose .now) (a .performances .now) (a .live .now) (a .counts .now) (a .defaults .now) long
@@ -26,7 +28,9 @@ module _ (c : tie.Else2) where
   abbrev first : tie.Else1
   first = c .before .before
 
-  who : let a = S first .args in true ≡ every (length (a .whose .now)) (λ j. whose-fine (member (a .intervals) (a .whose .now) (a .performances .now) (a .live .now) j))
+  who :
+      let a = S first .args in true ≡ every (length (a .whose .now)) (λ j. whose-fine
+      (member (a .intervals) (a .whose .now) (a .performances .now) (a .live .now) j))
   who = sym (not-false _ (c .if2 .left)) ∙ c .before .all-fine .ensures
 
 -- what the tests of all weeks found
@@ -43,7 +47,8 @@ are-long-requires c κs = search needs
 returns : tie.Need-returns
 returns c =
     let a = c .before .before .before .before .before .args in
-    roster-short (a .intervals) (a .whose .now) (a .performances .now) (a .live .now) (a .counts .now) (a .defaults .now) (sym (not-true _ (c .if1 .taken)) ∙ c .before .are-long .ensures)
+    roster-short (a .intervals) (a .whose .now) (a .performances .now) (a .live .now) (a .counts .now) (a .defaults .now)
+    (sym (not-true _ (c .if1 .taken)) ∙ c .before .are-long .ensures)
 
 all-fine-requires : tie.Need-all-fine-requires
 all-fine-requires c κs = search needs
@@ -52,7 +57,8 @@ returns-2 : tie.Need-returns-2
 returns-2 c =
     let f = c .before .before in
     let a = S f .args in
-    roster-unfit (a .intervals) (a .whose .now) (a .performances .now) (a .live .now) (a .counts .now) (a .defaults .now) (long f) (sym (not-true _ (c .if2 .taken)) ∙ c .before .all-fine .ensures)
+    roster-unfit (a .intervals) (a .whose .now) (a .performances .now) (a .live .now) (a .counts .now) (a .defaults .now) (long f)
+    (sym (not-true _ (c .if2 .taken)) ∙ c .before .all-fine .ensures)
 
 judge-requires : tie.Need-judge-requires
 judge-requires c κs =
@@ -67,7 +73,8 @@ returns-3 c =
     let g = t .before in
     let s = g .before in
     let a = S (first s) .args in
-    roster-wrong (a .intervals) (a .whose .now) (a .performances .now) (a .live .now) (a .counts .now) (a .defaults .now) (long (first s)) (who s) (sym (found g) ∙ c .if3 .taken ∙ t .refusal-number .ensures)
+    roster-wrong (a .intervals) (a .whose .now) (a .performances .now) (a .live .now) (a .counts .now) (a .defaults .now) (long (first s)) (who s)
+    (sym (found g) ∙ c .if3 .taken ∙ t .refusal-number .ensures)
 
 refusal-number-requires-2 : tie.Need-refusal-number-requires-2
 refusal-number-requires-2 c κs = search needs
@@ -78,7 +85,8 @@ returns-4 c =
     let g = t .before .before .before in
     let s = g .before in
     let a = S (first s) .args in
-    roster-low (a .intervals) (a .whose .now) (a .performances .now) (a .live .now) (a .counts .now) (a .defaults .now) (long (first s)) (who s) (sym (found g) ∙ c .if4 .taken ∙ t .refusal-number2 .ensures)
+    roster-low (a .intervals) (a .whose .now) (a .performances .now) (a .live .now) (a .counts .now) (a .defaults .now) (long (first s)) (who s)
+    (sym (found g) ∙ c .if4 .taken ∙ t .refusal-number2 .ensures)
 
 write-requires : tie.Need-write-requires
 write-requires c κs =
@@ -101,7 +109,9 @@ returns-5 c =
     let g = v .before .before in
     let s = g .before in
     let a = S (first s) .args in
-    roster-done (a .intervals) (a .whose .now) (a .performances .now) (a .live .now) (a .counts .now) (a .defaults .now) (long (first s)) (who s) (λ e. v .if3 .left (found g ∙ e ∙ sym (v .before .refusal-number .ensures))) (λ e. u .if4 .left (found g ∙ e ∙ sym (t .refusal-number2 .ensures))) (w .write .ensures)
+    roster-done (a .intervals) (a .whose .now) (a .performances .now) (a .live .now) (a .counts .now) (a .defaults .now) (long (first s)) (who s)
+    (λ e. v .if3 .left (found g ∙ e ∙ sym (v .before .refusal-number .ensures))) (λ e. u .if4 .left (found g ∙ e ∙ sym (t .refusal-number2 .ensures)))
+    (w .write .ensures)
 
 pub roster-spec : {M : Type 1} → statement M
 roster-spec =

@@ -35,7 +35,9 @@ S l = l .before .before .before .before
 abbrev said : tie.At-loop Inv-loop μ-loop → ℕ → WeekDefault
 said l = told (S l .args .intervals) (S l .args .whose .now) (S l .args .performances .now) (S l .args .live .now)
 
-lengths : (l : tie.At-loop Inv-loop μ-loop) → (length (l .loop .counts) ≡ length (S l .args .counts .now)) × (length (l .loop .defaults) ≡ length (S l .args .defaults .now))
+lengths :
+    (l : tie.At-loop Inv-loop μ-loop) →
+    (length (l .loop .counts) ≡ length (S l .args .counts .now)) × (length (l .loop .defaults) ≡ length (S l .args .defaults .now))
 lengths l =
     (ap length (l .loop .inv .counted) ∙ filled-length _ _ _, ap length (l .loop .inv .averaged) ∙ filled-length _ _ _)
 
@@ -82,8 +84,10 @@ loop-again c =
     let is : d .default-of .result ≡ said l (l .loop .j) = d .default-of .ensures ∙ ap default-in (d .before .member-week .ensures) in
     record {
       within = omega arith;
-      counted = filled-store (l .loop .j) (λ i. said l i .count) (S l .args .counts .now) (l .loop .counts) _ (l .loop .inv .counted) (ap (λ (x : WeekDefault). x .count) is);
-      averaged = filled-store (l .loop .j) (λ i. said l i .default) (S l .args .defaults .now) (l .loop .defaults) _ (l .loop .inv .averaged) (toZ-ofZ (sfits-of (c .struct-told .given .1 .0 .1)) ∙ ap (λ (x : WeekDefault). x .default) is);
+      counted = filled-store (l .loop .j) (λ i. said l i .count) (S l .args .counts .now) (l .loop .counts) _ (l .loop .inv .counted)
+          (ap (λ (x : WeekDefault). x .count) is);
+      averaged = filled-store (l .loop .j) (λ i. said l i .default) (S l .args .defaults .now) (l .loop .defaults) _ (l .loop .inv .averaged)
+          (toZ-ofZ (sfits-of (c .struct-told .given .1 .0 .1)) ∙ ap (λ (x : WeekDefault). x .default) is);
     }
 
 same-length : tie.Need-same-length Inv-loop μ-loop

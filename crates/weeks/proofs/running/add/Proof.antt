@@ -29,7 +29,8 @@ module _ (c : tie.After-is-within) where
 
   tested : c .is-within .result ≡ within (reach (s .args .whose)) (interval (s .args .live) (s .args .performance))
   tested =
-      (simp (toZ-ofZ, s .fits .performance) at (c .is-within .ensures)) ∙ ap (λ n. within n (interval (s .args .live) (s .args .performance))) (c .before .reach .ensures .0)
+      (simp (toZ-ofZ, s .fits .performance) at (c .is-within .ensures)) ∙ ap (λ n. within n (interval (s .args .live) (s .args .performance)))
+      (c .before .reach .ensures .0)
 
 is-left-by-a-run-requires : tie.Need-is-left-by-a-run-requires
 is-left-by-a-run-requires c κs = search needs
@@ -51,7 +52,9 @@ returns-3 : tie.Need-returns-3
 unfolding add-reply
 returns-3 c =
     let d = c .before .before in
-    record { reply = rw (held (d .before .before), fine d, le-ltb (c .before .before .before .before .before .before .args .week .seen) 2_016 (c .if3 .taken)) }
+    record {
+      reply = rw (held (d .before .before), fine d, le-ltb (c .before .before .before .before .before .before .args .week .seen) 2_016 (c .if3 .taken));
+    }
 
 reach-requires : tie.Need-reach-requires
 reach-requires c κs =
@@ -64,20 +67,36 @@ returns-4 : tie.Need-returns-4
 unfolding add-reply
 returns-4 c =
     let t = c .before in
-    record { reply = rw (held (second t .before .before), fine (second t), lt-ltb (s t .args .week .seen) 2_016 (t .before .before .if3 .left), sym (tested t) ∙ not-true _ (c .if4 .taken)) }
+    record {
+      reply = rw (
+        held (second t .before .before),
+        fine (second t),
+        lt-ltb (s t .args .week .seen) 2_016 (t .before .before .if3 .left),
+        sym (tested t)
+            ∙ not-true _ (c .if4 .taken),
+      );
+    }
 
 one-more-requires : tie.Need-one-more-requires
 one-more-requires c κs =
     let t = c .before in
     let inside = sym (tested t) ∙ not-false _ (c .if4 .left) in
-    simp (toZ-ofZ, s t .fits .performance) (run-means (s t .args .week) (held (second t .before .before)), t .before .before .if3 .left, within-wider (interval (s t .args .live) (s t .args .performance)) (rw (t .before .reach .ensures .0) at (t .before .reach .ensures .1)) inside)
+    simp (toZ-ofZ, s t .fits .performance) (
+      run-means (s t .args .week) (held (second t .before .before)),
+      t .before .before .if3 .left,
+      within-wider
+          (interval (s t .args .live) (s t .args .performance)) (rw (t .before .reach .ensures .0) at (t .before .reach .ensures .1)) inside,
+    )
 
 returns-5 : tie.Need-returns-5
 unfolding add-reply
 returns-5 c =
     let t = c .before .before in
     let inside = sym (tested t) ∙ not-false _ (c .before .if4 .left) in
-    record { reply = rw (held (second t .before .before), fine (second t), lt-ltb (s t .args .week .seen) 2_016 (t .before .before .if3 .left), inside) (ap Next (simp (toZ-ofZ, s t .fits .performance) at (c .one-more .ensures))) }
+    record {
+      reply = rw (held (second t .before .before), fine (second t), lt-ltb (s t .args .week .seen) 2_016 (t .before .before .if3 .left), inside)
+          (ap Next (simp (toZ-ofZ, s t .fits .performance) at (c .one-more .ensures)));
+    }
 
 pub add-spec : {M : Type 1} → statement M
 add-spec =

@@ -32,7 +32,13 @@ returns-3 c =
 returns-4 : tie.Need-returns-4
 returns-4 c =
     let d = c .before .before in
-    sym (means-run (week d) (record { counted = first d .if1 .left; short = second d .if2 .left; small = d .if3 .left; reached = omega (arith, d .if3 .left, c .if4 .taken) }))
+    sym (means-run (week d) (record {
+      counted = first d .if1 .left;
+      short = second d .if2 .left;
+      small = d .if3 .left;
+      reached = omega
+          (arith, d .if3 .left, c .if4 .taken);
+    }))
 
 returns-5 : tie.Need-returns-5
 returns-5 c =

@@ -26,7 +26,12 @@ module _ (c : tie.After-shortfall) where
   short = simp (toZ-ofZ, s .fits .performance) at (c .shortfall .ensures)
 
   bound : c .shortfall .result ≤ base
-  bound = omega (arith, short, shortfall-≤ base (live (s .args .performance)) (le-refl base) (subst (λ (t : Bool). within base (interval t (s .args .performance)) ≡ true) is-live (s .pre .2)))
+  bound = omega (
+    arith,
+    short,
+    shortfall-≤ base (live (s .args .performance)) (le-refl base)
+        (subst (λ (t : Bool). within base (interval t (s .args .performance)) ≡ true) is-live (s .pre .2)),
+  )
 
 add-t6 : tie.Need-add-t6
 add-t6 c = search needs
@@ -52,7 +57,8 @@ add-t9 c = search needs
 returns-2 : tie.Need-returns-2
 returns-2 c =
     let d = c .before .before .before .before in
-    rw (is-live d) (live-more (s d .args .week) (s d .args .performance) (c .before .before .before .before .shortfall .result) (short d) (c .before .before .if2 .taken))
+    rw (is-live d) (live-more (s d .args .week) (s d .args .performance) (c .before .before .before .before .shortfall .result) (short d)
+    (c .before .before .if2 .taken))
 
 add-t10 : tie.Need-add-t10
 add-t10 c = search needs
@@ -66,7 +72,8 @@ add-t12 c = search needs
 returns-3 : tie.Need-returns-3
 returns-3 c =
     let d = c .before .before .before .before .before in
-    rw (is-live d) (carried-more (s d .args .week) (s d .args .performance) (d .shortfall .result) (short d) (s d .pre .0 .small) (bound d) (c .before .before .before .if2 .left))
+    rw (is-live d) (carried-more (s d .args .week) (s d .args .performance) (d .shortfall .result) (short d) (s d .pre .0 .small) (bound d)
+    (c .before .before .before .if2 .left))
 
 pub one-more-spec : {M : Type 1} → statement M
 one-more-spec =

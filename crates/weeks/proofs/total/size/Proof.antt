@@ -40,19 +40,23 @@ sub-result c =
 
 cast-result : tie.Need-cast-result
 cast-result c =
-    simp (toZ-ofZ, c .before .fits .performance, up c, down c) (rw (turned (x c) (below c)) (tt, record { fits = omega (arith, fits-loss (x c) (below c) (fits c)) }))
+    simp (toZ-ofZ, c .before .fits .performance, up c, down c) (rw (turned (x c) (below c))
+    (tt, record { fits = omega (arith, fits-loss (x c) (below c) (fits c)) }))
 
 add-result-2 : tie.Need-add-result-2
 add-result-2 c =
-    simp (toZ-ofZ, c .before .fits .performance, up c, down c) (rw (turned (x c) (below c)) (record { fits = omega (arith, fits-loss (x c) (below c) (fits c)) }))
+    simp (toZ-ofZ, c .before .fits .performance, up c, down c) (rw (turned (x c) (below c))
+    (record { fits = omega (arith, fits-loss (x c) (below c) (fits c)) }))
 
 cast-result-2 : tie.Need-cast-result-2
 cast-result-2 c =
-    simp (toZ-ofZ, c .before .fits .performance) (to-unsigned tt (c .before .fits .performance) (ltZ-false (simp (toZ-ofZ, c .before .fits .performance) at (c .if1 .left))))
+    simp (toZ-ofZ, c .before .fits .performance) (to-unsigned tt (c .before .fits .performance)
+    (ltZ-false (simp (toZ-ofZ, c .before .fits .performance) at (c .if1 .left))))
 
 returns : tie.Need-returns
 returns c =
-    simp (toZ-ofZ, c .before .fits .performance, up c, down c) (rw (turned (x c) (below c)) (omega (arith, some-loss (x c) (below c), size-below (x c) (below c))))
+    simp (toZ-ofZ, c .before .fits .performance, up c, down c) (rw (turned (x c) (below c))
+    (omega (arith, some-loss (x c) (below c), size-below (x c) (below c))))
 
 returns-2 : tie.Need-returns-2
 returns-2 c = search needs

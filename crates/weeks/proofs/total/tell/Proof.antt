@@ -23,7 +23,8 @@ returns c =
     let a = c .before .before in
     let s = a .before in
     let w = s .args .week in
-    rw (lt-leb (average (total-in w) (w .live)) (default-limit (s .args .whose)) (omega (arith, a .average .ensures .0, c .before .default-limit .ensures, c .if1 .taken)))
+    rw (lt-leb (average (total-in w) (w .live)) (default-limit (s .args .whose))
+    (omega (arith, a .average .ensures .0, c .before .default-limit .ensures, c .if1 .taken)))
 
 cast-t7 : tie.Need-cast-t7
 cast-t7 c = search needs
@@ -37,8 +38,10 @@ returns-2 c =
     let a = c .before .before in
     let s = a .before in
     let w = s .args .week in
-    rw (le-leb (average (total-in w) (w .live)) (default-limit (s .args .whose)) (omega (arith, a .average .ensures .0, c .before .default-limit .ensures, c .if1 .left)))
-    (ap (λ (d : ℤ). Is (record { count = w .live; default = d })) (turned-is (a .average .result) (a .average .ensures .1) ∙ ap (λ (n : ℕ). negℤ (pos n)) (a .average .ensures .0)))
+    rw (le-leb (average (total-in w) (w .live)) (default-limit (s .args .whose))
+    (omega (arith, a .average .ensures .0, c .before .default-limit .ensures, c .if1 .left)))
+    (ap (λ (d : ℤ). Is (record { count = w .live; default = d })) (turned-is (a .average .result) (a .average .ensures .1) ∙ ap (λ (n : ℕ). negℤ (pos n))
+    (a .average .ensures .0)))
 
 pub tell-spec : {M : Type 1} → statement M
 tell-spec =
