@@ -80,5 +80,5 @@ module _ (m : ℕ) (live : ℕ → ℕ) (p : ℕ → ℤ) (ws : ℕ → List ℕ
   words-read-the-list n a xs {r} {xs′} c =
       let s = stands n a n (omega arith) in
       let same : (week-held (ws n) >>= read-reply (whose-of m)) ≡ week-reply (whose-of m) n (added live p) =
-          ap (λ (y : Reply RunningWeek). y >>= read-reply (whose-of m)) (s .held ∙ sym (s .ran)) ∙ running-reads-the-list (whose-of m) (added live p) n in
+      ap (λ (y : Reply RunningWeek). y >>= read-reply (whose-of m)) (s .held ∙ sym (s .ran)) ∙ running-reads-the-list (whose-of m) (added live p) n in
       (c .reply ∙ rw same, c .numbers ∙ rw same)

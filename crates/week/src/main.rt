@@ -3,10 +3,10 @@
 // wrong with reading or writing, is told on standard error.
 mod books;
 mod input;
-mod kept;
 mod output;
 mod performances;
 mod replay;
+mod running;
 
 // The buffers, in bytes, each array once:
 //   a book's series: measures 1,500, positive 3,000, negative 3,000; figures 360
@@ -17,8 +17,8 @@ mod replay;
 //   the weeks: names 1,024, lives 2,068, highs 2,068, lows 8,272
 //   the library's own, while a line is written: 4,096
 // Together 86,416, within 131,072.
-use kept::MEMBERS;
-use kept::WEEKS;
+use running::MEMBERS;
+use running::WEEKS;
 
 fn main() {
     let mut names = [0u16; MEMBERS];

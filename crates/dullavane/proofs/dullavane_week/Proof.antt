@@ -35,7 +35,7 @@ returns-2 c =
     let a = f .before .before .args in
     let p = subst (λ (k : Whose). WeekPromise k (a .performances .now) (a .live .now) (w .week .result)) (w .before .whose-of .ensures) (w .week .ensures) in
     week-told (a .whose) (a .performances .now) (a .live .now) (a .reply .now) (f .if1 .left) (w .week .result) p (t .tell-default .ensures .0)
-        (t .tell-default .ensures .1)
+    (t .tell-default .ensures .1)
 
 pub dullavane-week-spec : {M : Type 1} → statement M
 dullavane-week-spec =

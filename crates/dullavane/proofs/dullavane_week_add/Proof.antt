@@ -49,9 +49,9 @@ returns-2 c =
     let s = w .before .before .before .before .before in
     let a = s .args in
     let p = subst (λ (k : Whose). AddPromise k (flag (a .live)) (a .performance) (i .week-in .result) (d .add .result)) (w .whose-of .ensures)
-        (simp (toZ-ofZ, s .fits .performance) at (d .add .ensures)) in
+    (simp (toZ-ofZ, s .fits .performance) at (d .add .ensures)) in
     add-told (a .whose) (a .live) (a .performance) (a .week .now) (i .week-in .result) (i .week-in .ensures) (d .add .result) p (t .tell-week .ensures .0)
-        (t .tell-week .ensures .1)
+    (t .tell-week .ensures .1)
 
 pub dullavane-week-add-spec : {M : Type 1} → statement M
 dullavane-week-add-spec =

@@ -54,7 +54,7 @@ returns-3 c =
     let a = f .before .before .args in
     let p = subst (λ (k : Whose). ReadPromise k (i .week-in .result) (d .read .result)) (w .whose-of .ensures) (d .read .ensures) in
     read-told (a .whose) (a .week .now) (a .reply .now) (f .if1 .left) (i .week-in .result) (i .week-in .ensures) (d .read .result) p
-        (t .tell-default .ensures .0) (t .tell-default .ensures .1)
+    (t .tell-default .ensures .0) (t .tell-default .ensures .1)
 
 pub dullavane-week-read-spec : {M : Type 1} → statement M
 dullavane-week-read-spec =

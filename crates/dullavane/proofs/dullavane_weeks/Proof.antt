@@ -28,7 +28,7 @@ returns c =
     let r = c .before .before .before .before .before in
     let a = r .before .before .before .before .before .before .args in
     weeks-told (a .intervals) (a .whose .now) (a .performances .now) (a .live .now) (a .counts .now) (a .defaults .now) (r .roster .result)
-        (r .roster .ensures) (ap written-number (sym (c .enum-told .given .1)))
+    (r .roster .ensures) (ap written-number (sym (c .enum-told .given .1)))
 
 same-length-3 : tie.Need-same-length-3
 same-length-3 c = search needs
@@ -41,7 +41,7 @@ returns-2 c =
     let r = c .before .before .before .before .before .before .before in
     let a = r .before .before .before .before .before .before .args in
     weeks-told (a .intervals) (a .whose .now) (a .performances .now) (a .live .now) (a .counts .now) (a .defaults .now) (r .roster .result)
-        (r .roster .ensures) (c .refusal-number .ensures ∙ ap written-number (sym (c .before .before .written .given .1)))
+    (r .roster .ensures) (c .refusal-number .ensures ∙ ap written-number (sym (c .before .before .written .given .1)))
 
 pub dullavane-weeks-spec : {M : Type 1} → statement M
 dullavane-weeks-spec =

@@ -30,7 +30,7 @@ returns c =
     let s = c .before .before in
     let xs = s .args .reply .now in
     ap₂ (λ (x y : ℤ). set (set xs 0 x) 1 y) (toZ-small w64 {n = s .args .default .count} (omega arith)) (toZ-ofZ (sfits-of (c .struct-told .given .1 .0 .1)))
-        ∙ two-stores xs _ _ (s .pre)
+    ∙ two-stores xs _ _ (s .pre)
 
 pub put-default-spec : {M : Type 1} → statement M
 put-default-spec =
