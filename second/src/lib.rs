@@ -15,6 +15,8 @@ pub mod share;
 pub mod rcr;
 pub mod cents;
 pub mod listing;
+pub mod week;
+pub mod replay;
 
 pub mod invariants;
 
