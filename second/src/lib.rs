@@ -34,3 +34,6 @@ pub mod vectors;
 pub mod library;
 pub mod boundary;
 pub mod script;
+pub mod doors;
+pub mod week_script;
+pub mod week_books;

@@ -114,7 +114,7 @@ fn failures(program: &Program, all: &[Known]) -> Vec<String> {
 
 fn main() -> ExitCode {
     fs::create_dir_all("target").expect("run from the top of the repository");
-    let command = library_command();
+    let command = library_command("settle");
     println!("{}", announcement(command.as_deref()));
     let mut programs = vec![Program { name: "second", command: None }];
     if command.is_some() {
