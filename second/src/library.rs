@@ -17,8 +17,10 @@ pub fn library_command(name: &str) -> Option<Vec<String>> {
     match std::env::var(name.to_uppercase()) {
         Ok(line) => Some(words(&line)),
         Err(_) if Path::new("target/bin").join(name).exists() => {
-            let said =
-                Command::new("tests/tools/program").args(["--line", name]).output().expect("tests/tools/program");
+            let said = Command::new("tests/tools/program")
+                .args(["--line", name])
+                .output()
+                .expect("tests/tools/program");
             Some(words(&String::from_utf8_lossy(&said.stdout)))
         }
         Err(_) => None,

@@ -60,10 +60,7 @@ impl Records {
         let views = region_views(book);
         for unit in &book.units {
             let view = &views[unit.region];
-            self.units
-                .entry(unit.number)
-                .or_default()
-                .take(|direction| unit_member(direction, unit, view));
+            self.units.entry(unit.number).or_default().take(|direction| unit_member(direction, unit, view));
         }
         for (region, residual) in self.residuals.iter_mut().enumerate() {
             residual.take(|direction| region_residual(direction, book, &views, region));

@@ -328,3 +328,46 @@ pub fn trial(seed: u64, turn: u64) -> WeekTrial {
         WeekTrial { name: format!("{seed}-{turn}-{kind}"), bytes: books.concat() }
     }
 }
+
+/// A book of a direction in a region, with units of chosen performances.
+fn book_with(direction: Direction, region: usize, units: &[(i128, i128)]) -> Book {
+    let mut book = book_of(direction, region);
+    book.units = units
+        .iter()
+        .map(|&(number, performance)| chosen_unit(number, region, direction, performance))
+        .collect();
+    book
+}
+
+/// Units that come and go, one that is met only while it is not live, halves, a region without units.
+fn stored_lines() -> Vec<u8> {
+    use Direction::{Lower, Raise};
+    let mut second = book_with(Lower, 0, &[(7, -5), (12, -9)]);
+    second.units[1].good[74] = false;
+    second.units[1].readings[74] = 0;
+    let mut third = book_with(Raise, 0, &[(9, -4)]);
+    third.units.push(base_unit(65_535, 3));
+    let books = [
+        book_with(Raise, 0, &[(7, -3), (9, 1_000)]),
+        second,
+        third,
+        book_with(Raise, 0, &[(7, -4), (9, -2_000_000_000_000_000)]),
+        book_of(Lower, 2),
+    ];
+    books.iter().flat_map(to_bytes).collect()
+}
+
+/// The second of three books is refused.
+fn stored_refusal() -> Vec<u8> {
+    use Direction::Raise;
+    let units = [(7, -3), (9, 1_000)];
+    let mut second = book_with(Raise, 0, &units);
+    second.units.swap(0, 1);
+    [book_with(Raise, 0, &units), second, book_with(Raise, 0, &units)].iter().flat_map(to_bytes).collect()
+}
+
+/// The runs that are kept as files, by name: small, and made here so that they can be made again.
+pub fn stored() -> [WeekTrial; 2] {
+    [("lines", stored_lines()), ("refused", stored_refusal())]
+        .map(|(name, bytes)| WeekTrial { name: format!("week_{name}"), bytes })
+}

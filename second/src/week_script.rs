@@ -307,7 +307,9 @@ impl<W: Write> Script<W> {
         match chance.between(1, 60) {
             1 => chance.pick(&long),
             2..=3 => chance.pick(&wide),
-            _ => (chance.pick(&[0, 1, 1, 2, 2, 3, 5, 7, 13]), chance.pick(&[0, 1, 2, 3, 7, 8, 9, 16, 17, 33])),
+            _ => {
+                (chance.pick(&[0, 1, 1, 2, 2, 3, 5, 7, 13]), chance.pick(&[0, 1, 2, 3, 7, 8, 9, 16, 17, 33]))
+            }
         }
     }
 

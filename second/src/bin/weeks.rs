@@ -1,7 +1,8 @@
 //! `weeks script WEEKS [SEED]`: a script of random weeks for the doors; `weeks model`: reads a script and says of
 //! each line what is replied and left; `weeks compare WEEKS [SEED]`: weeks of books through the second program's
-//! `week` and the library's, byte for byte, with what they say on standard error. A difference is kept under
-//! target/differences. Run from the top of the repository, see tests/weeks.
+//! `week` and the library's, byte for byte, with what they say on standard error (a difference is kept under
+//! target/differences; run from the top of the repository, see tests/weeks); `weeks stored DIR`: the runs kept as
+//! files.
 
 use std::collections::BTreeMap;
 use std::fs;
@@ -12,10 +13,11 @@ use std::process::ExitCode;
 use second::doors::Doors;
 use second::library::{announcement, library_command, library_outputs};
 use second::replay::replay;
-use second::week_books::{trial, WeekTrial};
+use second::week_books::{stored, trial, WeekTrial};
 use second::week_script::write_script;
 
-const USAGE: &str = "usage: weeks script WEEKS [SEED] | weeks model | weeks compare WEEKS [SEED]";
+const USAGE: &str =
+    "usage: weeks script WEEKS [SEED] | weeks model | weeks compare WEEKS [SEED] | weeks stored DIR";
 const DIFFERENCES: &str = "target/differences";
 const WEEKS: u64 = 2_000;
 const SEED: u64 = 2_026;
@@ -82,20 +84,31 @@ fn model(out: &mut impl Write) -> std::io::Result<()> {
     Ok(())
 }
 
+fn write_stored(dir: &Path) -> std::io::Result<()> {
+    fs::create_dir_all(dir)?;
+    for run in stored() {
+        fs::write(dir.join(format!("{}.stdin", run.name)), &run.bytes)?;
+        fs::write(dir.join(format!("{}.stdout", run.name)), replay(&run.bytes).0)?;
+    }
+    Ok(())
+}
+
 fn main() -> std::io::Result<ExitCode> {
     let words: Vec<String> = std::env::args().skip(1).collect();
     let number = |place: usize, otherwise: u64| -> u64 {
         words.get(place).map_or(otherwise, |word| word.parse().expect(USAGE))
     };
-    let (weeks, seed) = (number(1, WEEKS), number(2, SEED));
+    let weeks = || number(1, WEEKS);
+    let seed = number(2, SEED);
     let mut out = BufWriter::new(std::io::stdout().lock());
     match words.first().map(String::as_str) {
-        Some("script") => write_script(weeks as usize, seed, &mut out)?,
+        Some("script") => write_script(weeks() as usize, seed, &mut out)?,
         Some("model") => model(&mut out)?,
         Some("compare") => {
             drop(out);
-            return Ok(if compare(weeks, seed) { ExitCode::SUCCESS } else { ExitCode::FAILURE });
+            return Ok(if compare(weeks(), seed) { ExitCode::SUCCESS } else { ExitCode::FAILURE });
         }
+        Some("stored") => write_stored(Path::new(words.get(1).expect(USAGE)))?,
         _ => panic!("{USAGE}"),
     }
     out.flush()?;
