@@ -23,7 +23,7 @@ static u16 whose[MOST];
 static i64 reply[MOST_REPLIES + BEHIND], defaults[MOST_REPLIES + BEHIND];
 static u16 counts[MOST_REPLIES + BEHIND];
 static u64 words[WORDS] = {0, 0, BEFORE, BEFORE, BEFORE};
-static int last; /* the character that ended the word read last */
+static int last, digits; /* the character that ended the number read last, and how many digits it had */
 
 static void stop(const char *why) {
     printf("bad script: %s\n", why);
@@ -34,9 +34,13 @@ static void stop(const char *why) {
 static u64 number(void) {
     u64 size = 0;
     int minus = 0;
+    digits = 0;
     for (last = getchar(); last == '-' || (last >= '0' && last <= '9'); last = getchar()) {
         if (last == '-') minus = 1;
-        else size = size * 10 + (u64)(last - '0');
+        else {
+            size = size * 10 + (u64)(last - '0');
+            digits++;
+        }
     }
     return minus ? -size : size;
 }
@@ -60,9 +64,8 @@ static list next_list(u32 width, void *room) {
         } else if (last != ',' && last != ' ' && last != '\n') {
             stop("no number");
         }
-        /* An empty list has no number before its end. */
-        if (read.length == 0) continue;
-        for (; times; times--) set(width, room, read.there++, value);
+        /* A list may be told to have numbers that are not there. */
+        for (; digits && times; times--) set(width, room, read.there++, value);
     }
     return read;
 }

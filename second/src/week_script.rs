@@ -5,6 +5,7 @@ use std::io::{self, Write};
 
 use crate::chance::Chance;
 use crate::doors::{bytes_for, packed, BEHIND};
+use crate::quantities::PERFORMANCE_LIMIT;
 use crate::week::*;
 
 const I64_LEAST: i128 = i64::MIN as i128;
@@ -156,6 +157,16 @@ fn draw_week(chance: &mut Chance, whose: i128, intervals: usize, style: Style) -
     week
 }
 
+/// A week of a member that is refused with this number, if it has an interval.
+fn refused_week(number: u8, intervals: usize) -> MadeWeek {
+    let (whose, performance) = match number {
+        5 => (GROUP_LIMIT + 1, 0),
+        14 => (2, -PERFORMANCE_LIMIT - 1),
+        _ => (1, PERFORMANCE_LIMIT + 1),
+    };
+    MadeWeek { whose, live: vec![true; intervals], performances: vec![performance; intervals] }
+}
+
 /// A bit for each interval; the spare ones are anything.
 fn live_bytes(chance: &mut Chance, live: &[bool]) -> Vec<i128> {
     let bytes = bytes_for(live.len() as i128) as usize;
@@ -182,7 +193,7 @@ fn list_word(length: i128, numbers: &[i128]) -> String {
 
 /// Lengths of a week: small ones, and now and then the longest and those over it.
 fn draw_intervals(chance: &mut Chance) -> usize {
-    if chance.one_in(50) {
+    if chance.one_in(30) {
         return chance.pick(&[2_015, 2_016, 2_016, 2_017, 2_024]);
     }
     if chance.one_in(200) {
@@ -326,8 +337,16 @@ impl<W: Write> Script<W> {
             }
             all.push(week);
         }
-        let troubled = chance.pick(&[0, 0, 1, 1, 2, 3]);
-        for _ in 0..if members == 0 { 0 } else { troubled } {
+        if members > 1 && chance.one_in(3) {
+            // Two members with a refusal each: which of them comes first must not matter.
+            for number in [chance.pick(&[5, 17]), chance.pick(&[5, 14, 14, 17])] {
+                let place = chance.place(members);
+                all[place] = refused_week(number, intervals);
+            }
+            return all;
+        }
+        let troubled = if members == 0 { 0 } else { chance.pick(&[0, 0, 1, 1, 2, 3]) };
+        for _ in 0..troubled {
             let whose = draw_whose(chance);
             let style = chance.pick(&STYLES);
             let place = chance.place(members);
@@ -366,35 +385,51 @@ impl<W: Write> Script<W> {
         self.say(&line)
     }
 
-    /// Lengths whose product leaves 16, 32 or 64 bits: 12, before any number of the lists is looked at.
+    /// Lengths whose product leaves 16, 32 or 64 bits: 12, before any number of the lists is looked at. The lists
+    /// are told to be longer than they are, one of them still too short.
     fn roster_too_large(&mut self) -> io::Result<()> {
         let chance = &mut self.chance;
         let (members, intervals): (i128, i128) = chance.pick(&[
-            (1, 65_536),
             (1, 65_537),
-            (2, 32_768),
+            (3, 32_768),
             (1, u32::MAX as i128),
             (3, 1 << 31),
             (65_536, 65_536),
-            (1 << 32, 1 << 31),
+            (65_537, 65_536),
             (1 << 33, 1 << 31),
             ((1 << 33) + 1, 1 << 31),
+            (1 << 36, 1 << 31),
         ]);
-        let lent = chance.pick(&[0, 1, 5]);
-        let numbers = vec![0; lent as usize];
+        let bytes = bytes_for(intervals);
+        let needed = [members * intervals, members * bytes];
+        // What is left of the product in a narrower word.
+        let wrapped = needed.map(|needed| {
+            let bits = chance.pick(&[16, 32, 64]);
+            (needed % (1 << bits)).min(needed - 1)
+        });
+        let told = match chance.place(3) {
+            0 => [wrapped[0], needed[1].min(U64_MOST)],
+            1 => [needed[0].min(U64_MOST), wrapped[1]],
+            _ => wrapped,
+        };
         let line = format!(
             "weeks {intervals} {} {} {} {members} {members}",
             list_word(members, &[1, 1]),
-            list_word(lent, &numbers),
-            list_word(lent, &numbers)
+            list_word(told[0], &[]),
+            list_word(told[1], &[])
         );
         self.say(&line)
     }
 
     fn one_week(&mut self, nth: usize) -> io::Result<()> {
-        let whose = draw_whose(&mut self.chance);
+        let mut whose = draw_whose(&mut self.chance);
+        let mut style = STYLES[nth % STYLES.len()];
         let intervals = draw_intervals(&mut self.chance);
-        let week = draw_week(&mut self.chance, whose, intervals, STYLES[nth % STYLES.len()]);
+        if intervals > 2_000 && self.chance.one_in(2) {
+            // A long week that has an answer although its total passes 64 bits.
+            (whose, style) = (self.chance.pick(&[0, 0, 2, 512]), Style::AroundDefault);
+        }
+        let week = draw_week(&mut self.chance, whose, intervals, style);
         self.list_form(&week)?;
         if intervals < 3_000 {
             self.running_form(&week)?;

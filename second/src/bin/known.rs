@@ -63,10 +63,12 @@ fn check_trial(program: &Program, trial: &Trial) -> Result<(), String> {
     }
 }
 
+type Check = Box<dyn Fn(&Program) -> Result<(), String> + Sync>;
+
 /// A book whose answer is known, and the test of what a program prints for it.
 struct Known {
     name: String,
-    check: Box<dyn Fn(&Program) -> Result<(), String> + Sync>,
+    check: Check,
 }
 
 fn all_known() -> Vec<Known> {
