@@ -221,13 +221,22 @@ fn books_of_many_numbers(chance: &mut Chance) -> Vec<Vec<u8>> {
     let again = chance.place(5);
     let mut second: Vec<i128> = [&late[..], &some_of(chance, &early, again)].concat();
     second.sort_unstable();
-    let mut all = vec![to_bytes(&idle_book(&early)), to_bytes(&idle_book(&second))];
-    if chance.one_in(3) {
-        all[1] = damage(chance.draw(), &all[1]);
-    } else if chance.one_in(2) {
+    let mut second = idle_book(&second);
+    let own = chance.place(6);
+    if own == 0 {
+        second.requirements[0].price = PRICE_LIMIT + 1;
+    }
+    let mut second = to_bytes(&second);
+    match own {
+        1 => second.truncate(second.len() - 1),
+        2 => second = damage(chance.draw(), &second),
+        _ => {}
+    }
+    let mut all = vec![to_bytes(&idle_book(&early)), second];
+    if own == 3 {
         all.push(to_bytes(&idle_book(&late)));
     }
-    if chance.one_in(4) {
+    if own == 4 {
         all.swap(0, 1);
     }
     all
