@@ -6,10 +6,6 @@ use Prim.Native.Nat.{_-_, _≤_}
 use mathlib.Core.Path.{_≡_, refl, _∙_}
 use Rattle.week.proofs.replay.add_members.Statement.{statement}
 use Rattle.week.proofs.replay.add_members.Tie as tie
-use Rattle.week.proofs.replay.add_members.Reads as reads
-use Rattle.week.proofs.replay.add_members.Lts as lts
-use Rattle.week.proofs.replay.add_done.Reads as add-done-reads
-use Rattle.week.proofs.replay.done_by.Reads as done-by-reads
 
 abbrev Inv-loop : tie.InvT-loop
 Inv-loop units books members offset numbers rows live names lives₀ highs₀ lows₀ slot₀ lives highs lows slot = slot ≤ members
@@ -17,58 +13,45 @@ Inv-loop units books members offset numbers rows live names lives₀ highs₀ lo
 abbrev μ-loop : tie.MeasureT-loop
 μ-loop units books members offset numbers rows live names lives₀ highs₀ lows₀ slot₀ lives highs lows slot = members - slot
 
--- src/replay.rt:165:5
 loop-holds : tie.Need-loop-holds Inv-loop μ-loop
 loop-holds c = omega arith
 
--- src/replay.rt:166:28
 mul-done-by : tie.Need-mul-done-by Inv-loop μ-loop
 mul-done-by c = omega arith
 
--- src/replay.rt:166:28
 element-copy-out-done-by : tie.Need-element-copy-out-done-by Inv-loop μ-loop
 element-copy-out-done-by c = search needs
 
--- src/replay.rt:166:13
 done-by-requires : tie.Need-done-by-requires Inv-loop μ-loop
 done-by-requires c κs = search needs
 
--- src/replay.rt:167:35
 mul-add-done : tie.Need-mul-add-done Inv-loop μ-loop
 mul-add-done c = omega arith
 
--- src/replay.rt:167:35
 add-add-done : tie.Need-add-add-done Inv-loop μ-loop
 add-add-done c = omega arith
 
--- src/replay.rt:167:13
 add-done-requires : tie.Need-add-done-requires Inv-loop μ-loop
 add-done-requires c κs = omega arith
 
--- src/replay.rt:169:13
 enum-told : tie.Need-enum-told Inv-loop μ-loop
 enum-told c = search needs
 
--- src/replay.rt:169:13
 returns : tie.Need-returns Inv-loop μ-loop
 returns c = search needs
 
 enum-told-2 : tie.Need-enum-told-2 Inv-loop μ-loop
 enum-told-2 c = search needs
 
--- src/replay.rt:171:9
 add-slot : tie.Need-add-slot Inv-loop μ-loop
 add-slot c = omega arith
 
--- src/replay.rt:165:5
 loop-less : tie.Need-loop-less Inv-loop μ-loop
 loop-less c = omega arith
 
--- src/replay.rt:165:5
 loop-again : tie.Need-loop-again Inv-loop μ-loop
 loop-again c = omega arith
 
--- src/replay.rt:149:1
 returns-2 : tie.Need-returns-2 Inv-loop μ-loop
 returns-2 c = search needs
 

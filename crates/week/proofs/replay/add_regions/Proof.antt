@@ -6,10 +6,6 @@ use Prim.Native.Nat.{_-_, _≤_}
 use mathlib.Core.Path.{_≡_, refl, _∙_}
 use Rattle.week.proofs.replay.add_regions.Statement.{statement}
 use Rattle.week.proofs.replay.add_regions.Tie as tie
-use Rattle.week.proofs.replay.add_regions.Reads as reads
-use Rattle.week.proofs.replay.add_regions.Lts as lts
-use Rattle.week.proofs.performances.region_done.Reads as region-done-reads
-use Rattle.week.proofs.replay.add_done.Reads as add-done-reads
 
 abbrev Inv-loop : tie.InvT-loop
 Inv-loop tally books direction offset measures positive negative figures numbers places raise lower defaults rows₀ live₀ lives₀ highs₀ lows₀ region₀ rows live lives highs lows region = region ≤ 5
@@ -17,58 +13,45 @@ Inv-loop tally books direction offset measures positive negative figures numbers
 abbrev μ-loop : tie.MeasureT-loop
 μ-loop tally books direction offset measures positive negative figures numbers places raise lower defaults rows₀ live₀ lives₀ highs₀ lows₀ region₀ rows live lives highs lows region = 5 - region
 
--- src/replay.rt:121:5
 loop-holds : tie.Need-loop-holds Inv-loop μ-loop
 loop-holds c = omega arith
 
--- src/replay.rt:122:13
 region-done-requires : tie.Need-region-done-requires Inv-loop μ-loop
 region-done-requires c κs = search needs
 
--- src/replay.rt:138:35
 cast-at : tie.Need-cast-at Inv-loop μ-loop
 cast-at c = search needs
 
--- src/replay.rt:138:30
 mul-at : tie.Need-mul-at Inv-loop μ-loop
 mul-at c = omega arith
 
--- src/replay.rt:138:18
 add-at : tie.Need-add-at Inv-loop μ-loop
 add-at c = omega arith
 
--- src/replay.rt:138:18
 add-at-2 : tie.Need-add-at-2 Inv-loop μ-loop
 add-at-2 c = omega arith
 
--- src/replay.rt:139:13
 add-done-requires : tie.Need-add-done-requires Inv-loop μ-loop
 add-done-requires c κs = omega arith
 
--- src/replay.rt:141:13
 enum-told : tie.Need-enum-told Inv-loop μ-loop
 enum-told c = search needs
 
--- src/replay.rt:141:13
 returns : tie.Need-returns Inv-loop μ-loop
 returns c = search needs
 
 enum-told-2 : tie.Need-enum-told-2 Inv-loop μ-loop
 enum-told-2 c = search needs
 
--- src/replay.rt:143:9
 add-region : tie.Need-add-region Inv-loop μ-loop
 add-region c = omega arith
 
--- src/replay.rt:121:5
 loop-less : tie.Need-loop-less Inv-loop μ-loop
 loop-less c = omega arith
 
--- src/replay.rt:121:5
 loop-again : tie.Need-loop-again Inv-loop μ-loop
 loop-again c = omega arith
 
--- src/replay.rt:98:1
 returns-2 : tie.Need-returns-2 Inv-loop μ-loop
 returns-2 c = search needs
 

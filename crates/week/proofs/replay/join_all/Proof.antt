@@ -6,9 +6,6 @@ use Prim.Native.Nat.{_-_, _≤_}
 use mathlib.Core.Path.{_≡_, refl, _∙_}
 use Rattle.week.proofs.replay.join_all.Statement.{statement}
 use Rattle.week.proofs.replay.join_all.Tie as tie
-use Rattle.week.proofs.replay.join_all.Reads as reads
-use Rattle.week.proofs.replay.join_all.Lts as lts
-use Rattle.week.proofs.running.join.Reads as join-reads
 
 abbrev Inv-loop : tie.InvT-loop
 Inv-loop numbers units names₀ members joined₀ row₀ names joined row = (row ≤ units) × (joined ≤ 512)
@@ -16,39 +13,30 @@ Inv-loop numbers units names₀ members joined₀ row₀ names joined row = (row
 abbrev μ-loop : tie.MeasureT-loop
 μ-loop numbers units names₀ members joined₀ row₀ names joined row = units - row
 
--- src/replay.rt:50:5
 loop-holds : tie.Need-loop-holds Inv-loop μ-loop
 loop-holds c = omega arith
 
--- src/replay.rt:51:38
 mul-join : tie.Need-mul-join Inv-loop μ-loop
 mul-join c = omega arith
 
--- src/replay.rt:51:38
 element-copy-out-join : tie.Need-element-copy-out-join Inv-loop μ-loop
 element-copy-out-join c = search needs
 
--- src/replay.rt:51:9
 join-requires : tie.Need-join-requires Inv-loop μ-loop
 join-requires c κs = search needs
 
--- src/replay.rt:53:13
 returns : tie.Need-returns Inv-loop μ-loop
 returns c = search needs
 
--- src/replay.rt:55:9
 add-row : tie.Need-add-row Inv-loop μ-loop
 add-row c = omega arith
 
--- src/replay.rt:50:5
 loop-less : tie.Need-loop-less Inv-loop μ-loop
 loop-less c = omega arith
 
--- src/replay.rt:50:5
 loop-again : tie.Need-loop-again Inv-loop μ-loop
 loop-again c = omega arith
 
--- src/replay.rt:44:1
 returns-2 : tie.Need-returns-2 Inv-loop μ-loop
 returns-2 c = search needs
 
