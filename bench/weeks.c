@@ -1,5 +1,5 @@
-/* bench/weeks.c: LISTS times the list form over a week of 2,016 intervals, then RUNS running weeks of as many intervals, of the member WHOSE and the SHAPE
-   of week; prints what they come to. bench/weeks counts it. */
+/* bench/weeks.c: the list form over a week of 2,016 intervals, then a running week of the same, of the member WHOSE and the SHAPE of week; prints what both
+   come to. bench/weeks counts it. */
 #include "dullavane.h"
 
 int putchar(int c);
@@ -35,16 +35,13 @@ static void put(int64_t x) {
 int main(void) {
     int64_t reply[2] = {0, 0};
     make();
-    for (int t = 0; t < LISTS; t++)
-        if (dullavane_week(WHOSE, performances, N, live, sizeof live, reply, 2)) return 1;
+    if (dullavane_week(WHOSE, performances, N, live, sizeof live, reply, 2)) return 1;
     put(reply[0]);
     put(reply[1]);
-    for (int t = 0; t < RUNS; t++) {
-        uint64_t week[2] = {0, 0};
-        for (int i = 0; i < N; i++)
-            if (dullavane_week_add(WHOSE, live[i / 8] >> (i % 8) & 1, performances[i], week, 2)) return 1;
-        if (dullavane_week_read(WHOSE, week, 2, reply, 2)) return 1;
-    }
+    uint64_t week[2] = {0, 0};
+    for (int i = 0; i < N; i++)
+        if (dullavane_week_add(WHOSE, live[i / 8] >> (i % 8) & 1, performances[i], week, 2)) return 1;
+    if (dullavane_week_read(WHOSE, week, 2, reply, 2)) return 1;
     put(reply[0]);
     put(reply[1]);
     putchar('\n');

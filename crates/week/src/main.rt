@@ -17,14 +17,44 @@ mod running;
 //   the weeks: names 1,024, lives 2,068, highs 2,068, lows 8,272
 //   the library's own, while a line is written: 4,096
 // Together 86,416, within 131,072.
+use performances::ROWS;
+use replay::DEFAULTS;
+use replay::FIGURES;
+use replay::RECORD;
+use replay::SERIES;
 use running::MEMBERS;
 use running::WEEKS;
 
 fn main() {
+    let mut bytes = [0u8; RECORD];
+    let mut measures = [0i32; SERIES];
+    let mut positive = [0i64; SERIES];
+    let mut negative = [0i64; SERIES];
+    let mut figures = [0i64; FIGURES];
+    let mut numbers = [0u16; ROWS];
+    let mut places = [0u8; ROWS];
+    let mut raise = [0i64; ROWS];
+    let mut lower = [0i64; ROWS];
+    let mut defaults = [0i64; DEFAULTS];
     let mut names = [0u16; MEMBERS];
     let mut lives = [0u16; WEEKS];
     let mut highs = [0u16; WEEKS];
     let mut lows = [0u64; WEEKS];
-    let end = replay::replay(&mut names, &mut lives, &mut highs, &mut lows);
+    let end = replay::replay(
+        &mut bytes,
+        &mut measures,
+        &mut positive,
+        &mut negative,
+        &mut figures,
+        &mut numbers,
+        &mut places,
+        &mut raise,
+        &mut lower,
+        &mut defaults,
+        &mut names,
+        &mut lives,
+        &mut highs,
+        &mut lows,
+    );
     output::report(end, &names, &lives, &highs, &lows);
 }

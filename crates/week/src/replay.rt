@@ -20,24 +20,31 @@ use rules::Refusal;
 ghost use Prim.Native.Nat.{_+_, _*_, _<_, _≤_};
 ghost use lib.ListN.{length};
 
-const SERIES: usize = 375;
+pub(crate) const SERIES: usize = 375;
 
-const FIGURES: usize = 45;
+pub(crate) const FIGURES: usize = 45;
 
-const DEFAULTS: usize = 3072;
+pub(crate) const DEFAULTS: usize = 3072;
 
 // As long as the longest record.
-const RECORD: usize = 372;
+pub(crate) const RECORD: usize = 372;
 
 const REGIONS: u16 = 5;
 
 const MOST_BOOKS: u16 = 2016;
 
-// How the week ended: after so many books with so many numbers, with a refusal at a book's place, or with a reading that failed.
+// Whether the week goes on, or how it ended: after so many books with so many numbers, with a refusal at a book's place, or with a reading that failed.
 pub(crate) enum End {
+    On,
     Over(u16, usize),
     Refused(Refusal, u16),
     Failed,
+}
+
+// How many numbers there are after a book.
+struct Turn {
+    members: usize,
+    end: End,
 }
 
 // The numbers of a book's units join the names: how many there are then, one more than there is room for where one has none.
@@ -327,68 +334,133 @@ fn last_end(members: usize, bytes: &mut [u8; RECORD]) -> End {
     End::Refused(Refusal::WrongWeek, MOST_BOOKS + 1)
 }
 
+fn stopped(end: End) -> Turn
+    ensures { λ r. ⌜ r .members ≤ 512 ⌝ }
+{
+    Turn { members: 0, end }
+}
+
+fn goes_on(end: End) -> bool {
+    match end {
+        End::On => true,
+        End::Over(_, _) => false,
+        End::Refused(_, _) => false,
+        End::Failed => false,
+    }
+}
+
+// The next book, after so many with so many numbers.
+fn replay_book(
+    books: u16,
+    members: usize,
+    bytes: &mut [u8; RECORD],
+    measures: &mut [i32; SERIES],
+    positive: &mut [i64; SERIES],
+    negative: &mut [i64; SERIES],
+    figures: &mut [i64; FIGURES],
+    numbers: &mut [u16; ROWS],
+    places: &mut [u8; ROWS],
+    raise: &mut [i64; ROWS],
+    lower: &mut [i64; ROWS],
+    defaults: &mut [i64; DEFAULTS],
+    names: &mut [u16; MEMBERS],
+    lives: &mut [u16; WEEKS],
+    highs: &mut [u16; WEEKS],
+    lows: &mut [u64; WEEKS],
+) -> Turn
+    requires { ⌜ (books < 2_016) × (members ≤ 512) ⌝ }
+    ensures { λ r. ⌜ r .members ≤ 512 ⌝ }
+{
+    let next = take_book(
+        bytes,
+        measures,
+        positive,
+        negative,
+        figures,
+        numbers,
+        places,
+        raise,
+        lower,
+        defaults,
+    );
+    let Next::Taken(tally) = next else {
+        return stopped(end_of(next, books, members));
+    };
+    let joined = join_all(numbers, within_rows(tally.units), names, members);
+    if MEMBERS < joined {
+        return stopped(End::Refused(Refusal::WrongCount, books + 1));
+    }
+    let kept = add_book(
+        tally,
+        books,
+        joined,
+        measures,
+        positive,
+        negative,
+        figures,
+        numbers,
+        places,
+        raise,
+        lower,
+        defaults,
+        names,
+        lives,
+        highs,
+        lows,
+    );
+    if let Kept::No(refusal) = kept {
+        return stopped(End::Refused(refusal, books + 1));
+    }
+    Turn {
+        members: joined,
+        end: End::On,
+    }
+}
+
 pub(crate) fn replay(
+    bytes: &mut [u8; RECORD],
+    measures: &mut [i32; SERIES],
+    positive: &mut [i64; SERIES],
+    negative: &mut [i64; SERIES],
+    figures: &mut [i64; FIGURES],
+    numbers: &mut [u16; ROWS],
+    places: &mut [u8; ROWS],
+    raise: &mut [i64; ROWS],
+    lower: &mut [i64; ROWS],
+    defaults: &mut [i64; DEFAULTS],
     names: &mut [u16; MEMBERS],
     lives: &mut [u16; WEEKS],
     highs: &mut [u16; WEEKS],
     lows: &mut [u64; WEEKS],
 ) -> End {
-    let mut measures = [0i32; SERIES];
-    let mut positive = [0i64; SERIES];
-    let mut negative = [0i64; SERIES];
-    let mut figures = [0i64; FIGURES];
-    let mut numbers = [0u16; ROWS];
-    let mut places = [0u8; ROWS];
-    let mut raise = [0i64; ROWS];
-    let mut lower = [0i64; ROWS];
-    let mut defaults = [0i64; DEFAULTS];
-    let mut bytes = [0u8; RECORD];
     let mut members: usize = 0;
     let mut books: u16 = 0;
     while books < MOST_BOOKS {
-        let next = take_book(
-            &mut bytes,
-            &mut measures,
-            &mut positive,
-            &mut negative,
-            &mut figures,
-            &mut numbers,
-            &mut places,
-            &mut raise,
-            &mut lower,
-            &mut defaults,
-        );
-        let Next::Taken(tally) = next else {
-            return end_of(next, books, members);
-        };
-        let joined = join_all(&numbers, within_rows(tally.units), names, members);
-        if MEMBERS < joined {
-            return End::Refused(Refusal::WrongCount, books + 1);
-        }
-        let kept = add_book(
-            tally,
+        let turn = replay_book(
             books,
-            joined,
-            &measures,
-            &positive,
-            &negative,
-            &figures,
-            &numbers,
-            &places,
-            &raise,
-            &lower,
-            &defaults,
+            members,
+            bytes,
+            measures,
+            positive,
+            negative,
+            figures,
+            numbers,
+            places,
+            raise,
+            lower,
+            defaults,
             names,
             lives,
             highs,
             lows,
         );
-        if let Kept::No(refusal) = kept {
-            return End::Refused(refusal, books + 1);
+        let end = turn.end;
+        if !goes_on(end) {
+            return end;
         }
-        members = joined;
+        members = turn.members;
         books += 1;
         tell_books(books);
     }
-    last_end(members, &mut bytes)
+    last_end(members, bytes)
 }

@@ -9,7 +9,7 @@ use Rattle.week.proofs.performances.note_rows.Tie as tie
 
 abbrev Inv-loop : tie.InvT-loop
 Inv-loop units direction set figures numbers places column rows₀ live₀ place₀ row₀ rows live place row =
-    (place ≤ row) × (row ≤ units) × (length rows ≡ length rows₀) × (length live ≡ length live₀)
+    (place ≤ row) × (row ≤ units)
 
 abbrev μ-loop : tie.MeasureT-loop
 μ-loop units direction set figures numbers places column rows₀ live₀ place₀ row₀ rows live place row =
@@ -17,7 +17,7 @@ abbrev μ-loop : tie.MeasureT-loop
 
 loop-holds : tie.Need-loop-holds Inv-loop μ-loop
 loop-holds c =
-    (omega arith, omega arith, refl, refl)
+    omega arith
 
 note-row-requires : tie.Need-note-row-requires Inv-loop μ-loop
 note-row-requires c κs =
@@ -33,11 +33,11 @@ loop-less c =
 
 loop-again : tie.Need-loop-again Inv-loop μ-loop
 loop-again c =
-    search needs
+    omega arith
 
 returns : tie.Need-returns Inv-loop μ-loop
 returns c =
-    search needs
+    omega arith
 
 pub note-rows-spec : {M : Type 1} → statement M
 note-rows-spec =
