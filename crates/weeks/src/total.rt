@@ -51,7 +51,8 @@ pub(crate) fn is_left_by_a_run(week: RunningWeek) -> bool
     week.low == 0
 }
 
-// A live interval more that falls short by so much. That is at most the base, so one comparison carries.
+// A live interval more that falls short by so much. That is at most the base, so one comparison carries; it is seldom met, and a remainder, which is dear,
+// keeps the compiler from working it out every time.
 fn carried(week: RunningWeek, short: u64) -> RunningWeek
     requires { ⌜ Run week × (week .seen < 2_016) × (short ≤ base) ⌝ }
     ensures { λ r. ⌜ r ≡ running (week .seen + 1) (week .live + 1) (total-in week + short) ⌝ }
@@ -69,7 +70,7 @@ fn carried(week: RunningWeek, short: u64) -> RunningWeek
         seen: week.seen + 1,
         live: week.live + 1,
         high: week.high + 1,
-        low: low - BASE,
+        low: low % BASE,
     }
 }
 
