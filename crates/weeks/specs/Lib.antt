@@ -7,5 +7,6 @@ pub mod Gather
 pub mod Rosters
 -- After any list of intervals a running week reads exactly what the list gives
 pub mod Reads
+pub mod Reached
 -- Worked weeks, by computing
 pub mod Worked

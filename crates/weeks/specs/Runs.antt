@@ -6,16 +6,19 @@ use native.Mathlib.Nat.{div-add-mod', mod-lt, le-refl, add-zero}
 use native.Mathlib.Omega.{arith}
 use lib.Dec.{T, leb, ltb, eqb, leb→le, ltb→lt}
 use lib.IntN.{ℤ, pos, negsuc, natAbs}
-use lib.Signed.{_<ℤ_}
+use lib.Signed.{_<ℤ_, _≤ℤ_}
 use borrow.Author.Tests.{leb-true, ltb-true, eqb-true, eqb-false, le-leb, lt-ltb}
 use Rattle.integers.specs.Pairs.{loss, lt-in}
 use Rattle.integers.specs.Bounds.{loss-≤}
 use Rattle.integers.specs.Sums.{one, both}
+use Rattle.integers.specs.Casts.{no-loss}
 use Rattle.integers.specs.Division.{Divided, quotient, remains, divided}
+use Rattle.rules.specs.declared.Refusal.the-variants.{WrongWeek}
 use Rattle.rules.specs.declared.RunningWeek.{RunningWeek}
 use Rattle.rules.specs.declared.Whose.{Whose}
 use Rattle.rules.specs.declared.Whose.the-variants as whose
 use Rattle.rules.specs.Quantities.{most-units, performance-limit}
+use Rattle.rules.specs.Refusals.{Reply, taken, unless}
 use Rattle.rules.specs.Week.{Interval, live, not-live, is-live, shortfall, within, in-reach, reach, whose-fine, most-intervals}
 use Rattle.rules.specs.RunningWeek.{base, running, total-in, fresh, left-by-a-run, with-interval}
 
@@ -72,22 +75,18 @@ digits seen n high low total e h =
 pub total-kept : (seen n total : ℕ) → total-in (running seen n total) ≡ total
 total-kept seen n total = div-add-mod' total base
 
--- with one interval more: as they are, with a shortfall, or with one carried
+-- with one interval more that is not live they are as they were
 pub still-more : (r : RunningWeek) → r .low < base → record { seen = r .seen + 1; live = r .live; high = r .high; low = r .low } ≡ with-interval r not-live
 still-more r small =
     digits (r .seen + 1) (r .live) (r .high) (r .low) (total-in r) refl small ∙ ap₂ (running (r .seen + 1)) (sym (add-zero (r .live)))
     (sym (add-zero (total-in r)))
 
-pub live-more :
-    (r : RunningWeek) (p : ℤ) (short : ℕ) → short ≡ loss p → r .low + short < base →
-    record { seen = r .seen + 1; live = r .live + 1; high = r .high; low = r .low + short } ≡ with-interval r (live p)
-live-more r p short e h = digits (r .seen + 1) (r .live + 1) (r .high) (r .low + short) (total-in r + loss p) (omega arith) h
-
-pub carried-more :
-    (r : RunningWeek) (p : ℤ) (short : ℕ) → short ≡ loss p → r .low < base → short ≤ base → base ≤ r .low + short →
-    record { seen = r .seen + 1; live = r .live + 1; high = r .high + 1; low = r .low + short - base } ≡ with-interval r (live p)
-carried-more r p short e small bound h =
-    digits (r .seen + 1) (r .live + 1) (r .high + 1) (r .low + short - base) (total-in r + loss p) (omega arith) (omega arith)
+-- a live performance above zero counts and adds nothing
+pub counted-more :
+    (r : RunningWeek) (p : ℤ) → pos 0 ≤ℤ p → r .low < base →
+    record { seen = r .seen + 1; live = r .live + 1; high = r .high; low = r .low } ≡ with-interval r (live p)
+counted-more r p h small =
+    digits (r .seen + 1) (r .live + 1) (r .high) (r .low) (total-in r + loss p) (omega (arith, no-loss p h)) small
 
 pub running-run : (seen n total : ℕ) → n ≤ seen → seen ≤ most-intervals → total ≤ n * base → Run (running seen n total)
 running-run seen n total h l t =
@@ -118,6 +117,29 @@ within-wider not-live h e = refl
 pub shortfall-≤ : (limit : ℕ) (x : Interval) → limit ≤ base → within limit x ≡ true → shortfall x ≤ one (is-live x) * base
 shortfall-≤ limit (live p) h e = omega (arith, leb-true (natAbs p) limit e, loss-≤ p)
 shortfall-≤ limit not-live h e = omega arith
+
+-- one interval more, or 17 where a live performance is past a limit
+abbrev pub more-reply : ℕ → RunningWeek → Interval → Reply RunningWeek
+more-reply limit r x = unless (within limit x) WrongWeek (taken (with-interval r x))
+
+-- how many units a member reaches as far as: by it a member is tested, and its reach worked out
+abbrev pub units-of : Whose → ℕ
+units-of whose.Unit = 1
+units-of (whose.Group k) = k
+units-of whose.Residual = most-units
+
+pub fine-units : (m : Whose) → whose-fine m ≡ leb 1 (units-of m) && leb (units-of m) most-units
+fine-units whose.Unit = refl
+fine-units (whose.Group k) = refl
+fine-units whose.Residual = refl
+
+pub reach-units : (m : Whose) → units-of m * performance-limit ≡ reach m
+reach-units whose.Unit = refl
+reach-units (whose.Group k) = refl
+reach-units whose.Residual = refl
+
+pub few-units : (m : Whose) → whose-fine m ≡ true → units-of m ≤ most-units
+few-units m e = leb-true (units-of m) most-units (both (leb 1 (units-of m)) (leb (units-of m) most-units) (sym (fine-units m) ∙ e) .1)
 
 -- one interval more
 pub more-run : (r : RunningWeek) (x : Interval) → Run r → r .seen < most-intervals → within base x ≡ true → Run (with-interval r x)

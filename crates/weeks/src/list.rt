@@ -1,7 +1,7 @@
 // A member's week from lent lists: the performances, and a bit for each that says if it is live.
+use super::Added;
 use super::Told;
 use super::total::MOST_INTERVALS;
-use super::total::is_within;
 use super::total::one_more;
 use super::total::tell;
 use super::whose::is_fine;
@@ -14,7 +14,7 @@ ghost use Prim.Native.Nat.{_≤_, _<_, _/_};
 ghost use lib.ListN.{length};
 ghost use Rattle.rules.specs.Week.{bytes-for, live-bit, interval-at};
 ghost use Rattle.rules.specs.RunningWeek.{base};
-ghost use Rattle.weeks.specs.Promises.{WeekPromise};
+ghost use Rattle.weeks.specs.Promises.{WeekPromise, added-of};
 ghost use Rattle.weeks.specs.Gather.{gathered};
 
 // The bytes that hold n bits.
@@ -32,15 +32,10 @@ fn is_live(live: &[u8], i: usize) -> bool
     (live[i / 8] >> (i % 8)) & 1 == 1
 }
 
-// What a pass over the lists finds: the week, or that a live performance is past the limit.
-enum Gathered {
-    Week(RunningWeek),
-    Outside,
-}
-
-fn gather(limit: u64, performances: &[i64], live: &[u8]) -> Gathered
+// The running week of the lists' intervals, or 17 where a live performance is past the limit.
+fn gather(limit: u64, performances: &[i64], live: &[u8]) -> Added
     requires { ⌜ (limit ≤ base) × (length (now performances) ≤ 2_016) × (bytes-for (length (now performances)) ≤ length (now live)) ⌝ }
-    ensures { λ r. ⌜ r ≡ gathered limit (length (now (performances .entry))) (interval-at (now (performances .entry)) (now (live .entry))) ⌝ }
+    ensures { λ r. ⌜ r ≡ added-of (gathered limit (length (now (performances .entry))) (interval-at (now (performances .entry)) (now (live .entry)))) ⌝ }
 {
     let mut week = RunningWeek {
         seen: 0,
@@ -50,15 +45,14 @@ fn gather(limit: u64, performances: &[i64], live: &[u8]) -> Gathered
     };
     let mut i: usize = 0;
     while i < performances.len() {
-        let is = is_live(live, i);
-        let performance = performances[i];
-        if !is_within(limit, is, performance) {
-            return Gathered::Outside;
-        }
-        week = one_more(week, is, performance);
+        let more = one_more(limit, week, is_live(live, i), performances[i]);
+        let Added::Next(next) = more else {
+            return more;
+        };
+        week = next;
         i += 1;
     }
-    Gathered::Week(week)
+    Added::Next(week)
 }
 
 // Count and default of a week. Refuses 12 for too few bytes of live bits, 5 for a group of 0 or over 512 units, 17 for more than 2,016 intervals or a live
@@ -76,7 +70,7 @@ pub fn week(whose: Whose, performances: &[i64], live: &[u8]) -> Told
         return Told::Refused(Refusal::WrongWeek);
     }
     match gather(reach(whose), performances, live) {
-        Gathered::Week(week) => tell(whose, week),
-        Gathered::Outside => Told::Refused(Refusal::WrongWeek),
+        Added::Next(week) => tell(whose, week),
+        Added::Refused(refusal) => Told::Refused(refusal),
     }
 }

@@ -3,7 +3,6 @@ use super::Added;
 use super::Told;
 use super::total::MOST_INTERVALS;
 use super::total::is_left_by_a_run;
-use super::total::is_within;
 use super::total::one_more;
 use super::total::tell;
 use super::whose::is_fine;
@@ -27,10 +26,7 @@ pub fn add(whose: Whose, live: bool, performance: i64, week: RunningWeek) -> Add
     if MOST_INTERVALS <= week.seen {
         return Added::Refused(Refusal::WrongWeek);
     }
-    if !is_within(reach(whose), live, performance) {
-        return Added::Refused(Refusal::WrongWeek);
-    }
-    Added::Next(one_more(week, live, performance))
+    one_more(reach(whose), week, live, performance)
 }
 
 // Count and default of the intervals added so far. Refuses 11, 5, then 14 for an average below the limit of its book field.

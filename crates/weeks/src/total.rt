@@ -1,4 +1,5 @@
 // The total of a week in two digits, one interval more, and its average: exact, in words of 64 bits.
+use super::Added;
 use super::Told;
 use super::whose::BASE;
 use super::whose::default_limit;
@@ -7,14 +8,12 @@ use rules::RunningWeek;
 use rules::WeekDefault;
 use rules::Whose;
 ghost use mathlib.Core.Path.{_≡_};
-ghost use mathlib.Core.Bool.{true};
-ghost use Prim.Native.Nat.{_≤_, _<_};
+ghost use Prim.Native.Nat.{_+_, _≤_, _<_};
 ghost use lib.IntN.{natAbs};
-ghost use Rattle.integers.specs.Pairs.{loss};
-ghost use Rattle.rules.specs.Week.{within, interval, average, default-reply};
-ghost use Rattle.rules.specs.RunningWeek.{base, total-in, with-interval, left-by-a-run};
-ghost use Rattle.weeks.specs.Runs.{Run};
-ghost use Rattle.weeks.specs.Promises.{told-of};
+ghost use Rattle.rules.specs.Week.{interval, average, default-reply};
+ghost use Rattle.rules.specs.RunningWeek.{base, running, total-in, left-by-a-run};
+ghost use Rattle.weeks.specs.Runs.{Run, more-reply};
+ghost use Rattle.weeks.specs.Promises.{told-of, added-of};
 
 pub(crate) const MOST_INTERVALS: u16 = 2_016;
 
@@ -27,27 +26,6 @@ fn size(performance: i64) -> u64
     } else {
         performance as u64
     }
-}
-
-// What a live interval falls short by: minus min(0, performance).
-fn shortfall(performance: i64) -> u64
-    ensures { λ r. ⌜ r ≡ loss performance ⌝ }
-{
-    if performance < 0 {
-        size(performance)
-    } else {
-        0
-    }
-}
-
-// Is a live performance within a limit, either way? What stands at an interval that is not live is not looked at.
-pub(crate) fn is_within(limit: u64, live: bool, performance: i64) -> bool
-    ensures { λ r. ⌜ r ≡ within limit (interval live performance) ⌝ }
-{
-    if live {
-        return size(performance) <= limit;
-    }
-    true
 }
 
 // Is this a record that some run of calls leaves? With `low` below the base, a total is over what so many live ones can reach where `high` is
@@ -73,20 +51,13 @@ pub(crate) fn is_left_by_a_run(week: RunningWeek) -> bool
     week.low == 0
 }
 
-// One interval more. A shortfall is at most the base, so one comparison carries.
-pub(crate) fn one_more(week: RunningWeek, live: bool, performance: i64) -> RunningWeek
-    requires { ⌜ Run week × (week .seen < 2_016) × (within base (interval live performance) ≡ true) ⌝ }
-    ensures { λ r. ⌜ r ≡ with-interval week (interval live performance) ⌝ }
+// A live interval more that falls short by so much. That is at most the base, so one comparison carries; it is seldom met, and a remainder, which is dear,
+// keeps the compiler from working it out every time.
+fn carried(week: RunningWeek, short: u64) -> RunningWeek
+    requires { ⌜ Run week × (week .seen < 2_016) × (short ≤ base) ⌝ }
+    ensures { λ r. ⌜ r ≡ running (week .seen + 1) (week .live + 1) (total-in week + short) ⌝ }
 {
-    if !live {
-        return RunningWeek {
-            seen: week.seen + 1,
-            live: week.live,
-            high: week.high,
-            low: week.low,
-        };
-    }
-    let low = week.low + shortfall(performance);
+    let low = week.low + short;
     if low < BASE {
         return RunningWeek {
             seen: week.seen + 1,
@@ -99,8 +70,39 @@ pub(crate) fn one_more(week: RunningWeek, live: bool, performance: i64) -> Runni
         seen: week.seen + 1,
         live: week.live + 1,
         high: week.high + 1,
-        low: low - BASE,
+        low: low % BASE,
     }
+}
+
+// One interval more, or 17 where a live performance is past the limit, either way. What stands at an interval that is not live is not looked at.
+pub(crate) fn one_more(limit: u64, week: RunningWeek, live: bool, performance: i64) -> Added
+    requires { ⌜ Run week × (week .seen < 2_016) × (limit ≤ base) ⌝ }
+    ensures { λ r. ⌜ r ≡ added-of (more-reply limit week (interval live performance)) ⌝ }
+{
+    if !live {
+        return Added::Next(RunningWeek {
+            seen: week.seen + 1,
+            live: week.live,
+            high: week.high,
+            low: week.low,
+        });
+    }
+    if 0 <= performance {
+        if limit < performance as u64 {
+            return Added::Refused(Refusal::WrongWeek);
+        }
+        return Added::Next(RunningWeek {
+            seen: week.seen + 1,
+            live: week.live + 1,
+            high: week.high,
+            low: week.low,
+        });
+    }
+    let short = size(performance);
+    if limit < short {
+        return Added::Refused(Refusal::WrongWeek);
+    }
+    Added::Next(carried(week, short))
 }
 
 // The nearest of the total over the live intervals, as a size. The base is divided first, so that no product passes 64 bits.

@@ -7,11 +7,12 @@ use Rattle.week.proofs.books.take_head.Statement.{statement}
 use Rattle.week.proofs.books.take_head.Tie as tie
 
 abbrev Inv-loop : tie.InvT-loop
-Inv-loop bytes₀ measures₀ positive₀ negative₀ figures₀ frequencies₀ next₀ left₀ bytes measures positive negative figures frequencies next left =
-    (length bytes ≡ length bytes₀) × (length measures ≡ length measures₀) × (length positive ≡ length positive₀) × (length negative ≡ length negative₀) × (length figures ≡ length figures₀) × (75 ≡ length frequencies)
+Inv-loop bytes₀ measures₀ positive₀ negative₀ figures₀ _ _ _ bytes measures positive negative figures frequencies _ _ =
+    (length bytes ≡ length bytes₀) × (length measures ≡ length measures₀) × (length positive ≡ length positive₀) × (length negative ≡ length negative₀) ×
+    (length figures ≡ length figures₀) × (75 ≡ length frequencies)
 
 abbrev μ-loop : tie.MeasureT-loop
-μ-loop bytes₀ measures₀ positive₀ negative₀ figures₀ frequencies₀ next₀ left₀ bytes measures positive negative figures frequencies next left =
+μ-loop _ _ _ _ _ _ _ _ _ _ _ _ _ _ _ left =
     left
 
 -- the places of a turn, from its end: the call, the reading, the start
@@ -71,8 +72,15 @@ loop-again c =
     let a = frequency-in (c .before) in
     let b = reading-in a in
     let i = turn-in b .before .loop .inv in
-    let k = a .frequency .kept in
-    (b .read-record .kept .0 ∙ i .0, k .1 .1 .1 .0 ∙ i .1, k .1 .1 .1 .1 .0 ∙ i .2, k .1 .1 .1 .1 .1 .0 ∙ i .3, k .1 .1 .1 .1 .1 .1 .0 ∙ i .4, i .5 ∙ sym (k .1 .1 .0))
+    let k = a .frequency .kept in (
+      b .read-record .kept .0 ∙ i .0,
+      k .1 .1 .1 .0 ∙ i .1,
+      k .1 .1 .1 .1 .0 ∙ i .2,
+      k .1 .1 .1 .1 .1 .0 ∙ i .3,
+      k .1 .1 .1 .1 .1 .1 .0 ∙ i .4,
+      i .5 ∙ sym
+          (k .1 .1 .0),
+    )
 
 same-length : tie.Need-same-length Inv-loop μ-loop
 same-length c = c .before .loop .inv .0 ∙ c .before .before .before .before .before .take-opening .kept .0

@@ -8,11 +8,11 @@ use Rattle.week.proofs.books.take_requirements.Statement.{statement}
 use Rattle.week.proofs.books.take_requirements.Tie as tie
 
 abbrev Inv-loop : tie.InvT-loop
-Inv-loop next₀ bytes₀ tally₀ left₀ next bytes tally left =
+Inv-loop _ bytes₀ _ _ _ bytes _ _ =
     length bytes ≡ length bytes₀
 
 abbrev μ-loop : tie.MeasureT-loop
-μ-loop next₀ bytes₀ tally₀ left₀ next bytes tally left =
+μ-loop _ _ _ _ _ _ _ left =
     left
 
 tally-of-requires : tie.Need-tally-of-requires Inv-loop μ-loop

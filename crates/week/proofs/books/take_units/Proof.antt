@@ -7,11 +7,14 @@ use Rattle.week.proofs.books.take_units.Statement.{statement}
 use Rattle.week.proofs.books.take_units.Tie as tie
 
 abbrev Inv-loop : tie.InvT-loop
-Inv-loop next₀ bytes₀ measures positive₀ negative₀ numbers₀ places₀ raise₀ lower₀ defaults₀ readings₀ deviations₀ tally₀ left₀ next bytes positive negative numbers places raise lower defaults readings deviations tally left =
-    (length bytes ≡ length bytes₀) × (length positive ≡ length positive₀) × (length negative ≡ length negative₀) × (length numbers ≡ length numbers₀) × (length places ≡ length places₀) × (length raise ≡ length raise₀) × (length lower ≡ length lower₀) × (length defaults ≡ length defaults₀) × (75 ≡ length readings) × (75 ≡ length deviations)
+Inv-loop _ bytes₀ _ positive₀ negative₀ numbers₀ places₀ raise₀ lower₀ defaults₀ _ _ _ _ _ bytes positive negative numbers places raise lower defaults
+    readings deviations _ _ =
+    (length bytes ≡ length bytes₀) × (length positive ≡ length positive₀) × (length negative ≡ length negative₀) × (length numbers ≡ length numbers₀) ×
+    (length places ≡ length places₀) × (length raise ≡ length raise₀) × (length lower ≡ length lower₀) × (length defaults ≡ length defaults₀) ×
+    (75 ≡ length readings) × (75 ≡ length deviations)
 
 abbrev μ-loop : tie.MeasureT-loop
-μ-loop next₀ bytes₀ measures positive₀ negative₀ numbers₀ places₀ raise₀ lower₀ defaults₀ readings₀ deviations₀ tally₀ left₀ next bytes positive negative numbers places raise lower defaults readings deviations tally left =
+μ-loop _ _ _ _ _ _ _ _ _ _ _ _ _ _ _ _ _ _ _ _ _ _ _ _ _ _ left =
     left
 
 -- the places of a turn, from its end: the call, the reading, the start
@@ -68,8 +71,20 @@ loop-again c =
     let a = unit-in (c .before) in
     let b = reading-in a in
     let i = turn-in b .before .loop .inv in
-    let k = a .unit .kept in
-    (b .read-record .kept .0 ∙ i .0, k .1 .1 .1 .1 .1 .0 ∙ i .1, k .1 .1 .1 .1 .1 .1 .0 ∙ i .2, k .1 .1 .1 .1 .1 .1 .1 .0 ∙ i .3, k .1 .1 .1 .1 .1 .1 .1 .1 .0 ∙ i .4, k .1 .1 .1 .1 .1 .1 .1 .1 .1 .0 ∙ i .5, k .1 .1 .1 .1 .1 .1 .1 .1 .1 .1 .0 ∙ i .6, k .1 .1 .1 .1 .1 .1 .1 .1 .1 .1 .1 .0 ∙ i .7, i .8 ∙ sym (k .1 .1 .0), i .9 ∙ sym (k .1 .1 .1 .0))
+    let k = a .unit .kept in (
+      b .read-record .kept .0 ∙ i .0,
+      k .1 .1 .1 .1 .1 .0 ∙ i .1,
+      k .1 .1 .1 .1 .1 .1 .0 ∙ i .2,
+      k .1 .1 .1 .1 .1 .1 .1 .0 ∙ i .3,
+      k .1 .1 .1 .1 .1 .1 .1 .1 .0
+          ∙ i .4,
+      k .1 .1 .1 .1 .1 .1 .1 .1 .1 .0 ∙ i .5,
+      k .1 .1 .1 .1 .1 .1 .1 .1 .1 .1 .0 ∙ i .6,
+      k .1 .1 .1 .1 .1 .1 .1 .1 .1 .1 .1 .0 ∙ i .7,
+      i .8 ∙ sym
+          (k .1 .1 .0),
+      i .9 ∙ sym (k .1 .1 .1 .0),
+    )
 
 same-length : tie.Need-same-length Inv-loop μ-loop
 same-length c = c .before .loop .inv .0

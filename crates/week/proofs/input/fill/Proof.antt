@@ -8,10 +8,10 @@ use Rattle.week.proofs.input.fill.Statement.{statement}
 use Rattle.week.proofs.input.fill.Tie as tie
 
 abbrev Inv-loop : tie.InvT-loop
-Inv-loop place₀ done₀ place done = (done ≤ length place) × (length place ≡ length place₀)
+Inv-loop place₀ _ place done = (done ≤ length place) × (length place ≡ length place₀)
 
 abbrev μ-loop : tie.MeasureT-loop
-μ-loop place₀ done₀ place done = length place₀ - done
+μ-loop place₀ _ _ done = length place₀ - done
 
 loop-holds : tie.Need-loop-holds Inv-loop μ-loop
 loop-holds c = (omega arith, refl)

@@ -8,11 +8,11 @@ use Rattle.week.proofs.performances.note_rows.Statement.{statement}
 use Rattle.week.proofs.performances.note_rows.Tie as tie
 
 abbrev Inv-loop : tie.InvT-loop
-Inv-loop units direction set figures numbers places column rows₀ live₀ place₀ row₀ rows live place row =
+Inv-loop units _ _ _ _ _ _ _ _ _ _ _ _ place row =
     (place ≤ row) × (row ≤ units)
 
 abbrev μ-loop : tie.MeasureT-loop
-μ-loop units direction set figures numbers places column rows₀ live₀ place₀ row₀ rows live place row =
+μ-loop units _ _ _ _ _ _ _ _ _ _ _ _ _ row =
     units - row
 
 loop-holds : tie.Need-loop-holds Inv-loop μ-loop

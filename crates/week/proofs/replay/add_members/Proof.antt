@@ -8,10 +8,10 @@ use Rattle.week.proofs.replay.add_members.Statement.{statement}
 use Rattle.week.proofs.replay.add_members.Tie as tie
 
 abbrev Inv-loop : tie.InvT-loop
-Inv-loop units books members offset numbers rows live names lives₀ highs₀ lows₀ slot₀ lives highs lows slot = slot ≤ members
+Inv-loop _ _ members _ _ _ _ _ _ _ _ _ _ _ _ slot = slot ≤ members
 
 abbrev μ-loop : tie.MeasureT-loop
-μ-loop units books members offset numbers rows live names lives₀ highs₀ lows₀ slot₀ lives highs lows slot = members - slot
+μ-loop _ _ members _ _ _ _ _ _ _ _ _ _ _ _ slot = members - slot
 
 loop-holds : tie.Need-loop-holds Inv-loop μ-loop
 loop-holds c = omega arith

@@ -8,10 +8,10 @@ use Rattle.week.proofs.replay.add_regions.Statement.{statement}
 use Rattle.week.proofs.replay.add_regions.Tie as tie
 
 abbrev Inv-loop : tie.InvT-loop
-Inv-loop tally books direction offset measures positive negative figures numbers places raise lower defaults rows₀ live₀ lives₀ highs₀ lows₀ region₀ rows live lives highs lows region = region ≤ 5
+Inv-loop _ _ _ _ _ _ _ _ _ _ _ _ _ _ _ _ _ _ _ _ _ _ _ _ region = region ≤ 5
 
 abbrev μ-loop : tie.MeasureT-loop
-μ-loop tally books direction offset measures positive negative figures numbers places raise lower defaults rows₀ live₀ lives₀ highs₀ lows₀ region₀ rows live lives highs lows region = 5 - region
+μ-loop _ _ _ _ _ _ _ _ _ _ _ _ _ _ _ _ _ _ _ _ _ _ _ _ region = 5 - region
 
 loop-holds : tie.Need-loop-holds Inv-loop μ-loop
 loop-holds c = omega arith

@@ -8,10 +8,10 @@ use Rattle.week.proofs.replay.join_all.Statement.{statement}
 use Rattle.week.proofs.replay.join_all.Tie as tie
 
 abbrev Inv-loop : tie.InvT-loop
-Inv-loop numbers units names₀ members joined₀ row₀ names joined row = (row ≤ units) × (joined ≤ 512)
+Inv-loop _ units _ _ _ _ _ joined row = (row ≤ units) × (joined ≤ 512)
 
 abbrev μ-loop : tie.MeasureT-loop
-μ-loop numbers units names₀ members joined₀ row₀ names joined row = units - row
+μ-loop _ units _ _ _ _ _ _ row = units - row
 
 loop-holds : tie.Need-loop-holds Inv-loop μ-loop
 loop-holds c = omega arith

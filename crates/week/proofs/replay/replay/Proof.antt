@@ -8,10 +8,10 @@ use Rattle.week.proofs.replay.replay.Statement.{statement}
 use Rattle.week.proofs.replay.replay.Tie as tie
 
 abbrev Inv-loop : tie.InvT-loop
-Inv-loop bytes₀ measures₀ positive₀ negative₀ figures₀ numbers₀ places₀ raise₀ lower₀ defaults₀ names₀ lives₀ highs₀ lows₀ members₀ books₀ bytes measures positive negative figures numbers places raise lower defaults names lives highs lows members books = (books ≤ 2_016) × (members ≤ 512)
+Inv-loop _ _ _ _ _ _ _ _ _ _ _ _ _ _ _ _ _ _ _ _ _ _ _ _ _ _ _ _ _ _ members books = (books ≤ 2_016) × (members ≤ 512)
 
 abbrev μ-loop : tie.MeasureT-loop
-μ-loop bytes₀ measures₀ positive₀ negative₀ figures₀ numbers₀ places₀ raise₀ lower₀ defaults₀ names₀ lives₀ highs₀ lows₀ members₀ books₀ bytes measures positive negative figures numbers places raise lower defaults names lives highs lows members books = 2_016 - books
+μ-loop _ _ _ _ _ _ _ _ _ _ _ _ _ _ _ _ _ _ _ _ _ _ _ _ _ _ _ _ _ _ _ books = 2_016 - books
 
 loop-holds : tie.Need-loop-holds Inv-loop μ-loop
 loop-holds c = omega arith

@@ -15,9 +15,14 @@ start-of c =
 abbrev taken-in : tie.After-join-all-arg2 → tie.After-take-book
 taken-in c = c .before .before .before .before .before .before
 
+abbrev half-asked-in : tie.After-add-book → tie.After-add-book-arg11
+half-asked-in c = c .before .before .before .before .before .before .before .before .before .before .before
+
+abbrev asked-in : tie.After-add-book → tie.After-add-book-arg
+asked-in c = half-asked-in c .before .before .before .before .before .before .before .before .before .before
+
 abbrev joined-in : tie.After-add-book → tie.After-join-all-arg2
-joined-in c =
-    c .before .before .before .before .before .before .before .before .before .before .before .before .before .before .before .before .before .before .before .before .before .before .before .before
+joined-in c = asked-in c .before .before .before
 
 take-book-requires : tie.Need-take-book-requires
 take-book-requires c κs = search needs

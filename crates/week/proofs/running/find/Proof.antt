@@ -8,11 +8,11 @@ use Rattle.week.proofs.running.find.Statement.{statement}
 use Rattle.week.proofs.running.find.Tie as tie
 
 abbrev Inv-loop : tie.InvT-loop
-Inv-loop names members number at₀ at =
+Inv-loop _ members _ _ at =
     at ≤ members
 
 abbrev μ-loop : tie.MeasureT-loop
-μ-loop names members number at₀ at =
+μ-loop _ members _ _ at =
     members - at
 
 loop-holds : tie.Need-loop-holds Inv-loop μ-loop

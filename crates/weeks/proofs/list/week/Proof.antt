@@ -7,8 +7,9 @@ use lib.ListN.{length}
 use native.Mathlib.Omega.{arith}
 use borrow.Author.Tests.{not-true, not-false}
 use Rattle.rules.specs.Week.{whose-fine, bytes-for, reach, interval-at, most-intervals}
-use Rattle.weeks.specs.declared.list.Gathered.{Gathered}
-use Rattle.weeks.specs.declared.list.Gathered.the-variants.{Week, Outside}
+use Rattle.rules.specs.declared.RunningWeek.{RunningWeek}
+use Rattle.weeks.specs.declared.Added.the-variants.{Next}
+use Rattle.weeks.specs.Promises.{added-of}
 use Rattle.weeks.specs.Gather.{gathered, too-short, wrong-count, too-long, outside, inside, Read}
 use Rattle.weeks.proofs.list.week.Statement.{statement}
 use Rattle.weeks.proofs.list.week.Tie as tie
@@ -31,16 +32,18 @@ module _ (c : tie.After-gather) where
   s = second .before .before .before .before .before
 
   found :
-      c .gather .result ≡ gathered (reach (s .args .whose)) (length (s .args .performances .now))
-      (interval-at (s .args .performances .now) (s .args .live .now))
-  found = c .gather .ensures ∙ ap (λ (k : ℕ). gathered k (length (s .args .performances .now))
-      (interval-at (s .args .performances .now) (s .args .live .now))) (c .before .reach .ensures .0)
+      c .gather .result
+      ≡ added-of (gathered (reach (s .args .whose)) (length (s .args .performances .now)) (interval-at (s .args .performances .now) (s .args .live .now)))
+  found =
+      c .gather .ensures
+      ∙ ap (λ (k : ℕ). added-of (gathered k (length (s .args .performances .now)) (interval-at (s .args .performances .now) (s .args .live .now))))
+      (c .before .reach .ensures .0)
 
   few : length (s .args .performances .now) ≤ most-intervals
   few = third .if3 .left
 
   read :
-      {r : _} → c .gather .result ≡ Week r →
+      {r : RunningWeek} → c .gather .result ≡ Next r →
       Read (s .args .whose) (s .args .performances .now) (s .args .live .now) (long (second .before .before)) (fine second) few r
   read e = inside (s .args .whose) (s .args .performances .now) (s .args .live .now) (long (second .before .before)) (fine second) few (sym e ∙ found)
 
@@ -79,8 +82,8 @@ tell-requires : tie.Need-tell-requires
 tell-requires c κs =
     let m = c .before in read (m .before .before) (m .week .given .1) .run
 
-enum-told : tie.Need-enum-told
-enum-told c = search needs
+enum-known-refusal : tie.Need-enum-known-refusal
+enum-known-refusal c = search needs
 
 returns-4 : tie.Need-returns-4
 returns-4 c =
@@ -89,10 +92,12 @@ returns-4 c =
 
 returns-5 : tie.Need-returns-5
 returns-5 c =
-    let g = c .before .before in
+    let g = c .before .before .before in
+    let a = s g .args in
     record {
-      reply = outside (s g .args .whose) (s g .args .performances .now) (s g .args .live .now) (long (second g .before .before)) (fine (second g))
-          (few g) (sym (c .enum-told .given .1) ∙ found g);
+      reply =
+          outside (a .whose) (a .performances .now) (a .live .now) (long (second g .before .before)) (fine (second g)) (few g)
+          (sym (c .before .refusal .given .1) ∙ found g);
     }
 
 pub week-spec : {M : Type 1} → statement M
@@ -109,6 +114,6 @@ week-spec =
     gather-requires
     enum-known-week
     tell-requires
-    enum-told
+    enum-known-refusal
     returns-4
     returns-5)

@@ -1,15 +1,15 @@
 -- The tests in their order, then one interval more.
 use borrow.Author.Needs.{needs}
 use mathlib.Core.Path.{_≡_, sym, _∙_, ap}
-use mathlib.Core.Bool.{Bool, true, false, _&&_}
+use mathlib.Core.Bool.{true}
+use Prim.Native.Nat.{ℕ}
 use native.Mathlib.Omega.{arith}
-use lib.Dec.{ltb}
 use mir.Facts.{toZ-ofZ}
 use borrow.Author.Tests.{not-true, not-false, lt-ltb, le-ltb}
-use Rattle.rules.specs.Week.{interval, within, reach, whose-fine}
-use Rattle.rules.specs.RunningWeek.{add-reply, left-by-a-run, with-interval}
-use Rattle.weeks.specs.declared.Added.the-variants.{Next}
-use Rattle.weeks.specs.Runs.{run-means, within-wider}
+use Rattle.rules.specs.Week.{interval, whose-fine}
+use Rattle.rules.specs.RunningWeek.{add-reply, left-by-a-run}
+use Rattle.weeks.specs.Promises.{added-of}
+use Rattle.weeks.specs.Runs.{run-means, more-reply}
 use Rattle.weeks.proofs.running.add.Statement.{statement}
 use Rattle.weeks.proofs.running.add.Tie as tie
 
@@ -18,19 +18,6 @@ held c = sym (c .before .is-left-by-a-run .ensures) ∙ not-false _ (c .if1 .lef
 
 fine : (c : tie.Else2) → whose-fine (c .before .before .before .before .args .whose) ≡ true
 fine c = sym (c .before .is-fine .ensures) ∙ not-false _ (c .if2 .left)
-
--- the test of the performance, as the definition has it
-module _ (c : tie.After-is-within) where
-  abbrev second : tie.Else2
-  second = c .before .before .before .before
-
-  abbrev s : tie.Start
-  s = second .before .before .before .before
-
-  tested : c .is-within .result ≡ within (reach (s .args .whose)) (interval (s .args .live) (s .args .performance))
-  tested =
-      (simp (toZ-ofZ, s .fits .performance) at (c .is-within .ensures)) ∙ ap (λ n. within n (interval (s .args .live) (s .args .performance)))
-      (c .before .reach .ensures .0)
 
 is-left-by-a-run-requires : tie.Need-is-left-by-a-run-requires
 is-left-by-a-run-requires c κs = search needs
@@ -60,42 +47,24 @@ reach-requires : tie.Need-reach-requires
 reach-requires c κs =
     fine (c .before .before)
 
-is-within-requires : tie.Need-is-within-requires
-is-within-requires c κs = search needs
+one-more-requires : tie.Need-one-more-requires
+one-more-requires c κs =
+    let t = c .before in
+    let d = t .before .before in
+    (run-means (d .before .before .before .before .args .week) (held (d .before .before)), t .if3 .left, c .reach .ensures .1)
 
 returns-4 : tie.Need-returns-4
 unfolding add-reply
 returns-4 c =
-    let t = c .before in
+    let r = c .before in
+    let t = r .before in
+    let d = t .before .before in
+    let s = d .before .before .before .before in
+    let a = s .args in
+    let e = simp (toZ-ofZ, s .fits .performance) at (c .one-more .ensures) in
     record {
-      reply = rw (
-        held (second t .before .before),
-        fine (second t),
-        lt-ltb (s t .args .week .seen) 2_016 (t .before .before .if3 .left),
-        sym (tested t)
-            ∙ not-true _ (c .if4 .taken),
-      );
-    }
-
-one-more-requires : tie.Need-one-more-requires
-one-more-requires c κs =
-    let t = c .before in
-    let inside = sym (tested t) ∙ not-false _ (c .if4 .left) in
-    simp (toZ-ofZ, s t .fits .performance) (
-      run-means (s t .args .week) (held (second t .before .before)),
-      t .before .before .if3 .left,
-      within-wider
-          (interval (s t .args .live) (s t .args .performance)) (rw (t .before .reach .ensures .0) at (t .before .reach .ensures .1)) inside,
-    )
-
-returns-5 : tie.Need-returns-5
-unfolding add-reply
-returns-5 c =
-    let t = c .before .before in
-    let inside = sym (tested t) ∙ not-false _ (c .before .if4 .left) in
-    record {
-      reply = rw (held (second t .before .before), fine (second t), lt-ltb (s t .args .week .seen) 2_016 (t .before .before .if3 .left), inside)
-          (ap Next (simp (toZ-ofZ, s t .fits .performance) at (c .one-more .ensures)));
+      reply = rw (held (d .before .before), fine d, lt-ltb (a .week .seen) 2_016 (t .if3 .left))
+          (e ∙ ap (λ (n : ℕ). added-of (more-reply n (a .week) (interval (a .live) (a .performance)))) (r .reach .ensures .0));
     }
 
 pub add-spec : {M : Type 1} → statement M
@@ -108,7 +77,5 @@ add-spec =
     returns-2
     returns-3
     reach-requires
-    is-within-requires
-    returns-4
     one-more-requires
-    returns-5)
+    returns-4)

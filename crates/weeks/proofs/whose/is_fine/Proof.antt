@@ -1,38 +1,28 @@
--- A group is tested by its units; the others are fine.
+-- By the number of units.
 use borrow.Author.Needs.{needs}
+use mathlib.Core.Path.{_≡_, sym, _∙_, ap}
+use Prim.Native.Nat.{ℕ}
+use lib.Dec.{leb}
+use native.Mathlib.Omega.{arith}
+use borrow.Author.Tests.{le-leb, lt-leb}
+use Rattle.weeks.specs.Runs.{units-of, fine-units}
 use Rattle.weeks.proofs.whose.is_fine.Statement.{statement}
 use Rattle.weeks.proofs.whose.is_fine.Tie as tie
 
-enum-told : tie.Need-enum-told
-enum-told c = search needs
-
-enum-known-whose : tie.Need-enum-known-whose
-enum-known-whose c = search needs
-
-group-fine-requires : tie.Need-group-fine-requires
-group-fine-requires c κs = search needs
-
-enum-told-2 : tie.Need-enum-told-2
-enum-told-2 c = search needs
+units-of-requires : tie.Need-units-of-requires
+units-of-requires c κs = search needs
 
 returns : tie.Need-returns
-returns c = search needs
+returns c =
+    let u = c .before in
+    let m = u .before .args .whose in
+    sym (fine-units m ∙ rw (lt-leb 1 (units-of m) (omega (arith, u .units-of .ensures, c .if1 .taken))))
 
 returns-2 : tie.Need-returns-2
 returns-2 c =
-    rw (c .before .before .whose .given .1) (c .group-fine .ensures)
-
-returns-3 : tie.Need-returns-3
-returns-3 c = search needs
+    let u = c .before in
+    let m = u .before .args .whose in
+    ap (λ (n : ℕ). leb n 512) (u .units-of .ensures) ∙ sym (fine-units m ∙ rw (le-leb 1 (units-of m) (omega (arith, u .units-of .ensures, c .if1 .left))))
 
 pub is-fine-spec : {M : Type 1} → statement M
-is-fine-spec =
-    tie.close
-    (tie.spec
-    enum-told
-    enum-known-whose
-    group-fine-requires
-    enum-told-2
-    returns
-    returns-2
-    returns-3)
+is-fine-spec = tie.close (tie.spec units-of-requires returns returns-2)
