@@ -46,6 +46,9 @@
        10  a field of a requirement breaks its rule, or its number does not rise
        11  not this call's turn; or the tally, or a lent number that the call reads, is out of range: none that these calls leave is
        12  a lent list is too short
+       14  the average of a week is below the limit of its field in a book
+       17  a week of more than 2,016 intervals, or a live performance that no such member can have
+   5 is given, too, where who a week's member is, as a number, is over 512.
    A call tests 12 for the tally's 8 words first, since without them there is no tally; then 11 for the tally and its turn, 12 for the lists, 11 for
    lent numbers that it reads, 1, and then the record's fields by their place.
 
@@ -67,6 +70,18 @@
        performances, factors, payments, used, unused    N + 1 int64_t each                           20,520
        reply          DULLAVANE_REPLY_WORDS uint64_t
    Lists that are never needed at once may share memory: frequencies, readings and deviations with the answers' columns.
+
+   DEFAULTS FROM SEVEN DAYS OF RECORD (the Procedure, 6.4.1) are worked out by four calls of their own, which need no tally: the sum of
+   min(0, performance) over the live intervals of a week, divided by their number, to the nearest whole number, halves away from zero; 0 where
+   none is live. A week is that of one member in one direction, at most 2,016 intervals. WHO THE MEMBER IS goes in as a number: 0 one region's
+   residual, 1 a unit, 2 to 512 a group of so many units. A live performance is at most 5,625,000,000,000,000 either way for a unit, so much a unit
+   for a group, 2,880,000,000,000,000,000 for a residual; the default is not below -5,625,000,000,000,000, for a residual -50,000,000,000,000,000.
+   LIVE BITS: interval i is bit i mod 8 of byte i div 8, 1 is live; spare bits are not looked at, nor is what stands at an interval that is not live.
+   A RUNNING WEEK is two words, both 0 at first: dullavane_week_add adds one interval, dullavane_week_read reads count and default at any time, the
+   same as dullavane_week gives for the list of the intervals added.
+       [0] the low part of the total of -min(0, performance)      [1] intervals seen + 65,536 x live ones + 2^32 x the high part of the total
+   A total is high x 2,880,000,000,000,000,000 + low. Words that no calls leave are refused with 11. 512 units and five residuals take 16,544 bytes
+   for both directions.
 
    What is proved of each call, for any bytes, words and lists whatever: its return value and every lent number after it are those of the
    definitions that document 01 is written out in. What is outside the proof: this header, the caller, and the compiler's back end. */
@@ -91,7 +106,9 @@ enum {
     DULLAVANE_SETTINGS_SIZE = 8,
     DULLAVANE_FREQUENCY_SIZE = 368,
     DULLAVANE_UNIT_SIZE = 372,
-    DULLAVANE_REQUIREMENT_SIZE = 24
+    DULLAVANE_REQUIREMENT_SIZE = 24,
+    DULLAVANE_MOST_INTERVALS = 2016,
+    DULLAVANE_WEEK_WORDS = 2
 };
 
 /* The words of an answer, in their order: how many members the requirement has, its RCR, the three pools, what of the used and of the unused pool is
@@ -114,6 +131,12 @@ enum { DULLAVANE_IS_MEMBER, DULLAVANE_NUMBER, DULLAVANE_STANDING, DULLAVANE_MEMB
 
 /* How a member stands: live, by its own performance, or by its default, with the reason. */
 enum { DULLAVANE_LIVE, DULLAVANE_UNRELIABLE_REGION, DULLAVANE_BAD_UNIT, DULLAVANE_NO_GOOD_UNIT };
+
+/* Whose week it is, as a number: a residual, a unit, or so many units of a group. */
+enum { DULLAVANE_A_RESIDUAL, DULLAVANE_UNIT };
+
+/* The numbers of a week's answer: how many intervals are live, and the default, which is at most 0. */
+enum { DULLAVANE_COUNT, DULLAVANE_DEFAULT, DULLAVANE_DEFAULT_NUMBERS };
 
 /* Starts a tally from the table of contents. Whatever the 8 words held is gone, unless it refuses: 12 (no room for 8 words), then 1, 2, 3, 5. */
 uint32_t dullavane_contents(const uint8_t *part, uint64_t part_bytes, uint32_t *tally, uint64_t tally_words);
@@ -163,6 +186,25 @@ uint32_t dullavane_answer(const uint32_t *tally, uint64_t tally_words, const uin
 uint32_t dullavane_member(const uint32_t *tally, uint64_t tally_words, uint32_t row, uint32_t direction, uint32_t set,
                           const int64_t *figures, uint64_t figures_length, const uint16_t *numbers, uint64_t numbers_length,
                           const uint8_t *places, uint64_t places_length, uint32_t *member, uint64_t member_words);
+
+/* Count and default of one member's week, from a list of performances and their live bits. Refuses 12 (fewer bytes than the bits need, or no room for the
+   two numbers), 5, 17, 14. */
+uint32_t dullavane_week(uint16_t whose, const int64_t *performances, uint64_t intervals, const uint8_t *live, uint64_t live_length,
+                        int64_t *reply, uint64_t reply_length);
+
+/* The same for a roster: whose[j] says who member j is; its performances are the so many from j x intervals on, its live bits start at a byte of their own,
+   j times as many bytes on as hold the bits of one. Its count and default go to counts[j] and defaults[j]. Refuses 12, then for all members 5, then
+   17, then 14. */
+uint32_t dullavane_weeks(uint32_t intervals, const uint16_t *whose, uint64_t members, const int64_t *performances, uint64_t performances_length,
+                         const uint8_t *live, uint64_t live_length, uint16_t *counts, uint64_t counts_length,
+                         int64_t *defaults, uint64_t defaults_length);
+
+/* Adds an interval to a running week; live is 0 where the performance is none to look at, and any other number where it is live. One and the same week may
+   be that of a unit in one interval and of a group in another. Refuses 12 (fewer than two words), 11, 5, 17 (a 2,017th interval; the performance). */
+uint32_t dullavane_week_add(uint16_t whose, uint8_t live, int64_t performance, uint64_t *week, uint64_t week_length);
+
+/* Reads count and default off a running week, which stays as it is. Refuses 12 (either list), 11, 5, 14. */
+uint32_t dullavane_week_read(uint16_t whose, const uint64_t *week, uint64_t week_length, int64_t *reply, uint64_t reply_length);
 
 #ifdef __cplusplus
 }

@@ -15,6 +15,8 @@ pub mod share;
 pub mod rcr;
 pub mod cents;
 pub mod listing;
+pub mod week;
+pub mod replay;
 
 pub mod invariants;
 
@@ -32,3 +34,6 @@ pub mod vectors;
 pub mod library;
 pub mod boundary;
 pub mod script;
+pub mod doors;
+pub mod week_script;
+pub mod week_books;

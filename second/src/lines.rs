@@ -84,7 +84,7 @@ fn drawn(chance: &mut Chance) -> Vec<i128> {
 /// The nth record line of a kind: bytes of any kind, or a record of a made book, whole, damaged, cut or with bytes after it.
 pub fn record(kind: &str, seed: u64, nth: usize) -> String {
     let mut chance = Chance::new(seed.wrapping_add(nth as u64));
-    let part = if nth % 2 == 0 { any_bytes(&mut chance) } else { made_part(kind, &mut chance) };
+    let part = if nth.is_multiple_of(2) { any_bytes(&mut chance) } else { made_part(kind, &mut chance) };
     let hex: String = if part.is_empty() {
         "-".to_string()
     } else {

@@ -28,7 +28,8 @@ fn live_or(standing: Standing, live: i128, default: i128) -> i128 {
     }
 }
 
-fn unit_member(direction: Direction, unit: &Unit, view: &RegionView) -> Member {
+/// A unit as a member, live or by its defaults.
+pub fn unit_member(direction: Direction, unit: &Unit, view: &RegionView) -> Member {
     let standing = view.unit_standing(direction, unit);
     let live = performance(direction, &view.measures, &unit_deviations(unit));
     Member {

@@ -18,6 +18,8 @@ pub const AMOUNT_LIMIT: i128 = 2_000_000;
 pub const SHARE_TOTAL_LIMIT: i128 = 1_000_000_000_000;
 pub const SHARE_WEIGHT_LIMIT: i128 = 6_010_000_000_000_000_000;
 pub const FACTOR_ONE: i128 = 1_000_000_000;
+/// The largest performance that one unit can have in an interval, either way.
+pub const PERFORMANCE_LIMIT: i128 = 5_625_000_000_000_000;
 
 /// The nearest whole number to numerator / denominator, halves away from zero.
 /// The denominator is above 0.

@@ -13,4 +13,5 @@ pub mod WordsBook
 -- Demand by demand, as a caller meets it
 pub mod Demand1
 pub mod Demand2
+pub mod WeekDefaults
 pub mod Demand3

@@ -20,6 +20,8 @@ use Rattle.rules.specs.declared.Refusal.the-variants.{
   OutOfTurn,
   TooShort,
   LeftOvers,
+  AverageTooLow,
+  WrongWeek,
 }
 use Rattle.rules.specs.declared.Reason.the-variants.{UnreliableRegion, BadUnit, NoGoodUnit}
 use Rattle.rules.specs.declared.Standing.{Standing}
@@ -48,6 +50,8 @@ refusal-numbered RequirementField = omega arith
 refusal-numbered OutOfTurn = omega arith
 refusal-numbered TooShort = omega arith
 refusal-numbered LeftOvers = omega arith
+refusal-numbered AverageTooLow = omega arith
+refusal-numbered WrongWeek = omega arith
 
 pub told-taken : (s : Step) → told s ≡ 0 → s .taking ≡ k.the-variants.Taken
 told-taken s e = go (s .taking) e

@@ -4,3 +4,4 @@ pub mod Called
 pub mod Promises
 pub mod Asked
 pub mod Answers
+pub mod Weekly

@@ -2,6 +2,7 @@
 // number of the refusal, and then nothing lent has changed.
 ghost use Rattle.dullavane.specs.Answers.{AnswerCalled};
 ghost use Rattle.dullavane.specs.Asked.{MemberCalled};
+ghost use Rattle.dullavane.specs.Weekly.{WeekCalled, WeeksCalled, WeekAddCalled, WeekReadCalled};
 ghost use Rattle.dullavane.specs.Promises.{ContentsCalled, SettingsCalled, FrequencyCalled, UnitCalled, RequirementCalled};
 use answer::roster::member;
 use asked::direction_of;
@@ -17,6 +18,17 @@ use interval::settings::settings;
 use rules::Refusal;
 use rules::refusal_number;
 use units::unit::unit;
+use weekly::DEFAULT_NUMBERS;
+use weekly::tell_default;
+use weekly::tell_week;
+use weekly::week_in;
+use weekly::week_unheld;
+use weeks::Written;
+use weeks::list::week;
+use weeks::roster::roster;
+use weeks::roster::whose_of;
+use weeks::running::add;
+use weeks::running::read;
 use words::TALLY_WORDS;
 use words::put_words;
 use words::tally_in;
@@ -24,6 +36,7 @@ use words::tell;
 use words::unheld;
 
 mod asked;
+mod weekly;
 mod words;
 
 // How many words tell who stands in a row.
@@ -221,4 +234,73 @@ pub extern "C" fn dullavane_member(
         places,
     );
     tell_row(found, words)
+}
+
+// Count and default of a member's week, in two numbers. Refuses 12, 5 for who the member is, 17, then 14.
+#[no_mangle]
+pub extern "C" fn dullavane_week(
+    whose: u16,
+    performances: &[i64],
+    live: &[u8],
+    reply: &mut [i64],
+) -> u32
+    ensures { λ r. ⌜ WeekCalled whose (now (performances .entry)) (now (live .entry)) (now (reply .entry)) r (now (reply .exit)) ⌝ }
+{
+    if reply.len() < DEFAULT_NUMBERS {
+        return refusal_number(Refusal::TooShort);
+    }
+    tell_default(week(whose_of(whose), performances, live), reply)
+}
+
+// The same for a whole roster, the members' weeks one after another. Refuses 12, then for all members 5, 17 and 14.
+#[no_mangle]
+pub extern "C" fn dullavane_weeks(
+    intervals: u32,
+    whose: &[u16],
+    performances: &[i64],
+    live: &[u8],
+    counts: &mut [u16],
+    defaults: &mut [i64],
+) -> u32
+    ensures { λ r. ⌜ WeeksCalled intervals (now (whose .entry)) (now (performances .entry)) (now (live .entry))
+        (now (counts .entry)) (now (defaults .entry)) r (now (counts .exit)) (now (defaults .exit)) ⌝ }
+{
+    let written = roster(intervals, whose, performances, live, counts, defaults);
+    match written {
+        Written::Done => 0,
+        Written::Refused(refusal) => refusal_number(refusal),
+    }
+}
+
+// Adds an interval to a running week, live unless the flag is 0. Refuses 12 for the week's words, 11, 5, then 17.
+#[no_mangle]
+pub extern "C" fn dullavane_week_add(
+    whose: u16,
+    live: u8,
+    performance: i64,
+    week: &mut [u64],
+) -> u32
+    ensures { λ r. ⌜ WeekAddCalled whose live performance (now (week .entry)) r (now (week .exit)) ⌝ }
+{
+    let refusal = week_unheld(week);
+    if refusal != 0 {
+        return refusal;
+    }
+    let added = add(whose_of(whose), live != 0, performance, week_in(week));
+    tell_week(added, week)
+}
+
+// Reads count and default off a running week. Refuses 12 for either list, 11, 5, then 14.
+#[no_mangle]
+pub extern "C" fn dullavane_week_read(whose: u16, week: &[u64], reply: &mut [i64]) -> u32
+    ensures { λ r. ⌜ WeekReadCalled whose (now (week .entry)) (now (reply .entry)) r (now (reply .exit)) ⌝ }
+{
+    if reply.len() < DEFAULT_NUMBERS {
+        return refusal_number(Refusal::TooShort);
+    }
+    let refusal = week_unheld(week);
+    if refusal != 0 {
+        return refusal;
+    }
+    tell_default(read(whose_of(whose), week_in(week)), reply)
 }

@@ -23,3 +23,7 @@ pub mod Cents
 pub mod Answer
 pub mod Text
 pub mod Listing
+-- Defaults from seven days of record (document 02, R-7)
+pub mod Week
+pub mod RunningWeek
+pub mod WeekRoster

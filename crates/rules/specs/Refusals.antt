@@ -16,6 +16,8 @@ use Rattle.rules.specs.declared.Refusal.the-variants.{
   OutOfTurn,
   TooShort,
   LeftOvers,
+  AverageTooLow,
+  WrongWeek,
 }
 
 -- each given exactly when
@@ -44,6 +46,10 @@ number OutOfTurn = 11
 number TooShort = 12
 -- in a share with W above 0, the left-overs are not fewer than the members with weight
 number LeftOvers = 13
+-- the average of a week is below the limit of its book field (02, R-7)
+number AverageTooLow = 14
+-- a week of more than 2,016 intervals, or a live performance that no such member can have (02, R-7)
+number WrongWeek = 17
 
 -- what is asked for, or the refusal alone
 pub data Reply (A : Type 0) : Type 0 where

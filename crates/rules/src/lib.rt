@@ -26,7 +26,29 @@ pub enum Standing {
     Default(Reason),
 }
 
-// What the box says no with, in the order of the numbers 1 to 13.
+// Whose week of record a default is worked out from: a unit's, that of a group of so many units, or one region's residual's.
+pub enum Whose {
+    Unit,
+    Group(u16),
+    Residual,
+}
+
+// How many intervals of a week were live, and the default that they give.
+pub struct WeekDefault {
+    pub count: u16,
+    pub default: i64,
+}
+
+// A week of record while it runs: the intervals seen, how many of them were live, and the total of what the live ones fell short by, in two
+// digits, `high` of what a residual can reach in one interval, and `low`.
+pub struct RunningWeek {
+    pub seen: u16,
+    pub live: u16,
+    pub high: u16,
+    pub low: u64,
+}
+
+// What the box says no with, in the order of the numbers 1 to 13, 14 and 17.
 pub enum Refusal {
     EndsEarly,
     WrongMark,
@@ -41,6 +63,8 @@ pub enum Refusal {
     OutOfTurn,
     TooShort,
     LeftOvers,
+    AverageTooLow,
+    WrongWeek,
 }
 
 // The number that the box shows.
@@ -61,5 +85,7 @@ pub fn refusal_number(refusal: Refusal) -> u32
         Refusal::OutOfTurn => 11,
         Refusal::TooShort => 12,
         Refusal::LeftOvers => 13,
+        Refusal::AverageTooLow => 14,
+        Refusal::WrongWeek => 17,
     }
 }

@@ -99,7 +99,7 @@ fn main() -> ExitCode {
     let first: u64 = words.next().map_or(0, |word| word.parse().expect("usage: compare BOOKS [FIRST_SEED]"));
     fs::create_dir_all(DIFFERENCES).expect("run from the top of the repository");
     let scratch = Path::new(DIFFERENCES).join(format!("in-work-{}", std::process::id()));
-    let command = library_command();
+    let command = library_command("settle");
     println!("{}", announcement(command.as_deref()));
     let mut outcomes: BTreeMap<String, u64> = BTreeMap::new();
     let (mut passed, mut failed) = (0, 0);

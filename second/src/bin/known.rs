@@ -63,10 +63,12 @@ fn check_trial(program: &Program, trial: &Trial) -> Result<(), String> {
     }
 }
 
+type Check = Box<dyn Fn(&Program) -> Result<(), String> + Sync>;
+
 /// A book whose answer is known, and the test of what a program prints for it.
 struct Known {
     name: String,
-    check: Box<dyn Fn(&Program) -> Result<(), String> + Sync>,
+    check: Check,
 }
 
 fn all_known() -> Vec<Known> {
@@ -114,7 +116,7 @@ fn failures(program: &Program, all: &[Known]) -> Vec<String> {
 
 fn main() -> ExitCode {
     fs::create_dir_all("target").expect("run from the top of the repository");
-    let command = library_command();
+    let command = library_command("settle");
     println!("{}", announcement(command.as_deref()));
     let mut programs = vec![Program { name: "second", command: None }];
     if command.is_some() {

@@ -261,7 +261,7 @@ fn try_ends(program: &Program, seed: u64, tried: &mut Tried) -> io::Result<()> {
 fn main() -> io::Result<ExitCode> {
     let seed = std::env::args().nth(1).map_or(2026, |word| word.parse().expect("usage: pipes [SEED]"));
     fs::create_dir_all("target")?;
-    let library = library_command();
+    let library = library_command("settle");
     println!("{}", announcement(library.as_deref()));
     let own = std::env::current_exe()?.with_file_name("settle").display().to_string();
     let mut programs = vec![Program {

@@ -30,7 +30,11 @@ returns c =
     (ap taking-number e, put .put-words .ensures ∙ ap (λ (k : Taking). words-left k (a .step .tally) (a .words .now)) e)
 
 returns-2 : tie.Need-returns-2
-returns-2 c = search needs
+returns-2 c =
+    let told = c .before .before in
+    let a = told .before .before .before .args in
+    let e = sym (told .taking .given .1) in
+    (c .refusal-number .ensures ∙ ap taking-number e, ap (λ (k : Taking). words-left k (a .step .tally) (a .words .now)) e)
 
 pub tell-spec : {M : Type 1} → statement M
 tell-spec =

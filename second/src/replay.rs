@@ -1,0 +1,118 @@
+//! `week`: books one after another, replayed as a recorded week; what it prints of them.
+
+use std::collections::BTreeMap;
+use std::fmt::Write;
+
+use crate::book::{read_first_book, Book, Refusal};
+use crate::members::{region_residual, unit_member, Member};
+use crate::performance::{region_views, Standing};
+use crate::quantities::*;
+use crate::week::{member_week, Interval, WeekDefault, Whose, INTERVALS_LIMIT};
+
+/// Different unit numbers that a week can have.
+pub const NUMBERS_LIMIT: usize = 512;
+pub const REGION_NAMES: [&str; REGIONS] = ["QLD1", "NSW1", "VIC1", "SA1", "TAS1"];
+/// It says how far it is each time that so many books are through.
+pub const BOOKS_A_LINE: usize = 100;
+
+/// A refusal, and the place of its book from 1; 0 where no book is to blame.
+#[derive(Clone, Copy, Debug, PartialEq, Eq)]
+pub struct RefusedAt {
+    pub number: u8,
+    pub place: usize,
+}
+
+/// A member's record, for raise and for lower.
+#[derive(Clone, Debug, Default)]
+struct Record {
+    weeks: [Vec<Interval>; 2],
+}
+
+impl Record {
+    fn take(&mut self, member_of: impl Fn(Direction) -> Member) {
+        for (week, direction) in self.weeks.iter_mut().zip(Direction::BOTH) {
+            let member = member_of(direction);
+            // A live member's payment performance is its own.
+            week.push((member.standing == Standing::Live).then_some(member.payment_performance));
+        }
+    }
+
+    fn line(&self, name: &str, whose: Whose) -> Result<String, Refusal> {
+        let [raise, lower] = &self.weeks;
+        let words = |WeekDefault { live, default }| format!("{live} {default}");
+        let raise = words(member_week(whose, raise)?);
+        let lower = words(member_week(whose, lower)?);
+        Ok(format!("{name} raise {raise} lower {lower}\n"))
+    }
+}
+
+/// What is kept of the books so far. A unit that a book does not have is not live there, so nothing is
+/// noted of it.
+#[derive(Clone, Debug, Default)]
+struct Records {
+    units: BTreeMap<i128, Record>,
+    residuals: [Record; REGIONS],
+}
+
+impl Records {
+    /// A book without a refusal of its own; one more number than there may be is refusal 5.
+    fn take(&mut self, book: &Book) -> Result<(), Refusal> {
+        let views = region_views(book);
+        for unit in &book.units {
+            let view = &views[unit.region];
+            self.units.entry(unit.number).or_default().take(|direction| unit_member(direction, unit, view));
+        }
+        for (region, residual) in self.residuals.iter_mut().enumerate() {
+            residual.take(|direction| region_residual(direction, book, &views, region));
+        }
+        if self.units.len() > NUMBERS_LIMIT {
+            return Err(Refusal(5));
+        }
+        Ok(())
+    }
+
+    /// A line a unit in rising number, then one a region.
+    fn lines(&self) -> Result<String, Refusal> {
+        let mut out = String::new();
+        for (number, record) in &self.units {
+            out += &record.line(&format!("unit {number}"), Whose::Unit)?;
+        }
+        for (name, record) in REGION_NAMES.iter().zip(&self.residuals) {
+            out += &record.line(&format!("residual {name}"), Whose::Residual)?;
+        }
+        Ok(out)
+    }
+}
+
+/// The books of a week, each where the one before ends; `progress` is told after every book how many are
+/// through.
+fn lines_or_refusal(bytes: &[u8], mut progress: impl FnMut(usize)) -> Result<String, RefusedAt> {
+    let mut records = Records::default();
+    let mut rest = bytes;
+    let mut books = 0;
+    while !rest.is_empty() {
+        let place = books + 1;
+        let at_place = |Refusal(number)| RefusedAt { number, place };
+        if books == INTERVALS_LIMIT {
+            return Err(at_place(Refusal(17)));
+        }
+        let (book, end) = read_first_book(rest).map_err(at_place)?;
+        records.take(&book).map_err(at_place)?;
+        rest = &rest[end..];
+        books = place;
+        progress(books);
+    }
+    records.lines().map_err(|Refusal(number)| RefusedAt { number, place: 0 })
+}
+
+/// All that `week` prints for these bytes, and all that it says on standard error.
+pub fn replay(bytes: &[u8]) -> (String, String) {
+    let mut said = String::new();
+    let told = lines_or_refusal(bytes, |books| {
+        if books % BOOKS_A_LINE == 0 {
+            writeln!(said, "{books} books").unwrap();
+        }
+    });
+    let printed = told.unwrap_or_else(|RefusedAt { number, place }| format!("refused {number} {place}\n"));
+    (printed, said)
+}
