@@ -22,7 +22,7 @@ const REQUIREMENT: usize = 24;
 const SET: usize = 2;
 
 // One more than the units, for the residual.
-const MEMBERS: usize = 513;
+pub(crate) const MEMBERS: usize = 513;
 
 // Where the next member's amounts stand in the columns.
 enum Printed {
@@ -232,10 +232,10 @@ pub(crate) fn print_book(
     raise: &[i64],
     lower: &[i64],
     defaults: &[i64],
+    performances: &mut [i64; MEMBERS],
 )
     requires { ⌜ 769 ≤ length (now bytes) ⌝ }
 {
-    let mut performances = [0i64; MEMBERS];
     let mut factors = [0i64; MEMBERS];
     let mut payments = [0i64; MEMBERS];
     let mut used = [0i64; MEMBERS];
@@ -258,7 +258,7 @@ pub(crate) fn print_book(
             raise,
             lower,
             defaults,
-            &mut performances,
+            performances,
             &mut factors,
             &mut payments,
             &mut used,
@@ -272,7 +272,7 @@ pub(crate) fn print_book(
             figures,
             numbers,
             places,
-            &performances,
+            performances,
             &factors,
             &payments,
             &used,

@@ -5,14 +5,17 @@ mod input;
 mod output;
 mod records;
 
+use answers::MEMBERS;
+
 // The buffers, in bytes, each array once:
 //   series: measures 1,500, positive 3,000, negative 3,000; figures 360
 //   units: numbers 1,024, places 512, raise 4,096, lower 4,096, defaults 24,576
 //   bytes 769
-//   points of a record (records.rt): frequencies 300, readings 300, deviations 600
-//   columns (answers.rt): performances, factors, payments, used, unused 4,104 each
+//   points of a record (records.rt): frequencies 300, readings 300
+//   columns: performances 4,104; factors, payments, used, unused 4,104 each (answers.rt)
 //   a line: text 165 (answers.rt), and 165 while `listing` makes it
-// Together 64,983, within 65,536.
+//   a share's counters 1,024 (`share`)
+// Together 65,407, within 65,536.
 const SERIES: usize = 375;
 
 const FIGURES: usize = 45;
@@ -35,6 +38,8 @@ fn main() {
     let mut lower = [0i64; UNITS];
     let mut defaults = [0i64; DEFAULTS];
     let mut bytes = [0u8; RECORDS];
+    // Deviations of a unit while units are read, performances of a requirement's members after that.
+    let mut performances = [0i64; MEMBERS];
     let mut next = records::take_head(
         &mut bytes,
         &mut measures,
@@ -53,6 +58,7 @@ fn main() {
         &mut raise,
         &mut lower,
         &mut defaults,
+        &mut performances,
     );
     next = records::take_requirements(next, &mut bytes);
     answers::print_book(
@@ -67,5 +73,6 @@ fn main() {
         &raise,
         &lower,
         &defaults,
+        &mut performances,
     );
 }

@@ -150,11 +150,11 @@ pub(crate) fn take_units(
     raise: &mut [i64],
     lower: &mut [i64],
     defaults: &mut [i64],
+    deviations: &mut [i64],
 ) -> Next
     requires { ⌜ 769 ≤ length (now bytes) ⌝ }
 {
     let mut readings = [0i32; POINTS];
-    let mut deviations = [0i64; POINTS];
     let mut tally = tally_of(next);
     let mut left = tally.units;
     while left > 0 {
@@ -164,7 +164,7 @@ pub(crate) fn take_units(
             tally,
             &bytes[0..count],
             &mut readings,
-            &mut deviations,
+            deviations,
             measures,
             positive,
             negative,

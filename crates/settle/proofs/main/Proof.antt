@@ -5,10 +5,10 @@ use Rattle.settle.proofs.main.Statement.{statement}
 use Rattle.settle.proofs.main.Tie as tie
 
 abbrev head-in : tie.After-take-units → tie.After-take-head
-head-in c = c .before .before .before .before .before .before .before .before .before .before .before .before .before .before .before
+head-in c = c .before .before .before .before .before .before .before .before .before .before .before .before .before .before .before .before
 
 abbrev units-in : tie.After-take-requirements → tie.After-take-units
-units-in c = c .before .before .before .before .before .before .before .before .before .before
+units-in c = c .before .before .before .before .before .before .before .before .before .before .before
 
 slice-aggregate-take-head : tie.Need-slice-aggregate-take-head
 slice-aggregate-take-head c = refl
@@ -55,11 +55,14 @@ slice-aggregate-take-units-8 c = refl
 slice-aggregate-take-units-9 : tie.Need-slice-aggregate-take-units-9
 slice-aggregate-take-units-9 c = refl
 
+slice-aggregate-take-units-10 : tie.Need-slice-aggregate-take-units-10
+slice-aggregate-take-units-10 c = refl
+
 take-units-requires : tie.Need-take-units-requires
 take-units-requires c κs = search needs
 
 slice-aggregate-take-requirements : tie.Need-slice-aggregate-take-requirements
-slice-aggregate-take-requirements c = sym (c .before .before .before .before .before .before .before .before .before .take-units .kept .1 .0 ∙ head-in (c .before .before .before .before .before .before .before .before .before) .take-head .kept .0)
+slice-aggregate-take-requirements c = sym (c .before .before .before .before .before .before .before .before .before .before .take-units .kept .1 .0 ∙ head-in (c .before .before .before .before .before .before .before .before .before .before) .take-head .kept .0)
 
 take-requirements-requires : tie.Need-take-requirements-requires
 take-requirements-requires c κs = search needs
@@ -119,6 +122,7 @@ main-spec =
     slice-aggregate-take-units-7
     slice-aggregate-take-units-8
     slice-aggregate-take-units-9
+    slice-aggregate-take-units-10
     take-units-requires
     slice-aggregate-take-requirements
     take-requirements-requires

@@ -9,7 +9,7 @@ use Rattle.settle.proofs.answers.print_book.Tie as tie
 
 abbrev Inv-loop : tie.InvT-loop
 Inv-loop bytes measures positive negative figures numbers places raise lower defaults performances₀ factors₀ payments₀ used₀ unused₀ text₀ tally left₀ start₀ performances factors payments used unused text left start =
-    (start + 24 * left ≤ 768) × (513 ≡ length performances) × (513 ≡ length factors) × (513 ≡ length payments) × (513 ≡ length used) × (513 ≡ length unused)
+    (start + 24 * left ≤ 768) × (513 ≡ length factors) × (513 ≡ length payments) × (513 ≡ length used) × (513 ≡ length unused)
 
 abbrev μ-loop : tie.MeasureT-loop
 μ-loop bytes measures positive negative figures numbers places raise lower defaults performances₀ factors₀ payments₀ used₀ unused₀ text₀ tally left₀ start₀ performances factors payments used unused text left start =
@@ -22,7 +22,7 @@ print-first-requires : tie.Need-print-first-requires Inv-loop μ-loop
 print-first-requires c κs = search needs
 
 loop-holds : tie.Need-loop-holds Inv-loop μ-loop
-loop-holds c = (omega arith, refl, refl, refl, refl, refl)
+loop-holds c = (omega arith, refl, refl, refl, refl)
 
 add-end : tie.Need-add-end Inv-loop μ-loop
 add-end c = omega arith
@@ -37,19 +37,16 @@ part-part-end : tie.Need-part-part-end Inv-loop μ-loop
 part-part-end c = omega arith
 
 slice-aggregate-answer : tie.Need-slice-aggregate-answer Inv-loop μ-loop
-slice-aggregate-answer c = c .before .before .before .loop .inv .1
+slice-aggregate-answer c = c .before .before .before .before .loop .inv .1
 
 slice-aggregate-answer-2 : tie.Need-slice-aggregate-answer-2 Inv-loop μ-loop
-slice-aggregate-answer-2 c = c .before .before .before .before .loop .inv .2
+slice-aggregate-answer-2 c = c .before .before .before .before .before .loop .inv .2
 
 slice-aggregate-answer-3 : tie.Need-slice-aggregate-answer-3 Inv-loop μ-loop
-slice-aggregate-answer-3 c = c .before .before .before .before .before .loop .inv .3
+slice-aggregate-answer-3 c = c .before .before .before .before .before .before .loop .inv .3
 
 slice-aggregate-answer-4 : tie.Need-slice-aggregate-answer-4 Inv-loop μ-loop
-slice-aggregate-answer-4 c = c .before .before .before .before .before .before .loop .inv .4
-
-slice-aggregate-answer-5 : tie.Need-slice-aggregate-answer-5 Inv-loop μ-loop
-slice-aggregate-answer-5 c = c .before .before .before .before .before .before .before .loop .inv .5
+slice-aggregate-answer-4 c = c .before .before .before .before .before .before .before .loop .inv .4
 
 answer-requires : tie.Need-answer-requires Inv-loop μ-loop
 answer-requires c κs = search needs
@@ -71,10 +68,10 @@ loop-less c = omega arith
 
 loop-again : tie.Need-loop-again Inv-loop μ-loop
 loop-again c =
-    let a = c .before .before .before .before .before .before .before .before .before .before .before .before .before .before in
+    let a = c .before .before .before .before .before .before .before .before .before .before .before .before .before in
     let i = a .before .before .before .before .before .before .before .before .loop .inv in
     let k = a .answer .kept in
-    (omega arith, i .1 ∙ sym (k .1 .1 .1 .1 .1 .1 .1 .1 .1 .1 .0), i .2 ∙ sym (k .1 .1 .1 .1 .1 .1 .1 .1 .1 .1 .1 .0), i .3 ∙ sym (k .1 .1 .1 .1 .1 .1 .1 .1 .1 .1 .1 .1 .0), i .4 ∙ sym (k .1 .1 .1 .1 .1 .1 .1 .1 .1 .1 .1 .1 .1 .0), i .5 ∙ sym (k .1 .1 .1 .1 .1 .1 .1 .1 .1 .1 .1 .1 .1 .1 .0))
+    (omega arith, i .1 ∙ sym (k .1 .1 .1 .1 .1 .1 .1 .1 .1 .1 .1 .0), i .2 ∙ sym (k .1 .1 .1 .1 .1 .1 .1 .1 .1 .1 .1 .1 .0), i .3 ∙ sym (k .1 .1 .1 .1 .1 .1 .1 .1 .1 .1 .1 .1 .1 .0), i .4 ∙ sym (k .1 .1 .1 .1 .1 .1 .1 .1 .1 .1 .1 .1 .1 .1 .0))
 
 returns : tie.Need-returns Inv-loop μ-loop
 returns c = search needs
@@ -96,7 +93,6 @@ print-book-spec =
     slice-aggregate-answer-2
     slice-aggregate-answer-3
     slice-aggregate-answer-4
-    slice-aggregate-answer-5
     answer-requires
     u8-at-requires
     print-members-requires

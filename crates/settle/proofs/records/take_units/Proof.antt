@@ -7,11 +7,11 @@ use Rattle.settle.proofs.records.take_units.Statement.{statement}
 use Rattle.settle.proofs.records.take_units.Tie as tie
 
 abbrev Inv-loop : tie.InvT-loop
-Inv-loop next₀ bytes₀ measures positive₀ negative₀ numbers₀ places₀ raise₀ lower₀ defaults₀ readings₀ deviations₀ tally₀ left₀ next bytes positive negative numbers places raise lower defaults readings deviations tally left =
-    (length bytes ≡ length bytes₀) × (length positive ≡ length positive₀) × (length negative ≡ length negative₀) × (length numbers ≡ length numbers₀) × (length places ≡ length places₀) × (length raise ≡ length raise₀) × (length lower ≡ length lower₀) × (length defaults ≡ length defaults₀) × (75 ≡ length readings) × (75 ≡ length deviations)
+Inv-loop next₀ bytes₀ measures positive₀ negative₀ numbers₀ places₀ raise₀ lower₀ defaults₀ deviations₀ readings₀ tally₀ left₀ next bytes positive negative numbers places raise lower defaults deviations readings tally left =
+    (length bytes ≡ length bytes₀) × (length positive ≡ length positive₀) × (length negative ≡ length negative₀) × (length numbers ≡ length numbers₀) × (length places ≡ length places₀) × (length raise ≡ length raise₀) × (length lower ≡ length lower₀) × (length defaults ≡ length defaults₀) × (length deviations ≡ length deviations₀) × (75 ≡ length readings)
 
 abbrev μ-loop : tie.MeasureT-loop
-μ-loop next₀ bytes₀ measures positive₀ negative₀ numbers₀ places₀ raise₀ lower₀ defaults₀ readings₀ deviations₀ tally₀ left₀ next bytes positive negative numbers places raise lower defaults readings deviations tally left =
+μ-loop next₀ bytes₀ measures positive₀ negative₀ numbers₀ places₀ raise₀ lower₀ defaults₀ deviations₀ readings₀ tally₀ left₀ next bytes positive negative numbers places raise lower defaults deviations readings tally left =
     left
 
 -- the places of a turn, from its end: the call, the reading, the start
@@ -43,10 +43,7 @@ part-unit-end : tie.Need-part-unit-end Inv-loop μ-loop
 part-unit-end c = search needs
 
 slice-aggregate-unit : tie.Need-slice-aggregate-unit Inv-loop μ-loop
-slice-aggregate-unit c = c .before .before .before .before .before .before .before .before .loop .inv .8
-
-slice-aggregate-unit-2 : tie.Need-slice-aggregate-unit-2 Inv-loop μ-loop
-slice-aggregate-unit-2 c = c .before .before .before .before .before .before .before .before .before .loop .inv .9
+slice-aggregate-unit c = c .before .before .before .before .before .before .before .before .loop .inv .9
 
 unit-requires : tie.Need-unit-requires Inv-loop μ-loop
 unit-requires c κs = search needs
@@ -69,7 +66,7 @@ loop-again c =
     let b = reading-in a in
     let i = turn-in b .before .loop .inv in
     let k = a .unit .kept in
-    (b .read-record .kept .0 ∙ i .0, k .1 .1 .1 .1 .1 .0 ∙ i .1, k .1 .1 .1 .1 .1 .1 .0 ∙ i .2, k .1 .1 .1 .1 .1 .1 .1 .0 ∙ i .3, k .1 .1 .1 .1 .1 .1 .1 .1 .0 ∙ i .4, k .1 .1 .1 .1 .1 .1 .1 .1 .1 .0 ∙ i .5, k .1 .1 .1 .1 .1 .1 .1 .1 .1 .1 .0 ∙ i .6, k .1 .1 .1 .1 .1 .1 .1 .1 .1 .1 .1 .0 ∙ i .7, i .8 ∙ sym (k .1 .1 .0), i .9 ∙ sym (k .1 .1 .1 .0))
+    (b .read-record .kept .0 ∙ i .0, k .1 .1 .1 .1 .1 .0 ∙ i .1, k .1 .1 .1 .1 .1 .1 .0 ∙ i .2, k .1 .1 .1 .1 .1 .1 .1 .0 ∙ i .3, k .1 .1 .1 .1 .1 .1 .1 .1 .0 ∙ i .4, k .1 .1 .1 .1 .1 .1 .1 .1 .1 .0 ∙ i .5, k .1 .1 .1 .1 .1 .1 .1 .1 .1 .1 .0 ∙ i .6, k .1 .1 .1 .1 .1 .1 .1 .1 .1 .1 .1 .0 ∙ i .7, k .1 .1 .1 .0 ∙ i .8, i .9 ∙ sym (k .1 .1 .0))
 
 same-length : tie.Need-same-length Inv-loop μ-loop
 same-length c = c .before .loop .inv .0
@@ -95,6 +92,9 @@ same-length-7 c = c .before .loop .inv .6
 same-length-8 : tie.Need-same-length-8 Inv-loop μ-loop
 same-length-8 c = c .before .loop .inv .7
 
+same-length-9 : tie.Need-same-length-9 Inv-loop μ-loop
+same-length-9 c = c .before .loop .inv .8
+
 returns : tie.Need-returns Inv-loop μ-loop
 returns c = search needs
 
@@ -111,7 +111,6 @@ take-units-spec =
     part-unit-start
     part-unit-end
     slice-aggregate-unit
-    slice-aggregate-unit-2
     unit-requires
     after-requires
     sub-to-read
@@ -126,4 +125,5 @@ take-units-spec =
     same-length-6
     same-length-7
     same-length-8
+    same-length-9
     returns)
