@@ -5,9 +5,9 @@ ghost use lib.ListN.{length};
 ghost use Rattle.answer.specs.Ranges.{region-here, figures-here};
 use super::FIGURES;
 use super::GENERATION;
-use super::REGIONS;
 use super::defaults::six_in_range;
 use super::sizes::between;
+use book::REGIONS;
 
 const AMOUNT_LIMIT: i64 = 2_000_000;
 

@@ -4,10 +4,10 @@ ghost use mathlib.Core.List.{[]};
 ghost use Rattle.kept.specs.Range.{kept-fine};
 ghost use Rattle.answer.specs.Lent.{Long};
 ghost use Rattle.answer.specs.Promises.{lists-long, columns-long, kept-lists};
-use super::FIGURES_LENGTH;
 use super::figures::figures_in_range;
 use super::rows::rows_in_range;
 use super::series::series_in_range;
+use interval::FIGURES_LENGTH;
 use interval::SERIES_LENGTH;
 
 // The series and figures of five regions, and a row for each unit: by the lengths of the lists.

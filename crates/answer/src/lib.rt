@@ -27,14 +27,10 @@ mod tested;
 mod units;
 mod values;
 
-const REGIONS: usize = 5;
-
 // A region has nine figures: its generation, whether raise and lower are reliable, six defaults.
 const FIGURES: usize = 9;
 
 const GENERATION: usize = 0;
-
-const FIGURES_LENGTH: usize = 45;
 
 // Two places for each region: of its bad units and of its good ones.
 const PLACES: u8 = 10;

@@ -7,12 +7,12 @@ ghost use Rattle.rules.specs.Book.{toward};
 ghost use Rattle.answer.specs.Rcr.{Ready, Summed, point-response, points-largest};
 use super::FIGURES;
 use super::GENERATION;
-use super::REGIONS;
 use super::regions::covers;
 use super::sizes::above;
 use super::sizes::below;
 use super::sizes::part;
 use book::POINTS;
+use book::REGIONS;
 use rules::Direction;
 
 // Over the set's regions, at one point: generation times FM, and the sums of positive and of negative deviations.

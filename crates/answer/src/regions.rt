@@ -8,7 +8,7 @@ ghost use Rattle.rules.specs.Bytes.{bit};
 ghost use Rattle.answer.specs.Made.{reliable-at, flag};
 ghost use Rattle.answer.specs.Rcr.{all-stand};
 use super::FIGURES;
-use super::REGIONS;
+use book::REGIONS;
 use rules::Direction;
 
 // Is the region in the set?

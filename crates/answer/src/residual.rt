@@ -8,12 +8,12 @@ ghost use Rattle.answer.specs.Made.{side, region-made, worse-of, residua
 ghost use Rattle.answer.specs.Residual.{RowsFit, Holds, RegionsFit};
 use super::FIGURES;
 use super::Member;
-use super::REGIONS;
 use super::made::member_at;
 use super::made::standing_of;
 use super::places::is_good;
 use super::regions::covers;
 use super::regions::reliable;
+use book::REGIONS;
 use rules::Direction;
 use rules::Reason;
 use rules::Standing;

@@ -6,14 +6,14 @@ ghost use lib.Dec.{leb};
 ghost use lib.ListN.{length};
 ghost use Rattle.rules.specs.RequirementRecord.{set-fine};
 ghost use Rattle.answer.specs.Roster.{roster-room, place-fine, row-told, row-answer, MemberPromise};
-use super::FIGURES_LENGTH;
 use super::PLACES;
 use super::Row;
 use super::made::row_standing;
 use super::places::in_set;
 use super::regions::figure_of;
-use interval::turns::MOST_UNITS;
+use interval::FIGURES_LENGTH;
 use rules::Direction;
+use rules::MOST_UNITS;
 use rules::Refusal;
 
 // At most 512 units, and a set of one or more of the bits 0 to 4.

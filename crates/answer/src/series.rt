@@ -4,10 +4,10 @@ ghost use mathlib.Core.Bool.{_&&_};
 ghost use Prim.Native.Nat.{_<_, _≤_, _^_};
 ghost use lib.ListN.{length};
 ghost use Rattle.answer.specs.Ranges.{measures-here, sums-here, series-here};
-use super::REGIONS;
 use super::sizes::between;
 use super::sizes::size;
 use book::POINTS;
+use book::REGIONS;
 use interval::DEVIATION_LIMIT;
 
 const LEAST_MEASURE: i64 = -5_000_000;

@@ -15,6 +15,25 @@ pub mod unit;
 // The points of an interval.
 pub const POINTS: usize = 75;
 
+pub const REGIONS: usize = 5;
+
+// How many frequency records a book has: one a region.
+pub const FREQUENCIES: u16 = 5;
+
+// The bytes of a record.
+pub const CONTENTS: usize = 56;
+
+pub const SETTINGS: usize = 8;
+
+pub const FREQUENCY: usize = 368;
+
+pub const UNIT: usize = 372;
+
+pub const REQUIREMENT: usize = 24;
+
+// Where a requirement's record holds its region set.
+pub const SET: usize = 2;
+
 // What the table of contents leaves open.
 pub struct Counts {
     pub units: u16,

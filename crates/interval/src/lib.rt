@@ -8,6 +8,11 @@ pub const SERIES_LENGTH: usize = 375;
 
 pub const DEVIATION_LIMIT: u64 = 15_000_000;
 
+// Nine figures a region, and six defaults for each of 512 units.
+pub const FIGURES_LENGTH: usize = 45;
+
+pub const DEFAULTS_LENGTH: usize = 3072;
+
 pub mod contents;
 pub mod requirement;
 pub mod settings;

@@ -3,8 +3,7 @@ ghost use mathlib.Core.Path.{_≡_};
 ghost use mathlib.Core.Bool.{_&&_};
 ghost use Rattle.interval.specs.Tally.{in-range, settings-kept, settings-turn, frequency-turn, unit-turn, requirement-turn, answer-turn, units-end, book-end};
 use super::Tally;
-
-pub const MOST_UNITS: u16 = 512;
+use rules::MOST_UNITS;
 
 const MOST_REQUIREMENTS: u16 = 32;
 

@@ -3,6 +3,8 @@
 ghost use mathlib.Core.Path.{_≡_};
 ghost use Rattle.rules.specs.Refusals.{number};
 
+pub const MOST_UNITS: u16 = 512;
+
 // Raise is wanted where frequency is low, lower where it is high. Every rule is one definition, by the direction.
 pub enum Direction {
     Raise,

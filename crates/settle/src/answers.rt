@@ -11,15 +11,12 @@ use super::records::within_room;
 use answer::Answer;
 use answer::Answered;
 use answer::Row;
+use book::REQUIREMENT;
+use book::SET;
 use listing::Amounts;
 use listing::Figures;
 use listing::Pool;
 use rules::Direction;
-
-const REQUIREMENT: usize = 24;
-
-// Where a requirement's record holds its region set.
-const SET: usize = 2;
 
 // One more than the units, for the residual.
 pub(crate) const MEMBERS: usize = 513;

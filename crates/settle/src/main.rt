@@ -6,6 +6,9 @@ mod output;
 mod records;
 
 use answers::MEMBERS;
+use interval::DEFAULTS_LENGTH;
+use interval::FIGURES_LENGTH;
+use interval::SERIES_LENGTH;
 
 // The buffers, in bytes, each array once:
 //   series: measures 1,500, positive 3,000, negative 3,000; figures 360
@@ -16,27 +19,21 @@ use answers::MEMBERS;
 //   a line: text 165 (answers.rt), and 165 while `listing` makes it
 //   a share's counters 1,024 (`share`)
 // Together 65,407, within 65,536.
-const SERIES: usize = 375;
-
-const FIGURES: usize = 45;
-
 const UNITS: usize = 512;
-
-const DEFAULTS: usize = 3072;
 
 // All requirements of 24 bytes, and the byte that may follow the last. The records before them are read into their place.
 const RECORDS: usize = 769;
 
 fn main() {
-    let mut measures = [0i32; SERIES];
-    let mut positive = [0i64; SERIES];
-    let mut negative = [0i64; SERIES];
-    let mut figures = [0i64; FIGURES];
+    let mut measures = [0i32; SERIES_LENGTH];
+    let mut positive = [0i64; SERIES_LENGTH];
+    let mut negative = [0i64; SERIES_LENGTH];
+    let mut figures = [0i64; FIGURES_LENGTH];
     let mut numbers = [0u16; UNITS];
     let mut places = [0u8; UNITS];
     let mut raise = [0i64; UNITS];
     let mut lower = [0i64; UNITS];
-    let mut defaults = [0i64; DEFAULTS];
+    let mut defaults = [0i64; DEFAULTS_LENGTH];
     let mut bytes = [0u8; RECORDS];
     // Deviations of a unit while units are read, performances of a requirement's members after that.
     let mut performances = [0i64; MEMBERS];

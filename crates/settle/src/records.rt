@@ -3,24 +3,18 @@ ghost use Prim.Native.Nat.{_≤_};
 ghost use lib.ListN.{length};
 use super::input::Filled;
 use super::input::read_record;
+use book::CONTENTS;
+use book::FREQUENCIES;
+use book::FREQUENCY;
 use book::POINTS;
+use book::REQUIREMENT;
+use book::SETTINGS;
+use book::UNIT;
 use interval::Opened;
 use interval::Step;
 use interval::Taking;
 use interval::Tally;
 use rules::Refusal;
-
-const CONTENTS: usize = 56;
-
-const SETTINGS: usize = 8;
-
-const FREQUENCIES: u16 = 5;
-
-const FREQUENCY: usize = 368;
-
-const UNIT: usize = 372;
-
-const REQUIREMENT: usize = 24;
 
 // How many requirements the bytes have room for.
 const ROOM: u16 = 32;

@@ -4,25 +4,18 @@ ghost use Prim.Native.Nat.{_≤_};
 ghost use lib.ListN.{length};
 use super::input::Filled;
 use super::input::read_record;
+use book::CONTENTS;
+use book::FREQUENCIES;
+use book::FREQUENCY;
+use book::POINTS;
+use book::REQUIREMENT;
+use book::SETTINGS;
+use book::UNIT;
 use interval::Opened;
 use interval::Step;
 use interval::Taking;
 use interval::Tally;
 use rules::Refusal;
-
-const CONTENTS: usize = 56;
-
-const SETTINGS: usize = 8;
-
-const REGIONS: u16 = 5;
-
-const FREQUENCY: usize = 368;
-
-const UNIT: usize = 372;
-
-const REQUIREMENT: usize = 24;
-
-const POINTS: usize = 75;
 
 // The tally so far; or why no more is read: no byte came where a book would start, the refusal, or a reading that failed.
 pub(crate) enum Next {
@@ -125,7 +118,7 @@ fn take_head(
 {
     let mut frequencies = [0u32; POINTS];
     let mut next = take_opening(bytes);
-    let mut left = to_read(next, REGIONS);
+    let mut left = to_read(next, FREQUENCIES);
     while left > 0 {
         let got = read_record(bytes, FREQUENCY);
         let count = got.count;

@@ -17,25 +17,29 @@ mod running;
 //   the weeks: names 1,024, lives 2,068, highs 2,068, lows 8,272
 //   the library's own, while a line is written: 4,096
 // Together 86,416, within 131,072.
+use book::UNIT;
+use interval::DEFAULTS_LENGTH;
+use interval::FIGURES_LENGTH;
+use interval::SERIES_LENGTH;
 use performances::ROWS;
-use replay::DEFAULTS;
-use replay::FIGURES;
-use replay::RECORD;
-use replay::SERIES;
+use replay::DEFAULTS_LENGTH;
+use replay::FIGURES_LENGTH;
+use replay::SERIES_LENGTH;
+use replay::UNIT;
 use running::MEMBERS;
 use running::WEEKS;
 
 fn main() {
-    let mut bytes = [0u8; RECORD];
-    let mut measures = [0i32; SERIES];
-    let mut positive = [0i64; SERIES];
-    let mut negative = [0i64; SERIES];
-    let mut figures = [0i64; FIGURES];
+    let mut bytes = [0u8; UNIT];
+    let mut measures = [0i32; SERIES_LENGTH];
+    let mut positive = [0i64; SERIES_LENGTH];
+    let mut negative = [0i64; SERIES_LENGTH];
+    let mut figures = [0i64; FIGURES_LENGTH];
     let mut numbers = [0u16; ROWS];
     let mut places = [0u8; ROWS];
     let mut raise = [0i64; ROWS];
     let mut lower = [0i64; ROWS];
-    let mut defaults = [0i64; DEFAULTS];
+    let mut defaults = [0i64; DEFAULTS_LENGTH];
     let mut names = [0u16; MEMBERS];
     let mut lives = [0u16; WEEKS];
     let mut highs = [0u16; WEEKS];

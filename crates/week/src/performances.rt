@@ -2,9 +2,12 @@
 // performances: of the region's units in their order, then of its residual.
 ghost use Prim.Native.Nat.{_+_, _<_, _≤_};
 use answer::Answered;
-use interval::Tally;
 use answer::Row;
+use book::REQUIREMENT;
+use book::SET;
+use interval::Tally;
 use rules::Direction;
+use rules::MOST_UNITS;
 use rules::Standing;
 
 pub(crate) const ROWS: usize = 512;
@@ -12,14 +15,8 @@ pub(crate) const ROWS: usize = 512;
 // One more than the units, for the residual.
 const COLUMN: usize = 513;
 
-const REQUIREMENT: usize = 24;
-
-// Where a requirement's record holds its region set and its direction.
-const SET: usize = 2;
-
+// Where a requirement's record holds its direction.
 const DIRECTION: usize = 3;
-
-const MOST_UNITS: u16 = 512;
 
 // Whether a performance is live, and the performance; or none, where the calculator refused.
 pub(crate) enum Done {

@@ -19,17 +19,11 @@ use rules::Direction;
 use rules::Refusal;
 ghost use Prim.Native.Nat.{_+_, _*_, _<_, _≤_};
 ghost use lib.ListN.{length};
-
-pub(crate) const SERIES: usize = 375;
-
-pub(crate) const FIGURES: usize = 45;
-
-pub(crate) const DEFAULTS: usize = 3072;
-
-// As long as the longest record.
-pub(crate) const RECORD: usize = 372;
-
-const REGIONS: u16 = 5;
+use book::FREQUENCIES;
+use book::UNIT;
+use interval::DEFAULTS_LENGTH;
+use interval::FIGURES_LENGTH;
+use interval::SERIES_LENGTH;
 
 const MOST_BOOKS: u16 = 2016;
 
@@ -125,7 +119,7 @@ fn add_regions(
     requires { ⌜ offset ≤ 1 ⌝ }
 {
     let mut region: u16 = 0;
-    while region < REGIONS {
+    while region < FREQUENCIES {
         let done = region_done(
             tally,
             region,
@@ -323,7 +317,7 @@ fn end_of(next: Next, books: u16, members: usize) -> End
 }
 
 // After 2,016 books any byte is one too many.
-fn last_end(members: usize, bytes: &mut [u8; RECORD]) -> End {
+fn last_end(members: usize, bytes: &mut [u8; UNIT]) -> End {
     let got = read_record(bytes, 1);
     if got.failed {
         return End::Failed;
@@ -353,16 +347,16 @@ fn goes_on(end: End) -> bool {
 fn replay_book(
     books: u16,
     members: usize,
-    bytes: &mut [u8; RECORD],
-    measures: &mut [i32; SERIES],
-    positive: &mut [i64; SERIES],
-    negative: &mut [i64; SERIES],
-    figures: &mut [i64; FIGURES],
+    bytes: &mut [u8; UNIT],
+    measures: &mut [i32; SERIES_LENGTH],
+    positive: &mut [i64; SERIES_LENGTH],
+    negative: &mut [i64; SERIES_LENGTH],
+    figures: &mut [i64; FIGURES_LENGTH],
     numbers: &mut [u16; ROWS],
     places: &mut [u8; ROWS],
     raise: &mut [i64; ROWS],
     lower: &mut [i64; ROWS],
-    defaults: &mut [i64; DEFAULTS],
+    defaults: &mut [i64; DEFAULTS_LENGTH],
     names: &mut [u16; MEMBERS],
     lives: &mut [u16; WEEKS],
     highs: &mut [u16; WEEKS],
@@ -418,16 +412,16 @@ fn replay_book(
 }
 
 pub(crate) fn replay(
-    bytes: &mut [u8; RECORD],
-    measures: &mut [i32; SERIES],
-    positive: &mut [i64; SERIES],
-    negative: &mut [i64; SERIES],
-    figures: &mut [i64; FIGURES],
+    bytes: &mut [u8; UNIT],
+    measures: &mut [i32; SERIES_LENGTH],
+    positive: &mut [i64; SERIES_LENGTH],
+    negative: &mut [i64; SERIES_LENGTH],
+    figures: &mut [i64; FIGURES_LENGTH],
     numbers: &mut [u16; ROWS],
     places: &mut [u8; ROWS],
     raise: &mut [i64; ROWS],
     lower: &mut [i64; ROWS],
-    defaults: &mut [i64; DEFAULTS],
+    defaults: &mut [i64; DEFAULTS_LENGTH],
     names: &mut [u16; MEMBERS],
     lives: &mut [u16; WEEKS],
     highs: &mut [u16; WEEKS],

@@ -5,9 +5,8 @@ ghost use Prim.Native.Nat.{_≤_};
 ghost use Rattle.rules.specs.Week.{whose-fine, reach, default-limit};
 ghost use Rattle.rules.specs.RunningWeek.{base};
 ghost use Rattle.weeks.specs.Runs.{units-of};
+use rules::MOST_UNITS;
 use rules::Whose;
-
-const MOST_UNITS: u16 = 512;
 
 // What a unit can reach in an interval, and the limit of its default.
 const UNIT_LIMIT: u64 = 5_625_000_000_000_000;

@@ -41,7 +41,7 @@ returns-2 c =
     let k = s .pre .2 in
     let l = c .before .before .before .if1 .left in
     let m : (w .low + s .args .short) % base ≡ w .low + s .args .short - base = remains {q = 1}
-        (record { is = omega (arith, l); small = omega (arith, h, k) }) in
+    (record { is = omega (arith, l); small = omega (arith, h, k) }) in
     digits _ _ _ _ _ (omega (arith, m, k, l)) (omega (arith, m, k, h))
 
 pub carried-spec : {M : Type 1} → statement M
