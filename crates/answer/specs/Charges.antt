@@ -33,16 +33,3 @@ module _ (f : RequirementFields) (reliable : Bool) (units : ℕ) (fs : List ℤ)
     pub over-unused :
         MembersCharged Unused (r .unused .pool) units (f .direction) (f .set) fs qs xs ys ds old was-unused (r .unused .reply) (between old) now-unused
     pub over-used : MembersCharged Used (r .used .pool) units (f .direction) (f .set) fs qs xs ys ds (between old) was-used (r .used .reply) new now-used
-
-  pub cost-charged :
-      {r : Charges} {old middle new was-used was-unused now-used now-unused : List ℤ} → r .used .pool ≡ used-cents (f .cost) (f .enabled) (f .used) reliable →
-      r .unused .pool ≡ f .cost - r .used .pool → MembersCharged Unused (r .unused .pool) units (f .direction) (f .set) fs qs xs ys ds old was-unused
-      (r .unused .reply) middle now-unused → MembersCharged Used (r .used .pool) units (f .direction) (f .set) fs qs xs ys ds middle was-used (r .used .reply)
-      new now-used → CostCharged old was-used was-unused r new now-used now-unused
-  cost-charged eu ev first second =
-      record {
-        used = eu;
-        unused = ev;
-        over-unused = rw (first .column) at first;
-        over-used = rw (first .column) at second;
-      }

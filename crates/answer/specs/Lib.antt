@@ -9,11 +9,9 @@ pub mod Rcr
 pub mod Residual
 pub mod Values
 pub mod Roster
-pub mod Weights
 pub mod Pools
 pub mod Shares
 pub mod Tested
 pub mod Charges
 pub mod Given
-pub mod Call
 pub mod BookAnswered

@@ -1,11 +1,9 @@
 -- A member as the code makes it, from lists and a direction (01, Members; Performance), and that it is the member of what is kept.
-use mathlib.Core.Path.{_≡_, refl, _∙_, ap, ap₂}
-use mathlib.Core.Bool.{Bool, true, false, cond, not, _&&_, _||_}
+use mathlib.Core.Bool.{Bool, true, false, not, _&&_, _||_}
 use mathlib.Core.List.{List}
 use Prim.Native.Nat.{ℕ, _+_, _*_, _/_, _%_, _≤_, _<_}
-use native.Mathlib.Omega.{arith}
 use lib.Dec.{eqb, leb}
-use lib.IntN.{ℤ, pos, negℤ, _+ℤ_}
+use lib.IntN.{ℤ, pos, negℤ}
 use lib.ListN.{length, getD}
 use lib.Signed.{ltZ}
 use Rattle.integers.specs.Sums.{sum, count, every, when}
@@ -15,11 +13,9 @@ use Rattle.rules.specs.declared.Reason.the-variants.{UnreliableRegion, BadUnit,
 use Rattle.rules.specs.declared.Standing.{Standing}
 use Rattle.rules.specs.declared.Standing.the-variants.{Live, Default}
 use Rattle.rules.specs.Bytes.{bit}
-use Rattle.rules.specs.Book.{Requirement}
 use Rattle.rules.specs.Standings.{standing, live-or}
 use Rattle.rules.specs.Members.{Member as Sharer}
 use Rattle.interval.specs.Lent.{figures-each, figures-length}
-use Rattle.kept.specs.Kept.{Kept, row-member, residual-row}
 use Rattle.answer.specs.declared.Field.{Field}
 use Rattle.answer.specs.declared.Field.the-variants.{Payment, Used, Unused}
 use Rattle.answer.specs.declared.Member.{Member}
@@ -33,14 +29,6 @@ abbrev pub defaults-at : Direction → ℕ
 defaults-at Raise = 0
 defaults-at Lower = 3
 
-pub reliable-at-≤ : (d : Direction) → reliable-at d ≤ 2
-reliable-at-≤ Raise = omega arith
-reliable-at-≤ Lower = omega arith
-
-pub defaults-at-≤ : (d : Direction) → defaults-at d ≤ 3
-defaults-at-≤ Raise = omega arith
-defaults-at-≤ Lower = omega arith
-
 abbrev pub side : {A : Type 0} → Direction → A → A → A
 side Raise raise lower = raise
 side Lower raise lower = lower
@@ -52,10 +40,6 @@ flag d r figures = ltZ (pos 0) (getD figures (figures-each * r + reliable-at d) 
 -- ---- a member: the performance of a live one, else the defaults stand in
 abbrev pub made : Standing → ℤ → ℤ → ℤ → ℤ → Member
 made s performance payment used unused = record { standing = s; payment = live-or s performance payment; used = live-or s performance used; unused = unused }
-
-pub made-same : {s s′ : Standing} {x x′ p p′ u u′ v v′ : ℤ} → s ≡ s′ → x ≡ x′ → p ≡ p′ → u ≡ u′ → v ≡ v′ → made s x p u v ≡ made s′ x′ p′ u′ v′
-made-same {s} {s′} {x} {x′} {p} {p′} {u} {u′} {v} {v′} hs hx hp hu hv =
-    ap₂ (λ (a : Standing) (b : ℤ). made a b p u v) hs hx ∙ ap₂ (λ (a b : ℤ). made s′ x′ a b v) hp hu ∙ ap (λ (a : ℤ). made s′ x′ p′ u′ a) hv
 
 -- with the direction's three of the six defaults from a place on
 abbrev pub made-at : Direction → Standing → ℤ → ℕ → List ℤ → Member
@@ -76,14 +60,6 @@ abbrev pub field-of : Field → Sharer → ℤ
 field-of Payment m = m .payment
 field-of Used m = m .used
 field-of Unused m = m .unused
-
-abbrev pub shown : Sharer → Member
-shown m = record { standing = m .standing; payment = m .payment; used = m .used; unused = m .unused }
-
-pub field-shown : (f : Field) (m : Sharer) → field-of f m ≡ picked f (shown m)
-field-shown Payment m = refl
-field-shown Used m = refl
-field-shown Unused m = refl
 
 -- ---- a row
 abbrev pub place-region : ℕ → List ℕ → ℕ
@@ -106,33 +82,6 @@ abbrev pub performed : Field → Bool
 performed Payment = true
 performed Used = true
 performed Unused = false
-
-live-is : (a b : Bool) (x y : ℤ) → live-or (standing a b BadUnit) x y ≡ cond (a && b) x y
-live-is true true x y = refl
-live-is true false x y = refl
-live-is false b x y = refl
-
-pub field-at-≤ : (f : Field) → field-at f ≤ 2
-field-at-≤ Payment = omega arith
-field-at-≤ Used = omega arith
-field-at-≤ Unused = omega arith
-
-pub number-is :
-    (f : Field) (d : Direction) (i : ℕ) (figures : List ℤ) (places : List ℕ) (raise lower defaults : List ℤ) →
-    picked f (unit-made d i figures places raise lower defaults) ≡
-    cond (performed f && (flag d (place-region i places) figures && place-good i places)) (getD (side d raise lower) i (pos 0))
-    (getD defaults (6 * i + (defaults-at d + field-at f)) (pos 0))
-number-is Payment d i figures places raise lower defaults =
-    let e : defaults-at d ≡ defaults-at d + 0 = omega arith in
-    let live = flag d (place-region i places) figures && place-good i places in
-    live-is (flag d (place-region i places) figures) (place-good i places) _ _
-    ∙ ap (λ (n : ℕ). cond live (getD (side d raise lower) i (pos 0)) (getD defaults (6 * i + n) (pos 0))) e
-number-is Used d i figures places raise lower defaults = live-is (flag d (place-region i places) figures) (place-good i places) _ _
-number-is Unused d i figures places raise lower defaults = refl
-
-pub row-shown : (k : Kept) (d : Direction) (i : ℕ) → shown (row-member k d i) ≡ unit-made d i (k .figures) (k .places) (k .raise) (k .lower) (k .defaults)
-row-shown k Raise i = refl
-row-shown k Lower i = refl
 
 -- what is read of a row and its region is there
 pub record RowReady (i : ℕ) (fs : List ℤ) (qs : List ℕ) (xs ys ds : List ℤ) : Type 0 where
@@ -163,15 +112,6 @@ region-made d r units figures places raise lower =
     (getD figures (figures-each * r + (3 + defaults-at d + 1)) (pos 0))
     (getD figures (figures-each * r + (3 + defaults-at d + 2)) (pos 0))
 
--- of a region the six defaults stand behind its first three figures
-pub made-behind :
-    (d : Direction) (s : Standing) (x : ℤ) (start : ℕ) (fs : List ℤ) → made-at d s x (start + 3) fs ≡ made s x (getD fs (start + (3 + defaults-at d)) (pos 0))
-    (getD fs (start + (3 + defaults-at d + 1)) (pos 0)) (getD fs (start + (3 + defaults-at d + 2)) (pos 0))
-made-behind d s x start fs = made-same refl refl (at (omega arith)) (at (omega arith)) (at (omega arith))
-  where
-    at : {m n : ℕ} → m ≡ n → getD fs m (pos 0) ≡ getD fs n (pos 0)
-    at e = ap (λ (n : ℕ). getD fs n (pos 0)) e
-
 -- the worse of two standings; two members as one
 abbrev pub worse-of : Standing → Standing → Standing
 worse-of Live next = next
@@ -179,19 +119,6 @@ worse-of (Default UnreliableRegion) next = Default UnreliableRegion
 worse-of (Default BadUnit) next = Default BadUnit
 worse-of (Default NoGoodUnit) Live = Default NoGoodUnit
 worse-of (Default NoGoodUnit) (Default why) = Default why
-
-abbrev pub joined : Member → Member → Member
-joined m n =
-    record { standing = worse-of (m .standing) (n .standing); payment = m .payment +ℤ n .payment; used = m .used +ℤ n .used; unused = m .unused +ℤ n .unused }
-
-pub standing-joined : (a b c d : Bool) → standing (a && b) (c && d) NoGoodUnit ≡ worse-of (standing a c NoGoodUnit) (standing b d NoGoodUnit)
-standing-joined true true true true = refl
-standing-joined true true true false = refl
-standing-joined true true false true = refl
-standing-joined true true false false = refl
-standing-joined true false true d = refl
-standing-joined true false false d = refl
-standing-joined false b c d = refl
 
 -- ---- the residual of the first n regions of a set
 module _ (d : Direction) (set units : ℕ) (figures : List ℤ) (places : List ℕ) (raise lower : List ℤ) where
@@ -208,13 +135,3 @@ module _ (d : Direction) (set units : ℕ) (figures : List ℤ) (places : List �
         used = sum n (λ r. when (bit r set) (region-at r .used));
         unused = sum n (λ r. when (bit r set) (region-at r .unused));
       }
-
-pub residual-shown :
-    (k : Kept) (q : Requirement) → shown (residual-row k q) ≡ residual-to (q .direction) (q .set) (k .units) (k .figures) (k .places) (k .raise) (k .lower) 5
-residual-shown k q = go (q .direction) refl
-  where
-    go :
-        (d : Direction) → q .direction ≡ d → shown (residual-row k q) ≡ residual-to (q .direction) (q .set) (k .units) (k .figures) (k .places) (k .raise)
-        (k .lower) 5
-    go Raise e = rw e
-    go Lower e = rw e

@@ -2,7 +2,7 @@
 -- on refusals too (01, Factors, RCR, Cents; Numbers the box can say no with).
 -- The answer is the one that what is kept gives, `kept-answer`; its lines' numbers go to the columns, one row a member. The numbers of the roster are not
 -- read here, so the promise holds for any.
-use mathlib.Core.Path.{_≡_, sym, _∙_}
+use mathlib.Core.Path.{_≡_}
 use mathlib.Core.Bool.{Bool, false, _&&_}
 use mathlib.Core.List.{List, [], _∷_, map}
 use Prim.Native.Nat.{ℕ}
@@ -112,18 +112,3 @@ module _ (t : Tally) (part : List ℕ) (ms ps ns fs : List ℤ) (qs : List ℕ) 
 
   pub record AnswerPromise (r : Answered) (new₁ new₂ new₃ new₄ new₅ : List ℤ) : Type 0 where
     pub whatever : (us : List ℕ) → AnswerWith us r new₁ new₂ new₃ new₄ new₅
-
-  pub answer-only :
-      {r r′ : Answered} {new₁ new₂ new₃ new₄ new₅ new₁′ new₂′ new₃′ new₄′ new₅′ : List ℤ} → AnswerPromise r new₁ new₂ new₃ new₄ new₅ →
-      AnswerPromise r′ new₁′ new₂′ new₃′ new₄′ new₅′ → (r ≡ r′) × (new₁ ≡ new₁′) × (new₂ ≡ new₂′) × (new₃ ≡ new₃′) × (new₄ ≡ new₄′) × (new₅ ≡ new₅′)
-  answer-only a b =
-      let x = a .whatever [] in
-      let y = b .whatever [] in (
-        x .reply ∙ sym (y .reply),
-        x .performances ∙ sym (y .performances),
-        x .factors ∙ sym (y .factors),
-        x .payments ∙ sym (y .payments),
-        x .used
-            ∙ sym (y .used),
-        x .unused ∙ sym (y .unused),
-      )

@@ -1,39 +1,17 @@
 -- Which lent numbers are in range, as the loops that test them go: by point, by region, by row. They are the definitions of `kept`, Range.
-use mathlib.Core.Path.{_≡_, refl, sym, _∙_, ap}
-use mathlib.Core.Bool.{Bool, true, false, _&&_}
+use mathlib.Core.Bool.{Bool, _&&_}
 use mathlib.Core.List.{List, []}
-use Prim.Native.Nat.{ℕ, zero, suc, _+_, _*_, _≤_, _<_}
-use native.Mathlib.Omega.{arith}
+use Prim.Native.Nat.{ℕ, _+_, _*_, _≤_, _<_}
 use lib.Dec.{leb, ltb}
-use lib.IntN.{ℤ, pos, negsuc, negℤ, natAbs}
+use lib.IntN.{ℤ, pos, negℤ, natAbs}
 use lib.ListN.{length, getD}
 use lib.Signed.{leZ}
-use borrow.Author.Tests.{leb-true, leb-false, le-leb, lt-leb}
-use Rattle.integers.specs.Pairs.{v, neg, le! }
-use Rattle.integers.specs.Sums.{sumℕ, every, every-ext}
-use Rattle.integers.specs.Tests.{le-leZ}
+use Rattle.integers.specs.Sums.{sumℕ, every}
 use Rattle.rules.specs.Quantities.{regions, measure-limit, amount-limit, performance-limit, unit-default-limit, residual-default-limit}
 use Rattle.rules.specs.Fields.{default-fine, sized}
 use Rattle.interval.specs.Lent.{series-start}
 use Rattle.kept.specs.Range.{series-fine, figures-fine, rows-fine}
 use Rattle.answer.specs.Asked.{lent, kept-rows}
-
--- a size is told by both ends
-pub sized-between : (k : ℕ) (x : ℤ) → leZ (negℤ (pos k)) x && leZ x (pos k) ≡ sized k x
-sized-between k (pos n) = ap (λ (t : Bool). t && leb n k) (le-leZ (le! (neg (v (pos k))) (v (pos n)) (omega arith)))
-sized-between zero (negsuc n) = sym (lt-leb (suc n) 0 (omega arith))
-sized-between (suc k) (negsuc n) = swapped (leb n k) ∙ sym (same k n)
-  where
-    swapped : (t : Bool) → t && true ≡ t
-    swapped true = refl
-    swapped false = refl
-
-    same : (k n : ℕ) → leb (suc n) (suc k) ≡ leb n k
-    same k n = go (leb n k) refl
-      where
-        go : (t : Bool) → leb n k ≡ t → leb (suc n) (suc k) ≡ t
-        go true e = le-leb (suc n) (suc k) (omega (arith, leb-true n k e))
-        go false e = lt-leb (suc n) (suc k) (omega (arith, leb-false n k e))
 
 -- ---- six defaults from a place on: at least so much, and at most 0
 abbrev pub fine-from : ℤ → List ℤ → ℕ → Bool
@@ -41,12 +19,6 @@ fine-from least xs i = leZ least (getD xs i (pos 0)) && leZ (getD xs i (pos 0)) 
 
 abbrev pub six-fine : ℤ → ℕ → List ℤ → Bool
 six-fine least start xs = every 6 (λ i. fine-from least xs (start + i))
-
--- behind so many others
-pub six-behind : (n : ℕ) (least : ℤ) (start : ℕ) (xs : List ℤ) → six-fine least (start + n) xs ≡ every 6 (λ i. fine-from least xs (start + (n + i)))
-six-behind n least start xs =
-    every-ext 6 (λ i. fine-from least xs (start + n + i)) (λ i. fine-from least xs (start + (n + i)))
-    (λ i h. let e : start + n + i ≡ start + (n + i) = omega arith in ap (fine-from least xs) e)
 
 -- ---- the five regions at a point
 abbrev pub there : List ℤ → ℕ → ℕ → ℤ

@@ -1,5 +1,5 @@
 -- What the reader of a requirement record answers and promises.
-use mathlib.Core.Path.{_≡_, sym, _∙_}
+use mathlib.Core.Path.{_≡_}
 use mathlib.Core.Bool.{Bool, _&&_}
 use mathlib.Core.List.{List}
 use Prim.Native.Nat.{ℕ}
@@ -21,10 +21,6 @@ requirement-answer reply = answered (λ q. Taken (requirement-of q)) Refused rep
 
 pub record RequirementPromise (least : ℕ) (last : Bool) (part : List ℕ) (r : RequirementRead) : Type 0 where
   pub reply : r ≡ requirement-answer (requirement-record least last part)
-
-pub read-requirement-only : {least : ℕ} {last : Bool} {part : List ℕ} {r s : RequirementRead} → RequirementPromise least last part r
-    → RequirementPromise least last part s → r ≡ s
-read-requirement-only a b = a .reply ∙ sym (b .reply)
 
 -- the tests of a requirement's four amounts, in the order of the fields
 abbrev pub amounts-fine : Requirement → Bool

@@ -1,5 +1,5 @@
 -- What the reader of the settings record answers and promises.
-use mathlib.Core.Path.{_≡_, sym, _∙_}
+use mathlib.Core.Path.{_≡_}
 use mathlib.Core.List.{List}
 use Prim.Native.Nat.{ℕ}
 use Rattle.rules.specs.Refusals.{Reply}
@@ -18,6 +18,3 @@ settings-answer reply = answered (λ s. Taken (settings-of s)) Refused reply
 
 pub record SettingsPromise (part : List ℕ) (r : SettingsRead) : Type 0 where
   pub reply : r ≡ settings-answer (settings part)
-
-pub read-settings-only : {part : List ℕ} {r s : SettingsRead} → SettingsPromise part r → SettingsPromise part s → r ≡ s
-read-settings-only a b = a .reply ∙ sym (b .reply)

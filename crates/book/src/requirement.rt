@@ -45,7 +45,8 @@ fn amounts_within(part: &[u8]) -> bool
 fn requirement_fields_fine(part: &[u8], least: u32) -> bool
     ensures { λ r. ⌜
         r ≡
-        (leb least (requirement-in (now (part .entry)) .number) && leb (number-at 1 3 (now (part .entry))) 1 && requirement-fine (requirement-in (now (part .entry))))
+        (leb least (requirement-in (now (part .entry)) .number) && leb (number-at 1 3 (now (part .entry))) 1
+        && requirement-fine (requirement-in (now (part .entry))))
         ⌝ }
 {
     if (u16_at(part, 0) as u32) < least {

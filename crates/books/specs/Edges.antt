@@ -26,7 +26,14 @@ abbrev settings : Settings
 settings = paper-book 7 .settings
 
 abbrev with-measures : (ℕ → ℕ) → Region
-with-measures fm = record { separation = false; quality = flat true; before = pos 0; generation = 0; defaults = zeros; frequency = listed 0 75 (λ t. 50_000_000 - fm t) }
+with-measures fm = record {
+  separation = false;
+  quality = flat true;
+  before = pos 0;
+  generation = 0;
+  defaults = zeros;
+  frequency = listed 0 75 (λ t. 50_000_000 - fm t);
+}
 
 -- FM 10,001 at the first point, 1 at the k after it, 0 at the rest
 abbrev one-and : ℕ → ℕ → ℕ

@@ -20,15 +20,40 @@ thousand = record { raise = record { payment = pos 0; used = pos 0; unused = neg
 
 -- all points good, FM before 0
 abbrev pub region : ℕ → ByDirection Defaults → ℕ → Region
-region generation defaults frequency = record { separation = false; quality = flat true; before = pos 0; generation = generation; defaults = defaults; frequency = flat frequency }
+region generation defaults frequency = record {
+  separation = false;
+  quality = flat true;
+  before = pos 0;
+  generation = generation;
+  defaults = defaults;
+  frequency = flat frequency;
+}
 
 -- unit 1: region 0, generation, 10,000 to 10,000, readings 10,100
 abbrev pub first : Unit
-first = record { number = 1; region = 0; kind = Generation; start = pos 10_000; end = pos 10_000; defaults = thousand; quality = flat true; reading = flat (pos 10_100) }
+first = record {
+  number = 1;
+  region = 0;
+  kind = Generation;
+  start = pos 10_000;
+  end = pos 10_000;
+  defaults = thousand;
+  quality = flat true;
+  reading = flat (pos 10_100);
+}
 
 -- unit 2: region 0, load, 5,000 to 5,000, readings 5,030
 abbrev pub second : Unit
-second = record { number = 2; region = 0; kind = Load; start = pos 5_000; end = pos 5_000; defaults = thousand; quality = flat true; reading = flat (pos 5_030) }
+second = record {
+  number = 2;
+  region = 0;
+  kind = Load;
+  start = pos 5_000;
+  end = pos 5_000;
+  defaults = thousand;
+  quality = flat true;
+  reading = flat (pos 5_030);
+}
 
 -- requirement 1: set 1, raise, price 1,200, cost 1,000, enabled 1,000, used 333
 abbrev pub requirement : Requirement

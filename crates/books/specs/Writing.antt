@@ -36,7 +36,8 @@ bits (false ∷ qs) = 2 * bits qs
 
 abbrev pub defaults-bytes : ByDirection Defaults → List ℕ
 defaults-bytes both =
-    concat (map (signed-bytes 8) (both .raise .payment ∷ both .raise .used ∷ both .raise .unused ∷ both .lower .payment ∷ both .lower .used ∷ both .lower .unused ∷ []))
+    concat (map (signed-bytes 8) (both .raise .payment ∷ both .raise .used ∷ both .raise .unused ∷ both .lower .payment ∷ both .lower .used ∷
+    both .lower .unused ∷ []))
 
 abbrev pub settings-bytes : Settings → List ℕ
 settings-bytes s = bytes 2 (s .smoothing) ++ (bytes 1 (s .limit) ++ (bytes 1 (s .percent) ++ bytes 4 (s .interval)))
@@ -47,7 +48,8 @@ truth false = 0
 
 abbrev pub region-bytes : ℕ → Region → List ℕ
 region-bytes position r =
-    concat (bytes 1 position ∷ bytes 1 (truth (r .separation)) ∷ bytes 10 (bits (r .quality)) ∷ signed-bytes 4 (r .before) ∷ bytes 4 (r .generation) ∷ defaults-bytes (r .defaults) ∷ map (bytes 4) (r .frequency))
+    concat (bytes 1 position ∷ bytes 1 (truth (r .separation)) ∷ bytes 10 (bits (r .quality)) ∷ signed-bytes 4 (r .before) ∷ bytes 4 (r .generation) ∷
+    defaults-bytes (r .defaults) ∷ map (bytes 4) (r .frequency))
 
 abbrev pub kind-byte : Kind → ℕ
 kind-byte Generation = 0
@@ -55,7 +57,8 @@ kind-byte Load = 1
 
 abbrev pub unit-bytes : Unit → List ℕ
 unit-bytes u =
-    concat (bytes 2 (u .number) ∷ bytes 1 (u .region) ∷ bytes 1 (kind-byte (u .kind)) ∷ signed-bytes 4 (u .start) ∷ signed-bytes 4 (u .end) ∷ defaults-bytes (u .defaults) ∷ bytes 10 (bits (u .quality)) ∷ bytes 2 0 ∷ map (signed-bytes 4) (u .reading))
+    concat (bytes 2 (u .number) ∷ bytes 1 (u .region) ∷ bytes 1 (kind-byte (u .kind)) ∷ signed-bytes 4 (u .start) ∷ signed-bytes 4 (u .end) ∷ defaults-bytes
+    (u .defaults) ∷ bytes 10 (bits (u .quality)) ∷ bytes 2 0 ∷ map (signed-bytes 4) (u .reading))
 
 abbrev pub direction-byte : Direction → ℕ
 direction-byte Raise = 0
@@ -63,7 +66,8 @@ direction-byte Lower = 1
 
 abbrev pub requirement-bytes : Requirement → List ℕ
 requirement-bytes q =
-    concat (bytes 2 (q .number) ∷ bytes 1 (q .set) ∷ bytes 1 (direction-byte (q .direction)) ∷ bytes 4 (q .price) ∷ bytes 8 (q .cost) ∷ bytes 4 (q .enabled) ∷ bytes 4 (q .used) ∷ [])
+    concat (bytes 2 (q .number) ∷ bytes 1 (q .set) ∷ bytes 1 (direction-byte (q .direction)) ∷ bytes 4 (q .price) ∷ bytes 8 (q .cost) ∷ bytes 4 (q .enabled) ∷
+    bytes 4 (q .used) ∷ [])
 
 -- kind, items, offset, length
 abbrev pub entry-bytes : ℕ → ℕ → ℕ → ℕ → List ℕ

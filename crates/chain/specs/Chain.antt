@@ -52,7 +52,8 @@ pub record Lent : Type 0 where
   pub defaults : List ℤ
 
 pub record FrequencyCall (t : Tally) (p : List ℕ) (l : Lent) (r : Step) (l′ : Lent) : Type 0 where
-  pub promise : FrequencyPromise t p (l .frequencies) (l .measures) (l .positive) (l .negative) (l .figures) r (l′ .frequencies) (l′ .measures) (l′ .positive) (l′ .negative) (l′ .figures)
+  pub promise : FrequencyPromise t p (l .frequencies) (l .measures) (l .positive) (l .negative) (l .figures) r (l′ .frequencies) (l′ .measures) (l′ .positive)
+      (l′ .negative) (l′ .figures)
   pub readings : l′ .readings ≡ l .readings
   pub deviations : l′ .deviations ≡ l .deviations
   pub numbers : l′ .numbers ≡ l .numbers
@@ -62,7 +63,8 @@ pub record FrequencyCall (t : Tally) (p : List ℕ) (l : Lent) (r : Step) (l′ 
   pub defaults : l′ .defaults ≡ l .defaults
 
 pub record UnitCall (t : Tally) (p : List ℕ) (l : Lent) (r : Step) (l′ : Lent) : Type 0 where
-  pub promise : UnitPromise t p (l .readings) (l .deviations) (l .measures) (l .positive) (l .negative) (l .numbers) (l .places) (l .raise) (l .lower) (l .defaults) r (l′ .readings) (l′ .deviations) (l′ .positive) (l′ .negative) (l′ .numbers) (l′ .places) (l′ .raise) (l′ .lower) (l′ .defaults)
+  pub promise : UnitPromise t p (l .readings) (l .deviations) (l .measures) (l .positive) (l .negative) (l .numbers) (l .places) (l .raise) (l .lower)
+      (l .defaults) r (l′ .readings) (l′ .deviations) (l′ .positive) (l′ .negative) (l′ .numbers) (l′ .places) (l′ .raise) (l′ .lower) (l′ .defaults)
   pub frequencies : l′ .frequencies ≡ l .frequencies
   pub measures : l′ .measures ≡ l .measures
   pub figures : l′ .figures ≡ l .figures
@@ -84,14 +86,22 @@ Refused r why = r .taking ≡ k.the-variants.Refused why
 
 pub data Chain (head : List ℕ) (part : ℕ → List ℕ) (l₀ : Lent) : ℕ → Tally → Lent → Type 0 where
   begun : {t : Tally} → ContentsPromise head (o.the-variants.Taken t) → Chain head part l₀ 0 t l₀
-  took-settings : {n : ℕ} {t : Tally} {l : Lent} {r : Step} → Chain head part l₀ n t l → SettingsPromise t (part n) r → Taken r → Chain head part l₀ (suc n) (r .tally) l
-  took-frequency : {n : ℕ} {t : Tally} {l l′ : Lent} {r : Step} → Chain head part l₀ n t l → FrequencyCall t (part n) l r l′ → Taken r → Chain head part l₀ (suc n) (r .tally) l′
-  took-unit : {n : ℕ} {t : Tally} {l l′ : Lent} {r : Step} → Chain head part l₀ n t l → UnitCall t (part n) l r l′ → Taken r → Chain head part l₀ (suc n) (r .tally) l′
-  took-requirement : {n : ℕ} {t : Tally} {l : Lent} {r : Step} → Chain head part l₀ n t l → RequirementPromise t (part n) r → Taken r → Chain head part l₀ (suc n) (r .tally) l
-  refused-settings : {n : ℕ} {t : Tally} {l : Lent} {r : Step} {p : List ℕ} {why : Refusal} → Chain head part l₀ n t l → SettingsPromise t p r → Refused r why → Chain head part l₀ n (r .tally) l
-  refused-frequency : {n : ℕ} {t : Tally} {l l′ : Lent} {r : Step} {p : List ℕ} {why : Refusal} → Chain head part l₀ n t l → FrequencyCall t p l r l′ → Refused r why → Chain head part l₀ n (r .tally) l′
-  refused-unit : {n : ℕ} {t : Tally} {l l′ : Lent} {r : Step} {p : List ℕ} {why : Refusal} → Chain head part l₀ n t l → UnitCall t p l r l′ → Refused r why → Chain head part l₀ n (r .tally) l′
-  refused-requirement : {n : ℕ} {t : Tally} {l : Lent} {r : Step} {p : List ℕ} {why : Refusal} → Chain head part l₀ n t l → RequirementPromise t p r → Refused r why → Chain head part l₀ n (r .tally) l
+  took-settings : {n : ℕ} {t : Tally} {l : Lent} {r : Step} → Chain head part l₀ n t l → SettingsPromise t (part n) r → Taken r →
+      Chain head part l₀ (suc n) (r .tally) l
+  took-frequency : {n : ℕ} {t : Tally} {l l′ : Lent} {r : Step} → Chain head part l₀ n t l → FrequencyCall t (part n) l r l′ → Taken r →
+      Chain head part l₀ (suc n) (r .tally) l′
+  took-unit : {n : ℕ} {t : Tally} {l l′ : Lent} {r : Step} → Chain head part l₀ n t l → UnitCall t (part n) l r l′ → Taken r →
+      Chain head part l₀ (suc n) (r .tally) l′
+  took-requirement : {n : ℕ} {t : Tally} {l : Lent} {r : Step} → Chain head part l₀ n t l → RequirementPromise t (part n) r → Taken r →
+      Chain head part l₀ (suc n) (r .tally) l
+  refused-settings : {n : ℕ} {t : Tally} {l : Lent} {r : Step} {p : List ℕ} {why : Refusal} → Chain head part l₀ n t l → SettingsPromise t p r → Refused r why →
+      Chain head part l₀ n (r .tally) l
+  refused-frequency : {n : ℕ} {t : Tally} {l l′ : Lent} {r : Step} {p : List ℕ} {why : Refusal} → Chain head part l₀ n t l → FrequencyCall t p l r l′ →
+      Refused r why → Chain head part l₀ n (r .tally) l′
+  refused-unit : {n : ℕ} {t : Tally} {l l′ : Lent} {r : Step} {p : List ℕ} {why : Refusal} → Chain head part l₀ n t l → UnitCall t p l r l′ → Refused r why →
+      Chain head part l₀ n (r .tally) l′
+  refused-requirement : {n : ℕ} {t : Tally} {l : Lent} {r : Step} {p : List ℕ} {why : Refusal} → Chain head part l₀ n t l → RequirementPromise t p r →
+      Refused r why → Chain head part l₀ n (r .tally) l
 
 -- ---- how many regions and units are among the first n records
 abbrev pub regions-among : ℕ → ℕ
@@ -102,7 +112,8 @@ units-among units n = min (n - before-units) units
 
 -- ---- the lent lists are long enough for k regions and m units
 pub record Room (l₀ : Lent) (k m : ℕ) : Type 0 where
-  pub series : 0 < k → (series-length ≤ length (l₀ .measures)) × (series-length ≤ length (l₀ .positive)) × (series-length ≤ length (l₀ .negative)) × (figures-length ≤ length (l₀ .figures))
+  pub series : 0 < k → (series-length ≤ length (l₀ .measures)) × (series-length ≤ length (l₀ .positive)) × (series-length ≤ length (l₀ .negative)) ×
+      (figures-length ≤ length (l₀ .figures))
   pub numbers : m ≤ length (l₀ .numbers)
   pub places : m ≤ length (l₀ .places)
   pub raise : m ≤ length (l₀ .raise)
@@ -130,7 +141,8 @@ module _ (part : ℕ → List ℕ) where
     pub as-settings : m ≡ 0 → settings (part m) ≡ taken (settings-in (part m))
     pub as-frequency : 1 ≤ m → m < before-units → frequency-record (m - 1) (part m) ≡ taken (region-in (part m))
     pub as-unit : before-units ≤ m → m < before-units + c .units → unit-record (least-at (c .units) m) (part m) ≡ taken (unit-in (part m))
-    pub as-requirement : before-units + c .units ≤ m → requirement-record (least-at (c .units) m) (eqb (m + 1) (before-units + c .units + c .requirements)) (part m) ≡ taken (requirement-in (part m))
+    pub as-requirement : before-units + c .units ≤ m → requirement-record (least-at (c .units) m) (eqb (m + 1) (before-units + c .units + c .requirements))
+        (part m) ≡ taken (requirement-in (part m))
 
   -- ---- what k regions and m units leave in the lent lists. All other numbers are as they were
   -- a region's measure, and its sum over all good units of it, at each index of the five series; likewise figures and defaults

@@ -40,8 +40,10 @@ pub record Keeps (k : Kept) (b : Book) : Type 0 where
   pub units : k .units ≡ length (b .roster)
   -- of a region: measures, the sums over all its good units, figures
   pub measures : (r t : ℕ) → r < regions → t < points → getD (k .measures) (series-start r + t) (pos 0) ≡ measure-in b r t
-  pub positive : (r t : ℕ) → r < regions → t < points → getD (k .positive) (series-start r + t) (pos 0) ≡ total (λ u. wanted Raise (deviation u t)) (good-units (units-of b r))
-  pub negative : (r t : ℕ) → r < regions → t < points → getD (k .negative) (series-start r + t) (pos 0) ≡ total (λ u. wanted Lower (deviation u t)) (good-units (units-of b r))
+  pub positive : (r t : ℕ) → r < regions → t < points → getD (k .positive) (series-start r + t) (pos 0) ≡ total (λ u. wanted Raise (deviation u t))
+      (good-units (units-of b r))
+  pub negative : (r t : ℕ) → r < regions → t < points → getD (k .negative) (series-start r + t) (pos 0) ≡ total (λ u. wanted Lower (deviation u t))
+      (good-units (units-of b r))
   pub figures : (r i : ℕ) → r < regions → i < figures-each → getD (k .figures) (figures-each * r + i) (pos 0) ≡ figures-of (b .settings) (regionOf b r) i
   -- of a unit: number, region and whether it is good, performances, defaults
   pub numbers : (j : ℕ) (z : Unit) → j < length (b .roster) → getD (k .numbers) j 0 ≡ getD (b .roster) j z .number

@@ -4,14 +4,11 @@ pub mod SharedChain
 -- It is a chain of the calls below
 pub mod WordsLaws
 pub mod WordsCalls
-pub mod WordsTheorem
 pub mod SharedLists
 -- The rules' answer over words, from a chain and from a book's bytes
 pub mod WordsAnswer
-pub mod WordsAnswered
 pub mod WordsBook
 -- Demand by demand, as a caller meets it
 pub mod Demand1
-pub mod Demand2
 pub mod WeekDefaults
 pub mod Demand3

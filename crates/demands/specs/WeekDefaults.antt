@@ -1,27 +1,15 @@
--- Defaults from seven days of record (02, R-7), which demand 2 covers too, as a caller meets them. A running week that stands in a box's words, from two
--- words of 0 on through any calls that add an interval, reads exactly what the list form gives for the intervals added, on refusals too.
-use mathlib.Core.Path.{_≡_, refl, sym, _∙_, ap, subst}
-use mathlib.Core.List.{List, []}
-use Prim.Native.Nat.{ℕ, zero, suc, _≤_, _<_}
-use native.Mathlib.Omega.{arith}
-use lib.Dec.{leb}
+-- What proofs/WeekDefaults.antt speaks of.
+use mathlib.Core.Path.{_≡_}
+use mathlib.Core.List.{List}
+use Prim.Native.Nat.{ℕ, suc, _≤_, _<_}
 use lib.IntN.{ℤ}
 use lib.ListN.{length, getD}
-use Rattle.rules.specs.declared.Refusal.{Refusal}
-use Rattle.rules.specs.declared.Refusal.the-variants.{TooShort}
 use Rattle.rules.specs.declared.RunningWeek.{RunningWeek}
-use Rattle.rules.specs.declared.WeekDefault.{WeekDefault}
-use Rattle.rules.specs.Refusals.{Reply, taken, refused, unless, number, _>>=_}
-use Rattle.rules.specs.Week.{Interval, interval, week-reply}
-use Rattle.rules.specs.RunningWeek.{fresh, add-reply, read-reply, run}
+use Rattle.rules.specs.Refusals.{Reply, taken}
+use Rattle.rules.specs.Week.{Interval, interval}
+use Rattle.rules.specs.RunningWeek.{run}
 use Rattle.rules.specs.WeekRoster.{whose-of}
-use Rattle.interval.specs.Calls.{left}
-use Rattle.weeks.specs.Runs.{Run}
-use Rattle.weeks.specs.Reads.{run-leaves, running-reads-the-list}
-use Rattle.dullavane.specs.Words.{reply-number}
-use Rattle.dullavane.specs.Weekly.{week-words, week-held, with-week, with-default, default-numbers, flag, WeekAddCalled, WeekReadCalled, week-there}
-use Rattle.dullavane.specs.Weekly.{week-kept}
-use Rattle.demands.specs.WordsLaws.{refusal-numbered}
+use Rattle.dullavane.specs.Weekly.{week-words, week-held, flag, WeekAddCalled}
 
 -- the words of a running week before each call and after the last: two words of 0, then what each taken call leaves
 pub record Added (m n : ℕ) (live : ℕ → ℕ) (p : ℕ → ℤ) (ws : ℕ → List ℕ) : Type 0 where
@@ -34,13 +22,8 @@ pub record Added (m n : ℕ) (live : ℕ → ℕ) (p : ℕ → ℤ) (ws : ℕ �
 abbrev pub added : (ℕ → ℕ) → (ℕ → ℤ) → ℕ → Interval
 added live p i = interval (flag (live i)) (p i)
 
--- 0 is told of a taken interval alone
-only-taken : (y : Reply RunningWeek) → 0 ≡ reply-number y → (r : RunningWeek) × (y ≡ taken r)
-only-taken (taken r) e = (r, refl)
-only-taken (refused why) e = absurd (omega (arith, refusal-numbered why))
-
 module _ (m : ℕ) (live : ℕ → ℕ) (p : ℕ → ℤ) (ws : ℕ → List ℕ) where
-  abbrev runs : ℕ → Reply RunningWeek
+  abbrev pub runs : ℕ → Reply RunningWeek
   runs n = run (λ _. whose-of m) n (added live p)
 
   -- what a run of calls leaves stands in the words
@@ -48,37 +31,3 @@ module _ (m : ℕ) (live : ℕ → ℕ) (p : ℕ → ℤ) (ws : ℕ → List ℕ
     pub week : RunningWeek
     pub ran : runs n ≡ taken week
     pub held : week-held (ws n) ≡ taken week
-
-  step : (n : ℕ) → Stands n → WeekAddCalled m (live n) (p n) (ws n) 0 (ws (suc n)) → Stands (suc n)
-  unfolding run
-  step n s c =
-      let reply = add-reply (whose-of m) (added live p n) in
-      let here : (week-held (ws n) >>= reply) ≡ reply (s .week) = rw (s .held) in
-      let t = only-taken (reply (s .week)) (c .reply ∙ ap reply-number here) in
-      let next : runs (suc n) ≡ taken (t .0) = rw (s .ran) (t .1) in
-      let k = run-leaves (λ _. whose-of m) (suc n) (added live p) next .1 in
-      let words : ws (suc n) ≡ with-week (t .0) (ws n) = c .words ∙ ap (λ (y : Reply RunningWeek). left with-week y (ws n)) (here ∙ t .1) in
-      record {
-        week = t .0;
-        ran = next;
-        held = ap week-held words ∙ week-kept (t .0) (ws n) (omega (arith, k .short)) (omega (arith, k .counted, k .short))
-            (omega (arith, k .reached, k .counted, k .short, k .small));
-      }
-
-  stands : (n : ℕ) → Added m n live p ws → (k : ℕ) → k ≤ n → Stands k
-  unfolding run
-  stands n a zero h =
-      let here = week-there (ws 0) (a .long) (omega (arith, a .second)) .week in
-      record { week = fresh; ran = refl; held = here ∙ rw (a .first, a .second) }
-  stands n a (suc k) h = step k (stands n a k (omega arith)) (a .taken-in k (omega arith))
-
-  -- so what is read off the words is what the list of the intervals gives
-  pub words-read-the-list :
-      (n : ℕ) → Added m n live p ws → (xs : List ℤ) {r : ℕ} {xs′ : List ℤ} → WeekReadCalled m (ws n) xs r xs′ →
-      let y = unless (leb default-numbers (length xs)) TooShort (week-reply (whose-of m) n (added live p)) in
-      (r ≡ reply-number y) × (xs′ ≡ left with-default y xs)
-  words-read-the-list n a xs {r} {xs′} c =
-      let s = stands n a n (omega arith) in
-      let same : (week-held (ws n) >>= read-reply (whose-of m)) ≡ week-reply (whose-of m) n (added live p) =
-      ap (λ (y : Reply RunningWeek). y >>= read-reply (whose-of m)) (s .held ∙ sym (s .ran)) ∙ running-reads-the-list (whose-of m) (added live p) n in
-      (c .reply ∙ rw same, c .numbers ∙ rw same)

@@ -7,7 +7,6 @@ use lib.Dec.{eqb}
 use lib.ListN.{length, getD, drop}
 use Rattle.rules.specs.Refusals.{taken}
 use Rattle.rules.specs.Book.{Requirement, Book}
-use Rattle.rules.specs.RequirementRecord as r
 use Rattle.rules.specs.RequirementRecord.{requirement-record}
 use Rattle.rules.specs.Members.{Name, unit, residual}
 use Rattle.rules.specs.Answer.{Line, answer, Answer as Full}

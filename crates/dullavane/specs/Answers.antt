@@ -1,5 +1,5 @@
 -- The answer to a requirement, over words: its figures in eight of them, its members' numbers in the columns.
-use mathlib.Core.Path.{_≡_, sym, _∙_}
+use mathlib.Core.Path.{_≡_}
 use mathlib.Core.Bool.{true}
 use mathlib.Core.List.{List, [], _∷_, _++_}
 use Prim.Native.Nat.{ℕ}
@@ -11,8 +11,8 @@ use Rattle.interval.specs.declared.Tally.{Tally}
 use Rattle.answer.specs.declared.Answer.{Answer}
 use Rattle.answer.specs.declared.Answered.{Answered}
 use Rattle.answer.specs.declared.Answered.the-variants.{Given, Refused}
-use Rattle.answer.specs.Promises.{AnswerPromise, answer-only}
-use Rattle.dullavane.specs.Called.{Called, called-only}
+use Rattle.answer.specs.Promises.{AnswerPromise}
+use Rattle.dullavane.specs.Called.{Called}
 use Rattle.dullavane.specs.Asked.{ready, standing-number}
 
 -- how many members there are, RCR, the pools, what is unplaced of used and of unused, the residual's standing
@@ -42,11 +42,5 @@ module _ (ts part : List ℕ) (ms ps ns gs : List ℤ) (qs : List ℕ) (xs ys fs
   AnswerKept d₁ d₂ d₃ d₄ d₅ = (d₁ ≡ c₁) × (d₂ ≡ c₂) × (d₃ ≡ c₃) × (d₄ ≡ c₄) × (d₅ ≡ c₅)
 
   pub record AnswerCalled (r : ℕ) (d₁ d₂ d₃ d₄ d₅ : List ℤ) (ws′ : List ℕ) : Type 0 where
-    pub answer : Called answered-number answered-after (AnswerCall d₁ d₂ d₃ d₄ d₅) (AnswerKept d₁ d₂ d₃ d₄ d₅) (ready ts true (leb reply-words (length ws))) ws r ws′
-
-  pub dullavane-answer-only : {r r₂ : ℕ} {d₁ d₂ d₃ d₄ d₅ e₁ e₂ e₃ e₄ e₅ : List ℤ} {ws′ ws₂ : List ℕ} → AnswerCalled r d₁ d₂ d₃ d₄ d₅ ws′ → AnswerCalled r₂ e₁ e₂ e₃ e₄ e₅ ws₂ → (r ≡ r₂) × (ws′ ≡ ws₂) × ((d₁ ≡ e₁) × (d₂ ≡ e₂) × (d₃ ≡ e₃) × (d₄ ≡ e₄) × (d₅ ≡ e₅))
-  dullavane-answer-only {d₁ = d₁} {d₂ = d₂} {d₃ = d₃} {d₄ = d₄} {d₅ = d₅} {e₁ = e₁} {e₂ = e₂} {e₃ = e₃} {e₄ = e₄} {e₅ = e₅} a b =
-      called-only answered-number answered-after (AnswerCall d₁ d₂ d₃ d₄ d₅) (AnswerCall e₁ e₂ e₃ e₄ e₅) (AnswerKept d₁ d₂ d₃ d₄ d₅) (AnswerKept e₁ e₂ e₃ e₄ e₅) ((d₁ ≡ e₁) × (d₂ ≡ e₂) × (d₃ ≡ e₃) × (d₄ ≡ e₄) × (d₅ ≡ e₅))
-      (λ t s s₂ x y. let o = answer-only _ _ _ _ _ _ _ _ _ _ _ _ _ _ _ x y in (o .0, (o .1, o .2, o .3, o .4, o .5)))
-      (λ x y. (x .0 ∙ sym (y .0), x .1 ∙ sym (y .1), x .2 ∙ sym (y .2), x .3 ∙ sym (y .3), x .4 ∙ sym (y .4)))
-      ws _ _ _ _ _ (a .answer) (b .answer)
+    pub answer : Called answered-number answered-after (AnswerCall d₁ d₂ d₃ d₄ d₅) (AnswerKept d₁ d₂ d₃ d₄ d₅) (ready ts true (leb reply-words (length ws))) ws
+        r ws′

@@ -86,7 +86,9 @@ pub extern "C" fn dullavane_frequency(
     negative: &mut [i64],
     figures: &mut [i64],
 ) -> u32
-    ensures { λ r. ⌜ FrequencyCalled (now (tally .entry)) (now (part .entry)) (now (frequencies .entry)) (now (measures .entry)) (now (positive .entry)) (now (negative .entry)) (now (figures .entry)) r (now (tally .exit)) (now (frequencies .exit)) (now (measures .exit)) (now (positive .exit)) (now (negative .exit)) (now (figures .exit)) ⌝ }
+    ensures { λ r. ⌜ FrequencyCalled (now (tally .entry)) (now (part .entry)) (now (frequencies .entry)) (now (measures .entry)) (now (positive .entry))
+        (now (negative .entry)) (now (figures .entry)) r (now (tally .exit)) (now (frequencies .exit)) (now (measures .exit)) (now (positive .exit))
+        (now (negative .exit)) (now (figures .exit)) ⌝ }
 {
     let refusal = unheld(tally);
     if refusal != 0 {
@@ -120,7 +122,10 @@ pub extern "C" fn dullavane_unit(
     lower: &mut [i64],
     defaults: &mut [i64],
 ) -> u32
-    ensures { λ r. ⌜ UnitCalled (now (tally .entry)) (now (part .entry)) (now (readings .entry)) (now (deviations .entry)) (now (measures .entry)) (now (positive .entry)) (now (negative .entry)) (now (numbers .entry)) (now (places .entry)) (now (raise .entry)) (now (lower .entry)) (now (defaults .entry)) r (now (tally .exit)) (now (readings .exit)) (now (deviations .exit)) (now (positive .exit)) (now (negative .exit)) (now (numbers .exit)) (now (places .exit)) (now (raise .exit)) (now (lower .exit)) (now (defaults .exit)) ⌝ }
+    ensures { λ r. ⌜ UnitCalled (now (tally .entry)) (now (part .entry)) (now (readings .entry)) (now (deviations .entry)) (now (measures .entry))
+        (now (positive .entry)) (now (negative .entry)) (now (numbers .entry)) (now (places .entry)) (now (raise .entry)) (now (lower .entry))
+        (now (defaults .entry)) r (now (tally .exit)) (now (readings .exit)) (now (deviations .exit)) (now (positive .exit)) (now (negative .exit))
+        (now (numbers .exit)) (now (places .exit)) (now (raise .exit)) (now (lower .exit)) (now (defaults .exit)) ⌝ }
 {
     let refusal = unheld(tally);
     if refusal != 0 {
@@ -176,7 +181,10 @@ pub extern "C" fn dullavane_answer(
     unused: &mut [i64],
     reply: &mut [u64],
 ) -> u32
-    ensures { λ r. ⌜ AnswerCalled (now (tally .entry)) (now (part .entry)) (now (measures .entry)) (now (positive .entry)) (now (negative .entry)) (now (figures .entry)) (now (places .entry)) (now (raise .entry)) (now (lower .entry)) (now (defaults .entry)) (now (performances .entry)) (now (factors .entry)) (now (payments .entry)) (now (used .entry)) (now (unused .entry)) (now (reply .entry)) r (now (performances .exit)) (now (factors .exit)) (now (payments .exit)) (now (used .exit)) (now (unused .exit)) (now (reply .exit)) ⌝ }
+    ensures { λ r. ⌜ AnswerCalled (now (tally .entry)) (now (part .entry)) (now (measures .entry)) (now (positive .entry)) (now (negative .entry))
+        (now (figures .entry)) (now (places .entry)) (now (raise .entry)) (now (lower .entry)) (now (defaults .entry)) (now (performances .entry))
+        (now (factors .entry)) (now (payments .entry)) (now (used .entry)) (now (unused .entry)) (now (reply .entry)) r (now (performances .exit))
+        (now (factors .exit)) (now (payments .exit)) (now (used .exit)) (now (unused .exit)) (now (reply .exit)) ⌝ }
 {
     let refusal = unready(tally, true, REPLY_WORDS <= reply.len());
     if refusal != 0 {
@@ -215,7 +223,8 @@ pub extern "C" fn dullavane_member(
     places: &[u8],
     words: &mut [u32],
 ) -> u32
-    ensures { λ r. ⌜ MemberCalled (now (tally .entry)) row direction set (now (figures .entry)) (now (numbers .entry)) (now (places .entry)) (now (words .entry)) r (now (words .exit)) ⌝ }
+    ensures { λ r. ⌜ MemberCalled (now (tally .entry)) row direction set (now (figures .entry)) (now (numbers .entry)) (now (places .entry))
+        (now (words .entry)) r (now (words .exit)) ⌝ }
 {
     let fine = narrow_asked(row, direction, set);
     let refusal = unready(tally, fine, MEMBER_WORDS <= words.len());

@@ -1,37 +1,40 @@
 -- What each call answers: what it takes of the book, or the refusal, tested in document 01's order: 11 for the tally, 12, 11 for lent numbers, 1,
 -- then content by place. The lent lists stand as they came.
-use mathlib.Core.Path.{_≡_, refl}
 use mathlib.Core.Bool.{Bool, cond, _&&_}
 use mathlib.Core.List.{List}
-use Prim.Native.Nat.{ℕ, _+_, _*_, _<_}
+use Prim.Native.Nat.{ℕ, _+_, _*_}
 use lib.Dec.{eqb, leb, ltb}
 use lib.IntN.{ℤ}
 use lib.ListN.{length}
-use borrow.Author.Tests.{lt-ltb}
 use Rattle.rules.specs.declared.Refusal.{Refusal}
 use Rattle.rules.specs.declared.Refusal.the-variants.{OutOfTurn, TooShort}
 use Rattle.rules.specs.Quantities.{points}
 use Rattle.rules.specs.Refusals.{Reply, taken, refused, unless}
 use Rattle.rules.specs.Book.{Settings, Region, Unit, Requirement}
-use Rattle.rules.specs.Contents.{Counts, contents}
+use Rattle.rules.specs.Contents.{Counts}
 use Rattle.rules.specs.SettingsRecord.{settings}
 use Rattle.rules.specs.FrequencyRecord.{frequency-record}
 use Rattle.rules.specs.UnitRecord.{unit-record}
 use Rattle.rules.specs.RequirementRecord.{requirement-record}
 use Rattle.book.specs.declared.ContentsRead as b
-use Rattle.book.specs.declared.ContentsRead.{ContentsRead}
-use Rattle.book.specs.Contents.{contents-answer}
 use Rattle.book.specs.declared.SettingsRead as bs
-use Rattle.book.specs.declared.SettingsRead.{SettingsRead}
-use Rattle.book.specs.Settings.{settings-answer}
 use Rattle.book.specs.declared.RequirementRead as bq
-use Rattle.book.specs.declared.RequirementRead.{RequirementRead}
-use Rattle.book.specs.Requirement.{requirement-answer}
 use Rattle.interval.specs.declared.Tally.{Tally}
 use Rattle.interval.specs.declared.Opened as o
 use Rattle.interval.specs.declared.Taking as k
 use Rattle.interval.specs.declared.Step.{Step}
-use Rattle.interval.specs.Tally.{in-range, settings-turn, frequency-turn, unit-turn, requirement-turn, next-region, units-taken, units-end, book-end, most-records}
+use Rattle.interval.specs.Tally.{
+  in-range,
+  settings-turn,
+  frequency-turn,
+  unit-turn,
+  requirement-turn,
+  next-region,
+  units-taken,
+  units-end,
+  book-end,
+  most-records,
+}
 use Rattle.interval.specs.Lent.{series-length, figures-length, named-region, series-in-range}
 
 -- ---- the table of contents starts a tally
@@ -76,10 +79,6 @@ counted least t =
 unfoldable pub count-step : ℕ → Tally → Step
 count-step least t = cond (ltb (t .records) most-records) (taken-step (counted least t)) (refused-step t OutOfTurn)
 
-pub count-taken : (least : ℕ) (t : Tally) → t .records < most-records → count-step least t ≡ taken-step (counted least t)
-unfolding count-step
-count-taken least t h = rw (lt-ltb (t .records) most-records h)
-
 -- ---- settings
 unfoldable pub settings-reply : Tally → List ℕ → Reply Settings
 settings-reply t part = unless (in-range t && settings-turn t) OutOfTurn (settings part)
@@ -116,7 +115,8 @@ columns-room k numbers places raise lower defaults =
 
 abbrev pub series-room : List ℤ → List ℤ → List ℤ → List ℤ → List ℤ → Bool
 series-room readings deviations measures positive negative =
-    leb points (length readings) && (leb points (length deviations) && (leb series-length (length measures) && (leb series-length (length positive) && leb series-length (length negative))))
+    leb points (length readings) && (leb points (length deviations) && (leb series-length (length measures)
+    && (leb series-length (length positive) && leb series-length (length negative))))
 
 unfoldable pub unit-reply : Tally → List ℕ → List ℤ → List ℤ → List ℤ → List ℤ → List ℤ → List ℕ → List ℕ → List ℤ → List ℤ → List ℤ → Reply Unit
 unit-reply t part readings deviations measures positive negative numbers places raise lower defaults =
@@ -136,29 +136,3 @@ unit-counted t u = counted (least-after t (u .number)) t
 -- ---- a requirement
 unfoldable pub requirement-reply : Tally → List ℕ → Reply Requirement
 requirement-reply t part = unless (in-range t && requirement-turn t) OutOfTurn (requirement-record (t .least) (eqb (t .records + 1) (book-end t)) part)
-
--- ---- from what a reader of `book` answers
-abbrev pub opened-from : ContentsRead → o.Opened
-opened-from (b.the-variants.Taken c) = o.the-variants.Taken (fresh (record { units = c .units; requirements = c .requirements }))
-opened-from (b.the-variants.Refused r) = o.the-variants.Refused r
-
-pub opened-is : (reply : Reply Counts) → opened-from (contents-answer reply) ≡ opened reply
-opened-is (taken c) = refl
-opened-is (refused r) = refl
-
-abbrev pub settled-from : Tally → SettingsRead → Step
-settled-from t (bs.the-variants.Taken f) =
-    taken-step (settled t (record { smoothing = f .smoothing; limit = f .limit; percent = f .percent; interval = f .interval }))
-settled-from t (bs.the-variants.Refused r) = refused-step t r
-
-pub settled-is : (t : Tally) (reply : Reply Settings) → settled-from t (settings-answer reply) ≡ stepped (settled t) reply t
-settled-is t (taken s) = refl
-settled-is t (refused r) = refl
-
-abbrev pub required-from : Tally → RequirementRead → Step
-required-from t (bq.the-variants.Taken f) = taken-step (counted (f .number + 1) t)
-required-from t (bq.the-variants.Refused r) = refused-step t r
-
-pub required-is : (t : Tally) (reply : Reply Requirement) → required-from t (requirement-answer reply) ≡ stepped (λ q. counted (q .number + 1) t) reply t
-required-is t (taken q) = refl
-required-is t (refused r) = refl

@@ -1,6 +1,6 @@
 -- What the calls keep in lent lists. Series have 75 numbers a region, one region after the other; a region's figures are nine numbers; a unit has one
 -- number in each column, and six in the column of defaults.
-use mathlib.Core.Bool.{Bool, true, false, _&&_, cond}
+use mathlib.Core.Bool.{Bool, true, _&&_, cond}
 use mathlib.Core.List.{List, [], _∷_, _++_}
 use Prim.Native.Nat.{ℕ, zero, suc, _+_, _*_}
 use lib.Dec.{ltb}

@@ -1,7 +1,17 @@
 // Which tallies a call takes: in range, and at its turn. Every other is refused with 11.
 ghost use mathlib.Core.Path.{_≡_};
 ghost use mathlib.Core.Bool.{_&&_};
-ghost use Rattle.interval.specs.Tally.{in-range, settings-kept, settings-turn, frequency-turn, unit-turn, requirement-turn, answer-turn, units-end, book-end};
+ghost use Rattle.interval.specs.Tally.{
+  in-range,
+  settings-kept,
+  settings-turn,
+  frequency-turn,
+  unit-turn,
+  requirement-turn,
+  answer-turn,
+  units-end,
+  book-end,
+};
 use super::Tally;
 use rules::MOST_UNITS;
 

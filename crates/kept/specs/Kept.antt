@@ -14,7 +14,7 @@ use Rattle.rules.specs.declared.Direction.{Direction}
 use Rattle.rules.specs.declared.Direction.the-variants.{Raise, Lower}
 use Rattle.rules.specs.declared.Reason.the-variants.{BadUnit, NoGoodUnit}
 use Rattle.rules.specs.declared.Standing.{Standing}
-use Rattle.rules.specs.Quantities.{points, regions}
+use Rattle.rules.specs.Quantities.{points}
 use Rattle.rules.specs.Bytes.{listed}
 use Rattle.rules.specs.Book.{toward, Requirement, covers}
 use Rattle.rules.specs.Standings.{standing, live-or}
@@ -77,7 +77,13 @@ module _ (k : Kept) where
   row-value d field i = live-or (row-standing d i) (performance-of d i) (unit-default d field i)
 
   abbrev pub row-member : Direction → ℕ → Member
-  row-member d i = record { name = unit (getD (k .numbers) i 0); standing = row-standing d i; payment = row-value d 0 i; used = row-value d 1 i; unused = unit-default d 2 i }
+  row-member d i = record {
+    name = unit (getD (k .numbers) i 0);
+    standing = row-standing d i;
+    payment = row-value d 0 i;
+    used = row-value d 1 i;
+    unused = unit-default d 2 i;
+  }
 
   -- a region's units, its good ones, and its residual: minus the performances of the good ones
   abbrev pub units-in-region : ℕ → ℕ

@@ -1,14 +1,14 @@
 -- Laws of numbers in bytes: a number byte by byte and by parts, its bound, and its signed reading as a machine's.
 use mathlib.Core.Path.{_≡_, refl, sym, _∙_, ap}
 use mathlib.Core.List.{List, [], _∷_}
-use Prim.Native.Nat.{ℕ, zero, suc, _+_, _*_, _-_, _<_, _≤_, _^_}
+use Prim.Native.Nat.{ℕ, zero, suc, _+_, _*_, _<_, _≤_, _^_}
 use native.Mathlib.Numerals.{add-one}
 use native.Mathlib.Nat.{zero-add, add-zero, suc-add, mul-assoc, pow-succ'}
 use native.Mathlib.Omega.{arith}
 use lib.ListN.{length, getD, drop-of-length-le}
 use mir.Syntax.{w32, w64}
 use mir.Val.{toZ}
-use Rattle.integers.specs.Sums.{none-below}
+use Rattle.integers.proofs.Sums.{none-below}
 use Rattle.rules.specs.Bytes.{little, number-at, signed, listed}
 
 -- no bytes hold 0

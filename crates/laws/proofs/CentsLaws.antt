@@ -6,15 +6,18 @@ use mathlib.Core.Logic.{_⊎_, inl, inr}
 use Prim.Native.Nat.{ℕ, zero, suc, _+_, _*_, _-_, _≤_, _<_, min}
 use native.Mathlib.Nat.{div-lt-iff-lt-mul, mul-le-mul, mul-le-mul-left}
 use native.Mathlib.Omega.{arith}
-use lib.Dec.{eqb, leb}
+use lib.Dec.{eqb}
 use lib.IntN.{ℤ, pos, negsuc, negℤ, _-ℤ_, +ℤ-idl}
-use lib.ListN.{length, getD, length-map}
+use lib.ListN.{length, length-map}
 use borrow.Author.Tests.{leb-true}
-use Rattle.integers.specs.Pairs.{gain, loss, gain-negation, loss-negation}
+use Rattle.integers.specs.Pairs.{gain, loss}
+use Rattle.integers.proofs.Pairs.{gain-negation, loss-negation}
 use Rattle.integers.specs.Sums.{sumℕ}
-use Rattle.integers.specs.Nearest.{nearestℕ, nearestℕ-≤}
-use Rattle.integers.specs.Totals.{totalℕ, numbered, total-indexes, numbered-sum}
-use Rattle.rules.specs.Quantities.{total-limit, price-limit, cost-limit}
+use Rattle.integers.specs.Nearest.{nearestℕ}
+use Rattle.integers.proofs.Nearest.{nearestℕ-≤}
+use Rattle.integers.specs.Totals.{totalℕ, numbered}
+use Rattle.integers.proofs.Totals.{total-indexes, numbered-sum}
+use Rattle.rules.specs.Quantities.{total-limit, price-limit}
 use Rattle.rules.specs.Book.{Requirement, Book}
 use Rattle.rules.specs.Members.{Member, members}
 use Rattle.rules.specs.Share.{weight-at, share-of, unplaced-of}
@@ -23,7 +26,7 @@ use Rattle.rules.specs.Factors.{helpful, unhelpful}
 use Rattle.rules.specs.Rcr.{rcr, all-reliable}
 use Rattle.laws.proofs.RcrLaws.{rcr-within}
 use Rattle.rules.specs.Cents.{priced, any-weight, pool-of, used-pool-of, charge}
-use Rattle.rules.specs.Answer.{Line, Answer, lines-of, answered, answer}
+use Rattle.rules.specs.Answer.{Line, lines-of, answered, answer}
 use Rattle.laws.proofs.Limits.{RequirementFits, BookFits}
 
 -- ---- the pools are within the limit of T
@@ -32,7 +35,8 @@ priced-within price rcr hp hr = nearestℕ-near (price * rcr) (omega (arith, mul
   where
     nearestℕ-near : (a : ℕ) → a ≤ 76_800_000_000_000_000 → nearestℕ a 90_000 ≤ 853_333_333_333
     nearestℕ-near a h =
-        let l : nearestℕ a 90_000 < 853_333_333_334 = div-lt-iff-lt-mul {k = 180_000} {x = 2 * a + 90_000} {y = 853_333_333_334} (omega arith) .1 (omega arith) in
+        let l : nearestℕ a 90_000 < 853_333_333_334 = div-lt-iff-lt-mul {k = 180_000} {x = 2 * a + 90_000} {y = 853_333_333_334} (omega arith) .1
+        (omega arith) in
         omega arith
 
 pub pool-within : (b : Book) (q : Requirement) → BookFits b → RequirementFits q → pool-of q (rcr b q) (members b q) ≤ total-limit
@@ -99,9 +103,11 @@ over-members : (T : ℕ) (f : Member → ℕ) (ms : List Member) → sumℕ (len
 over-members T f ms = ap (λ (n : ℕ). sumℕ n (share-of T (map f ms))) (sym (length-map ms f))
 
 -- a field of the lines that charges a pool charges all of it but what is unplaced
-charged : (T : ℕ) (f : Member → ℕ) (field : Line → ℤ) (line : ℕ → Member → Line) → (ms : List Member) → ((i : ℕ) (m : Member) → field (line i m) ≡ charge T (map f ms) i) → totalℕ (λ l. loss (field l)) (numbered line ms) + unplaced-of T (map f ms) ≡ T
+charged : (T : ℕ) (f : Member → ℕ) (field : Line → ℤ) (line : ℕ → Member → Line) → (ms : List Member) →
+    ((i : ℕ) (m : Member) → field (line i m) ≡ charge T (map f ms) i) → totalℕ (λ l. loss (field l)) (numbered line ms) + unplaced-of T (map f ms) ≡ T
 charged T f field line ms e =
-    ap (λ (z : ℕ). z + unplaced-of T (map f ms)) (numbered-sum (λ l. loss (field l)) line (share-of T (map f ms)) (λ i m. ap loss (e i m) ∙ loss-negation (pos (share-of T (map f ms) i))) ms ∙ over-members T f ms)
+    ap (λ (z : ℕ). z + unplaced-of T (map f ms)) (numbered-sum (λ l. loss (field l)) line (share-of T (map f ms))
+    (λ i m. ap loss (e i m) ∙ loss-negation (pos (share-of T (map f ms) i))) ms ∙ over-members T f ms)
     ∙ placed-and-unplaced T (length (map f ms)) (weight-at (map f ms))
 
 -- ---- the cents meet
@@ -125,7 +131,8 @@ module _ (b : Book) (q : Requirement) where
   debits-full : sumℕ (length (unhelpful ms)) (share-of pool (unhelpful ms)) ≡ pool
   debits-full = go sides
     where
-      go : (pool ≡ 0) ⊎ ((any-weight (helpful ms) ≡ true) × (any-weight (unhelpful ms) ≡ true)) → sumℕ (length (unhelpful ms)) (share-of pool (unhelpful ms)) ≡ pool
+      go : (pool ≡ 0) ⊎ ((any-weight (helpful ms) ≡ true) × (any-weight (unhelpful ms) ≡ true)) →
+          sumℕ (length (unhelpful ms)) (share-of pool (unhelpful ms)) ≡ pool
       go (inl z) = shared-in-full pool (unhelpful ms) (inl z)
       go (inr s) = shared-in-full pool (unhelpful ms) (inr (s .1))
 

@@ -1,7 +1,6 @@
 -- What a record that was taken satisfies: each field is within its limit (01, The book). Laws of the rules ask for these facts and for nothing else of a book.
 use mathlib.Core.Path.{_≡_}
 use mathlib.Core.Bool.{true}
-use mathlib.Core.List.{List}
 use Prim.Native.Nat.{ℕ, _≤_, _<_}
 use lib.IntN.{ℤ, pos, _-ℤ_}
 use lib.ListN.{length, getD}
@@ -22,7 +21,7 @@ use Rattle.rules.specs.Quantities.{
   price-limit,
   cost-limit,
 }
-use Rattle.rules.specs.Book.{by, ByDirection, Settings, Defaults, Region, Unit, Requirement, Book, regionOf}
+use Rattle.rules.specs.Book.{by, Settings, Defaults, Region, Unit, Requirement, Book, regionOf}
 use Rattle.rules.specs.Fields.{good-at}
 
 pub record SettingsFit (s : Settings) : Type 0 where

@@ -1,28 +1,70 @@
 -- Every record that a reader takes is within its limits, and so is every book: what the laws of the rules ask for, the format gives.
-use mathlib.Core.Path.{_≡_, refl, sym, _∙_, ap, subst}
-use mathlib.Core.Bool.{Bool, true, false, not, cond, _&&_, _||_, false≢true}
-use mathlib.Core.List.{List, [], _∷_}
-use Prim.Native.Nat.{ℕ, zero, suc, _+_, _*_, _-_, _≤_, _<_}
+use mathlib.Core.Path.{_≡_, refl, ap, subst}
+use mathlib.Core.Bool.{Bool, true, false, not, _&&_, _||_, false≢true}
+use mathlib.Core.List.{List, _∷_}
+use Prim.Native.Nat.{ℕ, zero, suc, _+_, _*_, _≤_, _<_}
 use native.Mathlib.Omega.{arith}
 use lib.Dec.{leb, ltb, eqb}
-use lib.IntN.{ℤ, pos, negsuc, negℤ, natAbs, _-ℤ_}
+use lib.IntN.{ℤ, pos, negℤ, natAbs, _-ℤ_}
 use lib.ListN.{length, getD, drop}
 use lib.Signed.{leZ, _≤ℤ_}
-use borrow.Author.Tests.{leb-true, ltb-true, eqb-true}
-use Rattle.integers.specs.Pairs.{le!, v, neg, _⊖_, le-in}
-use Rattle.integers.specs.Bounds.{Within, within-both, within-wider}
-use Rattle.integers.specs.Tests.{leZ-true}
-use Rattle.integers.specs.Sums.{both, every, every-at, none-below}
+use borrow.Author.Tests.{leb-true, ltb-true}
+use Rattle.integers.proofs.Pairs.{le!, v, neg, _⊖_, le-in}
+use Rattle.integers.specs.Bounds.{Within}
+use Rattle.integers.proofs.Bounds.{within-both, within-wider}
+use Rattle.integers.proofs.Tests.{leZ-true}
+use Rattle.integers.specs.Sums.{both}
+use Rattle.integers.proofs.Sums.{every-at, none-below}
 use Rattle.integers.specs.Totals.{All}
 use Rattle.rules.specs.declared.Direction.{Direction}
 use Rattle.rules.specs.declared.Direction.the-variants.{Raise, Lower}
 use Rattle.rules.specs.declared.Refusal.{Refusal}
-use Rattle.rules.specs.declared.Refusal.the-variants.{EndsEarly, WrongMark, WrongTable, WrongCount, BytesFollow, SettingsField, FrequencyField, UnitField, UnitNotRising, RequirementField}
+use Rattle.rules.specs.declared.Refusal.the-variants.{
+  EndsEarly,
+  WrongMark,
+  WrongTable,
+  WrongCount,
+  BytesFollow,
+  SettingsField,
+  FrequencyField,
+  UnitField,
+  UnitNotRising,
+  RequirementField,
+}
 use Rattle.rules.specs.Bytes.{number-at}
-use Rattle.rules.specs.Quantities.{points, regions, most-units, most-requirements, price-limit, cost-limit, amount-limit, nominal, lowest-frequency, highest-frequency, measure-limit, power-limit, unit-default-limit, residual-default-limit}
+use Rattle.rules.specs.Quantities.{
+  points,
+  regions,
+  most-units,
+  most-requirements,
+  price-limit,
+  cost-limit,
+  amount-limit,
+  nominal,
+  lowest-frequency,
+  highest-frequency,
+  measure-limit,
+  power-limit,
+  unit-default-limit,
+  residual-default-limit,
+}
 use Rattle.rules.specs.Refusals.{Reply, taken, refused, unless, _>>=_}
-use Rattle.rules.specs.Book.{by, ByDirection, Settings, Defaults, Region, Unit, Requirement, Book, regionOf, no-region}
-use Rattle.rules.specs.Contents.{Counts, contents, contents-size, mark, entry, items, settings-size, frequency-start, frequency-size, unit-start, unit-size, requirement-start, requirement-size}
+use Rattle.rules.specs.Book.{by, ByDirection, Settings, Defaults, Region, Unit, Requirement, Book, no-region}
+use Rattle.rules.specs.Contents.{
+  Counts,
+  contents,
+  contents-size,
+  mark,
+  entry,
+  items,
+  settings-size,
+  frequency-start,
+  frequency-size,
+  unit-start,
+  unit-size,
+  requirement-start,
+  requirement-size,
+}
 use Rattle.rules.specs.SettingsRecord.{settings, settings-in, settings-fine}
 use Rattle.rules.specs.Fields.{good-at, spare-bits-zero, default-fine, three-fine, defaults-fine, sized}
 use Rattle.rules.specs.FrequencyRecord.{region-in, frequency-fine, frequencies-fine, frequency-record}
@@ -77,7 +119,8 @@ size-fits limit x e = record { size = leb-true (natAbs x) limit e }
 -- a frequency within its limits is within 5,000,000 of 50,000,000
 pub frequency-fits : (f : ℕ) → lowest-frequency ≤ f → f ≤ highest-frequency → Within measure-limit (pos nominal -ℤ pos f)
 frequency-fits f low high =
-    within-both (le! (neg (v (pos measure-limit))) (v (pos nominal) ⊖ v (pos f)) (omega arith)) (le! (v (pos nominal) ⊖ v (pos f)) (v (pos measure-limit)) (omega arith))
+    within-both (le! (neg (v (pos measure-limit))) (v (pos nominal) ⊖ v (pos f)) (omega arith))
+    (le! (v (pos nominal) ⊖ v (pos f)) (v (pos measure-limit)) (omega arith))
 
 -- ---- settings
 pub settings-fit : (bs : List ℕ) (s : Settings) → settings bs ≡ taken s → SettingsFit s
@@ -105,7 +148,8 @@ region-fits position bs r e =
     let values = passed (frequencies-fine (region-in bs)) FrequencyField _ r (defaults .1) in
     subst RegionFits (took (values .1)) (fit (region-in bs) (numbers .0) (defaults .0) (values .0))
   where
-    fit : (r : Region) → sized measure-limit (r .before) && leb (r .generation) amount-limit ≡ true → defaults-fine residual-default-limit (r .defaults) ≡ true → frequencies-fine r ≡ true → RegionFits r
+    fit : (r : Region) → sized measure-limit (r .before) && leb (r .generation) amount-limit ≡ true →
+        defaults-fine residual-default-limit (r .defaults) ≡ true → frequencies-fine r ≡ true → RegionFits r
     fit r n d f =
         let t = both (sized measure-limit (r .before)) (leb (r .generation) amount-limit) n in
         record {
@@ -158,19 +202,27 @@ pub requirement-fits : (least : ℕ) (last : Bool) (bs : List ℕ) (q : Requirem
 unfolding requirement-record
 requirement-fits least last bs q e =
     let whole = passed (leb requirement-size (length bs)) EndsEarly _ q e in
-    let fields = passed (leb least (requirement-in bs .number) && leb (number-at 1 3 bs) 1 && requirement-fine (requirement-in bs)) RequirementField _ q (whole .1) in
+    let fields = passed (leb least (requirement-in bs .number) && leb (number-at 1 3 bs) 1 && requirement-fine (requirement-in bs)) RequirementField _ q
+    (whole .1) in
     let last = passed (not last || eqb (length bs) requirement-size) BytesFollow _ q (fields .1) in
     let fine = both (leb least (requirement-in bs .number) && leb (number-at 1 3 bs) 1) (requirement-fine (requirement-in bs)) (fields .0) in
     subst RequirementFits (took (last .1)) (fit (requirement-in bs) (fine .1))
   where
     fit : (q : Requirement) → requirement-fine q ≡ true → RequirementFits q
     fit q h =
-        let used = both (set-fine (q .set) && leb (q .price) price-limit && leb (q .cost) cost-limit && leb (q .enabled) amount-limit) (leb (q .used) amount-limit) h in
+        let used = both (set-fine (q .set) && leb (q .price) price-limit && leb (q .cost) cost-limit && leb (q .enabled) amount-limit)
+        (leb (q .used) amount-limit) h in
         let enabled = both (set-fine (q .set) && leb (q .price) price-limit && leb (q .cost) cost-limit) (leb (q .enabled) amount-limit) (used .0) in
         let cost = both (set-fine (q .set) && leb (q .price) price-limit) (leb (q .cost) cost-limit) (enabled .0) in
         let price = both (set-fine (q .set)) (leb (q .price) price-limit) (cost .0) in
         let set = both (leb 1 (q .set)) (leb (q .set) 31) (price .0) in
-        record { set = leb-true _ _ (set .1); price = leb-true _ _ (price .1); cost = leb-true _ _ (cost .1); enabled = leb-true _ _ (enabled .1); used = leb-true _ _ (used .1) }
+        record {
+          set = leb-true _ _ (set .1);
+          price = leb-true _ _ (price .1);
+          cost = leb-true _ _ (cost .1);
+          enabled = leb-true _ _ (enabled .1);
+          used = leb-true _ _ (used .1);
+        }
 
 -- ---- bodies and book
 units-fit : (n least : ℕ) (bs : List ℕ) (us : List Unit) → unit-body n least bs ≡ taken us → All UnitFits us × (length us ≡ n)
@@ -188,9 +240,11 @@ regions-fit zero r bs rs e i l = none-below i l
 regions-fit (suc n) r bs rs e i l =
     let first = went-on (frequency-record r bs) _ rs e in
     let rest = went-on (frequency-body n (suc r) (drop frequency-size bs)) _ rs (first .2) in
-    subst (λ (rs : List Region). RegionFits (getD rs i no-region)) (took (rest .2)) (at (first .0) (rest .0) i l (region-fits r bs (first .0) (first .1)) (λ j. regions-fit n (suc r) (drop frequency-size bs) (rest .0) (rest .1) j))
+    subst (λ (rs : List Region). RegionFits (getD rs i no-region)) (took (rest .2))
+    (at (first .0) (rest .0) i l (region-fits r bs (first .0) (first .1)) (λ j. regions-fit n (suc r) (drop frequency-size bs) (rest .0) (rest .1) j))
   where
-    at : (x : Region) (xs : List Region) (i : ℕ) → i < suc n → RegionFits x → ((j : ℕ) → j < n → RegionFits (getD xs j no-region)) → RegionFits (getD (x ∷ xs) i no-region)
+    at : (x : Region) (xs : List Region) (i : ℕ) → i < suc n → RegionFits x → ((j : ℕ) → j < n → RegionFits (getD xs j no-region)) →
+        RegionFits (getD (x ∷ xs) i no-region)
     at x xs zero l h t = h
     at x xs (suc i) l h t = t i (omega arith)
 
@@ -200,10 +254,12 @@ requirements-fit zero least bs qs e = subst (λ (l : List Requirement). All Requ
 requirements-fit (suc n) least bs qs e =
     let first = went-on (requirement-record least (eqb n 0) bs) _ qs e in
     let rest = went-on (requirement-body n (suc (first .0 .number)) (drop requirement-size bs)) _ qs (first .2) in
-    subst (λ (l : List Requirement). All RequirementFits l) (took (rest .2)) (requirement-fits least (eqb n 0) bs (first .0) (first .1), requirements-fit n (suc (first .0 .number)) (drop requirement-size bs) (rest .0) (rest .1))
+    subst (λ (l : List Requirement). All RequirementFits l) (took (rest .2))
+    (requirement-fits least (eqb n 0) bs (first .0) (first .1), requirements-fit n (suc (first .0 .number)) (drop requirement-size bs) (rest .0) (rest .1))
 
 -- the table announces at most 512 units
-entry-passed : {A : Type 0} (place kind least most start size : ℕ) (bs : List ℕ) (rest : Reply A) (a : A) → entry place kind least most start size bs rest ≡ taken a → (items place bs ≤ most) × (rest ≡ taken a)
+entry-passed : {A : Type 0} (place kind least most start size : ℕ) (bs : List ℕ) (rest : Reply A) (a : A) →
+    entry place kind least most start size bs rest ≡ taken a → (items place bs ≤ most) × (rest ≡ taken a)
 entry-passed place kind least most start size bs rest a e =
     let named = passed (eqb (number-at 2 place bs) kind) WrongTable _ a e in
     let counts = passed (leb least (items place bs) && leb (items place bs) most) WrongCount _ a (named .1) in

@@ -1,17 +1,20 @@
 -- Laws of the members: their weights sum to at most 6,010,000,000,000,000,000, so no book meets the share's limit on W.
-use mathlib.Core.Path.{_≡_, refl, sym, _∙_, ap}
-use mathlib.Core.Bool.{Bool, true, false, cond}
-use mathlib.Core.List.{List, [], _∷_, _++_, map}
-use Prim.Native.Nat.{ℕ, zero, suc, _+_, _*_, _≤_, _<_}
+use mathlib.Core.Path.{_≡_, _∙_}
+use mathlib.Core.Bool.{Bool, true, false}
+use mathlib.Core.List.{List, [], _∷_, map}
+use Prim.Native.Nat.{ℕ, suc, _+_, _*_, _≤_, _<_}
 use native.Mathlib.Nat.{mul-le-mul-right, add-mul}
 use native.Mathlib.Omega.{arith}
 use lib.Dec.{eqb}
-use lib.IntN.{ℤ, pos, negℤ, natAbs, _+ℤ_}
+use lib.IntN.{ℤ, natAbs}
 use lib.ListN.{length, getD}
 use Rattle.integers.specs.Pairs.{gain, loss}
-use Rattle.integers.specs.Bounds.{Within, abs-add, abs-neg, gain-≤, loss-≤}
-use Rattle.integers.specs.Sums.{one, sum, sumℕ, count, when, count-one, sum-size, sumℕ-plus, sumℕ-times}
-use Rattle.integers.specs.Totals.{total, totalℕ, those, All, total-those, totalℕ-map, totalℕ-++, totalℕ-≤, totalℕ-those-≤}
+use Rattle.integers.specs.Bounds.{Within}
+use Rattle.integers.proofs.Bounds.{abs-add, abs-neg, gain-≤, loss-≤}
+use Rattle.integers.specs.Sums.{one, sumℕ, when}
+use Rattle.integers.proofs.Sums.{count-one, sum-size, sumℕ-plus, sumℕ-times}
+use Rattle.integers.specs.Totals.{total, totalℕ, All}
+use Rattle.integers.proofs.Totals.{total-those, totalℕ-map, totalℕ-++, totalℕ-≤, totalℕ-those-≤}
 use Rattle.rules.specs.declared.Direction.{Direction}
 use Rattle.rules.specs.declared.Standing.{Standing}
 use Rattle.rules.specs.declared.Standing.the-variants.{Live, Default}
@@ -20,7 +23,7 @@ use Rattle.rules.specs.Book.{by, Defaults, Unit, Requirement, covers, Book, reg
 use Rattle.rules.specs.Fields.{good-at}
 use Rattle.rules.specs.Measure.{measure-in}
 use Rattle.laws.proofs.MeasureLaws.{measure-within}
-use Rattle.rules.specs.Deviation.{deviation, good, units-in}
+use Rattle.rules.specs.Deviation.{deviation, good}
 use Rattle.laws.proofs.DeviationLaws.{deviation-within}
 use Rattle.rules.specs.Performance.{performance, units-of, unit-performance, residual-performance}
 use Rattle.laws.proofs.PerformanceLaws.{performance-within, residual-is}
@@ -32,7 +35,8 @@ use Rattle.laws.proofs.Limits.{DefaultsFit, UnitFits, BookFits}
 
 -- ---- sizes
 -- the total of what some of those pass that count is at most k for each that counts
-counted-size : {A : Type 0} (P : A → Type 0) (k : ℕ) (p g : A → Bool) (f : A → ℤ) → ((x : A) → P x → Within k (f x)) → (xs : List A) → All P xs → natAbs (total (λ x. when (p x) (when (g x) (f x))) xs) ≤ totalℕ (λ x. one (p x)) xs * k
+counted-size : {A : Type 0} (P : A → Type 0) (k : ℕ) (p g : A → Bool) (f : A → ℤ) → ((x : A) → P x → Within k (f x)) → (xs : List A) → All P xs →
+    natAbs (total (λ x. when (p x) (when (g x) (f x))) xs) ≤ totalℕ (λ x. one (p x)) xs * k
 unfolding All total totalℕ
 counted-size P k p g f h [] a = omega arith
 counted-size P k p g f h (x ∷ xs) a =
@@ -54,7 +58,12 @@ in-one-region : (us : List Unit) → sumℕ regions (λ r. totalℕ (λ u. one (
 unfolding totalℕ sumℕ
 in-one-region [] = omega arith
 in-one-region (u ∷ us) =
-    omega (arith, sumℕ-plus regions (λ r. one (eqb r (u .region))) (λ r. totalℕ (λ u. one (eqb r (u .region))) us), count-one regions (u .region), in-one-region us)
+    omega (
+      arith,
+      sumℕ-plus regions (λ r. one (eqb r (u .region))) (λ r. totalℕ (λ u. one (eqb r (u .region))) us),
+      count-one regions (u .region),
+      in-one-region us,
+    )
 
 live-or-within : {k : ℕ} (s : Standing) (x y : ℤ) → Within k x → Within k y → Within k (live-or s x y)
 live-or-within Live x y hx hy = hx
@@ -64,18 +73,26 @@ module _ (b : Book) (h : BookFits b) where
   pub measure-in-within : (r : ℕ) → r < regions → (t : ℕ) → t < points → Within measure-limit (measure-in b r t)
   measure-in-within r l t k =
       let f = h .region r l in
-      measure-within (b .settings .smoothing) (good-at (regionOf b r .quality)) (λ i. getD (regionOf b r .frequency) i 0) (regionOf b r .before) (h .settings .smoothing) (f .before) (f .frequency) (suc t) (omega arith)
+      measure-within (b .settings .smoothing) (good-at (regionOf b r .quality)) (λ i. getD (regionOf b r .frequency) i 0) (regionOf b r .before)
+      (h .settings .smoothing) (f .before) (f .frequency) (suc t) (omega arith)
 
   -- a unit's performance by any region's measures
-  pub unit-performance-within : (u : Unit) → UnitFits u → (d : Direction) (r : ℕ) → r < regions → Within performance-limit (performance d (measure-in b r) (deviation u))
+  pub unit-performance-within : (u : Unit) → UnitFits u → (d : Direction) (r : ℕ) → r < regions →
+      Within performance-limit (performance d (measure-in b r) (deviation u))
   unit-performance-within u f d r l =
       performance-within d (measure-in b r) (deviation u) (measure-in-within r l) (deviation-within u (f .start) (f .end) (f .reading))
 
   -- a region's residual performance is at most that for each of its units
-  pub residual-performance-size : (d : Direction) (r : ℕ) → r < regions → natAbs (residual-performance b d r) ≤ totalℕ (λ u. one (eqb r (u .region))) (b .roster) * performance-limit
+  pub residual-performance-size : (d : Direction) (r : ℕ) → r < regions →
+      natAbs (residual-performance b d r) ≤ totalℕ (λ u. one (eqb r (u .region))) (b .roster) * performance-limit
   unfolding residual-performance
   residual-performance-size d r l =
-      rw (residual-is d (measure-in b r) (units-of b r), abs-neg, total-those good (λ u. performance d (measure-in b r) (deviation u)) (units-of b r), total-those (λ u. eqb r (u .region)) _ (b .roster))
+      rw (
+        residual-is d (measure-in b r) (units-of b r),
+        abs-neg,
+        total-those good (λ u. performance d (measure-in b r) (deviation u)) (units-of b r),
+        total-those (λ u. eqb r (u .region)) _ (b .roster),
+      )
       (counted-size UnitFits performance-limit (λ u. eqb r (u .region)) good _ (λ u f. unit-performance-within u f d r l) (b .roster) (h .roster))
 
 -- ---- the members' weights, by the default that stands in: `field` is payment or used
@@ -83,17 +100,21 @@ module _ (b : Book) (q : Requirement) (h : BookFits b) (field : Defaults → ℤ
   abbrev d : Direction
   d = q .direction
 
-  units-size : totalℕ (λ u. natAbs (live-or (unit-standing b d u) (unit-performance b d u) (field (by d (u .defaults))))) (unit-members b q) ≤ length (b .roster) * performance-limit
+  units-size : totalℕ (λ u. natAbs (live-or (unit-standing b d u) (unit-performance b d u) (field (by d (u .defaults))))) (unit-members b q) ≤ length
+      (b .roster) * performance-limit
   unfolding unit-performance
   units-size =
-      totalℕ-those-≤ UnitFits performance-limit _ _ (λ u f. live-or-within (unit-standing b d u) _ _ (unit-performance-within b h u f d (u .region) (f .region)) (fits unit-default-limit (by d (u .defaults)) (f .defaults d)) .size) (b .roster) (h .roster)
+      totalℕ-those-≤ UnitFits performance-limit _ _ (λ u f. live-or-within (unit-standing b d u) _ _ (unit-performance-within b h u f d (u .region) (f .region))
+      (fits unit-default-limit (by d (u .defaults)) (f .defaults d)) .size) (b .roster) (h .roster)
 
   residual-size : natAbs (over-regions q (residual-or b d field)) ≤ length (b .roster) * performance-limit + 250_000_000_000_000_000
   unfolding sumℕ
   residual-size =
       omega (
         arith,
-        sum-size regions (λ r. when (covers q r) (residual-or b d field r)) (λ r. n r * performance-limit + residual-default-limit) (λ r l. each (covers q r) (residual-standing b d r) (residual-performance b d r) (field (by d (regionOf b r .defaults))) (n r * performance-limit) (residual-performance-size b h d r l) (fits residual-default-limit (by d (regionOf b r .defaults)) (h .region r l .defaults d))),
+        sum-size regions (λ r. when (covers q r) (residual-or b d field r)) (λ r. n r * performance-limit + residual-default-limit)
+            (λ r l. each (covers q r) (residual-standing b d r) (residual-performance b d r) (field (by d (regionOf b r .defaults))) (n r * performance-limit)
+            (residual-performance-size b h d r l) (fits residual-default-limit (by d (regionOf b r .defaults)) (h .region r l .defaults d))),
         sumℕ-plus regions (λ r. n r * performance-limit) (λ r. residual-default-limit),
         sumℕ-times regions performance-limit n,
         mul-le-mul-right performance-limit (in-one-region (b .roster)),
@@ -102,7 +123,8 @@ module _ (b : Book) (q : Requirement) (h : BookFits b) (field : Defaults → ℤ
       n : ℕ → ℕ
       n r = totalℕ (λ u. one (eqb r (u .region))) (b .roster)
 
-      each : (t : Bool) (s : Standing) (x y : ℤ) (k : ℕ) → natAbs x ≤ k → Within residual-default-limit y → natAbs (when t (live-or s x y)) ≤ k + residual-default-limit
+      each : (t : Bool) (s : Standing) (x y : ℤ) (k : ℕ) → natAbs x ≤ k → Within residual-default-limit y →
+          natAbs (when t (live-or s x y)) ≤ k + residual-default-limit
       each true Live x y k hx hy = omega arith
       each true (Default why) x y k hx hy = omega (arith, hy .size)
       each false s x y k hx hy = omega arith
@@ -145,8 +167,10 @@ module _ (b : Book) (q : Requirement) where
         omega (
           arith,
           members-total (λ m. natAbs (m .unused)),
-          totalℕ-those-≤ UnitFits unit-default-limit (λ u. covers q (u .region)) (λ u. natAbs (by d (u .defaults) .unused)) (λ u f. f .defaults d .unused .size .size) (b .roster) (h .roster),
-          sum-size regions (λ r. when (covers q r) (by d (regionOf b r .defaults) .unused)) (λ r. residual-default-limit) (λ r l. counted (covers q r) (by d (regionOf b r .defaults) .unused) (h .region r l .defaults d .unused .size)),
+          totalℕ-those-≤ UnitFits unit-default-limit (λ u. covers q (u .region)) (λ u. natAbs (by d (u .defaults) .unused))
+              (λ u f. f .defaults d .unused .size .size) (b .roster) (h .roster),
+          sum-size regions (λ r. when (covers q r) (by d (regionOf b r .defaults) .unused)) (λ r. residual-default-limit)
+              (λ r l. counted (covers q r) (by d (regionOf b r .defaults) .unused) (h .region r l .defaults d .unused .size)),
           h .few,
         )
       where
@@ -155,7 +179,8 @@ module _ (b : Book) (q : Requirement) where
         counted false z w = omega arith
 
 -- ---- so each list of weights is within the limit of W
-weights-fit : (g : ℤ → ℕ) → ((z : ℤ) → g z ≤ natAbs z) → (f : Member → ℤ) (ms : List Member) → totalℕ (λ m. natAbs (f m)) ms ≤ weight-limit → totalℕ (λ w. w) (map (λ m. g (f m)) ms) ≤ weight-limit
+weights-fit : (g : ℤ → ℕ) → ((z : ℤ) → g z ≤ natAbs z) → (f : Member → ℤ) (ms : List Member) → totalℕ (λ m. natAbs (f m)) ms ≤ weight-limit →
+    totalℕ (λ w. w) (map (λ m. g (f m)) ms) ≤ weight-limit
 weights-fit g le f ms h = rw (totalℕ-map (λ w. w) (λ m. g (f m)) ms) (omega (arith, totalℕ-≤ (λ m. g (f m)) (λ m. natAbs (f m)) (λ m. le (f m)) ms))
 
 module _ (b : Book) (q : Requirement) (h : BookFits b) where

@@ -1,21 +1,22 @@
 -- Laws of RCR: at a point it is the larger of the sum of positive and the sum of negative deviations, and it stays within 7,680,000,000.
-use mathlib.Core.Path.{_≡_, refl, sym, _∙_, ap, ap₂}
+use mathlib.Core.Path.{_≡_, refl, sym, _∙_, ap}
 use mathlib.Core.Bool.{Bool, true, false, cond, _&&_}
-use mathlib.Core.List.{List, [], _∷_}
-use Prim.Native.Nat.{ℕ, zero, suc, _+_, _*_, _≤_, _<_, max}
-use native.Mathlib.Nat.{add-mul, mul-le-mul-right}
+use mathlib.Core.List.{List}
+use Prim.Native.Nat.{ℕ, _+_, _*_, _≤_, _<_, max}
 use native.Mathlib.Omega.{arith}
-use lib.IntN.{ℤ, pos, negℤ, natAbs, negℤ-negℤ}
+use lib.IntN.{ℤ, negℤ, natAbs}
 use lib.ListN.{length}
 use Rattle.integers.specs.Pairs.{gain, loss}
-use Rattle.integers.specs.Bounds.{Within, gain-≤, loss-≤, abs-neg}
-use Rattle.integers.specs.Sums.{largest, largest-≤}
-use Rattle.integers.specs.Totals.{total, totalℕ, those, All, total-negation, total-larger, totalℕ-those-≤, those-length, all-those}
+use Rattle.integers.proofs.Bounds.{gain-≤, loss-≤, abs-neg}
+use Rattle.integers.specs.Sums.{largest}
+use Rattle.integers.proofs.Sums.{largest-≤}
+use Rattle.integers.specs.Totals.{total, totalℕ, All}
+use Rattle.integers.proofs.Totals.{total-negation, total-larger, totalℕ-those-≤, those-length, all-those}
 use Rattle.rules.specs.declared.Direction.{Direction}
 use Rattle.rules.specs.declared.Direction.the-variants.{Raise, Lower}
 use Rattle.rules.specs.Quantities.{points, deviation-limit}
 use Rattle.rules.specs.Book.{toward, Unit, Requirement, covers, Book}
-use Rattle.rules.specs.Deviation.{deviation, good, good-units, units-in, residual-deviation}
+use Rattle.rules.specs.Deviation.{deviation, good, good-units}
 use Rattle.laws.proofs.DeviationLaws.{deviation-within}
 use Rattle.laws.proofs.Limits.{UnitFits, BookFits}
 use Rattle.rules.specs.Members.{unit-members}
@@ -35,10 +36,12 @@ toward-size Raise x = refl
 toward-size Lower x = abs-neg x
 
 -- ---- the larger of the two sums, seen in the direction
-pub response-is : (d : Direction) (us : List Unit) (t : ℕ) → response d us t ≡ max (totalℕ (λ u. gain (toward d (deviation u t))) (good-units us)) (totalℕ (λ u. loss (toward d (deviation u t))) (good-units us))
+pub response-is : (d : Direction) (us : List Unit) (t : ℕ) → response d us t ≡ max (totalℕ (λ u. gain (toward d (deviation u t))) (good-units us))
+    (totalℕ (λ u. loss (toward d (deviation u t))) (good-units us))
 unfolding response
 response-is d us t =
-    ap (λ (z : ℤ). totalℕ (λ u. gain (toward d (deviation u t))) (good-units us) + gain z) (toward-negation d (total (λ u. deviation u t) (good-units us)) ∙ ap negℤ (toward-total d (λ u. deviation u t) (good-units us)))
+    ap (λ (z : ℤ). totalℕ (λ u. gain (toward d (deviation u t))) (good-units us) + gain z)
+    (toward-negation d (total (λ u. deviation u t) (good-units us)) ∙ ap negℤ (toward-total d (λ u. deviation u t) (good-units us)))
     ∙ total-larger (λ u. toward d (deviation u t)) (good-units us)
 
 -- ---- its size
@@ -68,7 +71,12 @@ rcr-within b q h = go (all-reliable b q && few-bad (b .settings .percent) us)
 
     at : (t : ℕ) → t < points → (right : Bool) → cond right (response (q .direction) us t) 0 ≤ 7_680_000_000
     at t l true =
-        omega (arith, response-≤ (q .direction) t l us (all-those UnitFits (λ u. covers q (u .region)) (b .roster) (h .roster)), those-length (λ u. covers q (u .region)) (b .roster), h .few)
+        omega (
+          arith,
+          response-≤ (q .direction) t l us (all-those UnitFits (λ u. covers q (u .region)) (b .roster) (h .roster)),
+          those-length (λ u. covers q (u .region)) (b .roster),
+          h .few,
+        )
     at t l false = omega arith
 
     go : (t : Bool) → cond t (largest points (λ t. cond (right-sign b q t) (response (q .direction) us t) 0)) 0 ≤ 7_680_000_000

@@ -3,16 +3,15 @@
 -- nothing else looks at `ahead`.
 use mathlib.Core.Path.{_≡_, refl, sym, _∙_, ap}
 use mathlib.Core.Bool.{Bool, true, false, not, cond, _&&_, _||_}
-use mathlib.Core.List.{List}
-use Prim.Native.Nat.{ℕ, zero, suc, _+_, _*_, _-_, _/_, _%_, _≤_, _<_}
+use Prim.Native.Nat.{ℕ, zero, suc, _+_, _*_, _≤_, _<_}
 use native.Mathlib.Omega.{arith}
 use native.Mathlib.Nat.{div-add-mod', mod-lt, le-of-mul-le-mul-right, lt-of-mul-lt-mul-right, add-mul, mul-zero, zero-mod}
 use lib.Dec.{leb, ltb, eqb}
-use lib.ListN.{length, getD}
 use borrow.Author.Tests.{ltb-true, ltb-false, lt-ltb, le-ltb, leb-true, eqb-true, eqb-false, ne-eqb}
-use Rattle.integers.specs.Sums.{one, sumℕ, count, sumℕ-ext, sumℕ-zero, sumℕ-plus, sumℕ-times, sumℕ-scale, sumℕ-≤, sumℕ-<, some-term, one-≤, one-mono, count-≤, count-below}
-use Rattle.integers.specs.Ranks.{rank, Total, ranked}
-use Rattle.integers.specs.Division.{taken-≤, taken-rest}
+use Rattle.integers.specs.Sums.{one, sumℕ, count}
+use Rattle.integers.proofs.Sums.{sumℕ-ext, sumℕ-zero, sumℕ-plus, sumℕ-times, sumℕ-scale, sumℕ-≤, sumℕ-<, some-term, one-≤, one-mono, count-≤, count-below}
+use Rattle.integers.proofs.Ranks.{rank, Total, ranked}
+use Rattle.integers.proofs.Division.{taken-≤, taken-rest}
 use Rattle.rules.specs.Share.{weight-sum, whole, remainder, left-over, ahead, given, amount, unplaced, with-weight}
 
 -- ---- who comes first
@@ -65,7 +64,8 @@ module _ (r : ℕ → ℕ) where
   -- before a member above a bound come fewer than are above it
   pub rank-above : (n i bound : ℕ) → i < n → bound < r i → rank (ahead r) n i < count n (λ j. ltb bound (r j))
   rank-above n i bound h l =
-      sumℕ-< n _ _ (λ j _. one-mono (ahead r j i) (ltb bound (r j)) (λ p. lt-ltb bound (r j) (omega (arith, ahead-means j i p, one-≤ (ltb j i))))) i h (rw (first-come .nobody i, lt-ltb bound (r i) l) (omega arith))
+      sumℕ-< n _ _ (λ j _. one-mono (ahead r j i) (ltb bound (r j)) (λ p. lt-ltb bound (r j) (omega (arith, ahead-means j i p, one-≤ (ltb j i))))) i h
+      (rw (first-come .nobody i, lt-ltb bound (r i) l) (omega arith))
 
   -- before one at the bound come those above it, and the earlier ones at it
   pub rank-at : (n i bound : ℕ) → i < n → r i ≡ bound → rank (ahead r) n i ≡ count n (λ j. ltb bound (r j)) + count i (λ j. eqb (r j) bound)
@@ -112,7 +112,8 @@ module _ (T n : ℕ) (w : ℕ → ℕ) (h : 0 < weight-sum n w) where
   -- what is left over is at most the number of members with a remainder
   pub left-overs-remain : left-over T n w ≤ count n (λ i. ltb 0 (remainder T n w i))
   left-overs-remain =
-      le-of-mul-le-mul-right (rw (left-over-is, ← sumℕ-times n (weight-sum n w) (λ i. one (ltb 0 (remainder T n w i)))) (sumℕ-≤ n _ _ (λ i _. part (remainder T n w i) (mod-lt (T * w i) h)))) h
+      le-of-mul-le-mul-right (rw (left-over-is, ← sumℕ-times n (weight-sum n w) (λ i. one (ltb 0 (remainder T n w i))))
+      (sumℕ-≤ n _ _ (λ i _. part (remainder T n w i) (mod-lt (T * w i) h)))) h
     where
       part : (r : ℕ) → r < weight-sum n w → r ≤ one (ltb 0 r) * weight-sum n w
       part r l = go (ltb 0 r) refl
@@ -129,7 +130,8 @@ module _ (T n : ℕ) (w : ℕ → ℕ) (h : 0 < weight-sum n w) where
   pub given-count : count n (given T n w) ≡ left-over T n w
   unfolding given
   given-count =
-      ranked (ahead (remainder T n w)) (first-come (remainder T n w)) n (left-over T n w) (omega (arith, left-overs-remain, count-≤ n (λ i. ltb 0 (remainder T n w i))))
+      ranked (ahead (remainder T n w)) (first-come (remainder T n w)) n (left-over T n w)
+      (omega (arith, left-overs-remain, count-≤ n (λ i. ltb 0 (remainder T n w i))))
 
   pub whole-and-rest : sumℕ n (whole T n w) + left-over T n w ≡ T
   unfolding left-over
@@ -153,14 +155,16 @@ module _ (T n : ℕ) (w : ℕ → ℕ) (h : 0 < weight-sum n w) where
       go false e =
           let z = ltb-false 0 (remainder T n w i) e in
           let m : count n (λ j. ltb 0 (remainder T n w j)) ≤ rank (ahead (remainder T n w)) n i =
-          sumℕ-≤ n _ _ (λ j _. one-mono (ltb 0 (remainder T n w j)) (ahead (remainder T n w) j i) (λ p. is-ahead (remainder T n w) j i (omega (arith, ltb-true 0 (remainder T n w j) p)))) in
+          sumℕ-≤ n _ _ (λ j _. one-mono (ltb 0 (remainder T n w j)) (ahead (remainder T n w) j i)
+          (λ p. is-ahead (remainder T n w) j i (omega (arith, ltb-true 0 (remainder T n w j) p)))) in
           absurd (omega (arith, left-overs-remain, ltb-true (rank (ahead (remainder T n w)) n i) (left-over T n w) g))
 
   -- every amount is less than one unit away from its exact share T·weight/W
   pub amount-close : (i : ℕ) → (amount T n w i * weight-sum n w < T * w i + weight-sum n w) × (T * w i < amount T n w i * weight-sum n w + weight-sum n w)
   amount-close i = rw (amount-is i) (go (given T n w i) refl)
     where
-      go : (t : Bool) → given T n w i ≡ t → ((whole T n w i + one t) * weight-sum n w < T * w i + weight-sum n w) × (T * w i < (whole T n w i + one t) * weight-sum n w + weight-sum n w)
+      go : (t : Bool) → given T n w i ≡ t → ((whole T n w i + one t) * weight-sum n w < T * w i + weight-sum n w) ×
+          (T * w i < (whole T n w i + one t) * weight-sum n w + weight-sum n w)
       go true e = omega (arith, div-add-mod' (T * w i) (weight-sum n w), mod-lt (T * w i) h, add-mul (whole T n w i) 1 (weight-sum n w), given-remainder i e)
       go false e = omega (arith, div-add-mod' (T * w i) (weight-sum n w), mod-lt (T * w i) h, add-mul (whole T n w i) 0 (weight-sum n w))
 
@@ -169,7 +173,8 @@ module _ (T n : ℕ) (w : ℕ → ℕ) (h : 0 < weight-sum n w) where
   pub left-overs-few : left-over T n w < with-weight T n w
   left-overs-few =
       let k = some-term n w h in
-      lt-of-mul-lt-mul-right (weight-sum n w) (rw (left-over-is T n w h, ← sumℕ-times n (weight-sum n w) (λ i. one (ltb 0 (w i)))) (sumℕ-< n _ _ (λ i _. part i) (k .0) (k .1) (rw (lt-ltb 0 (w (k .0)) (k .2)) (omega (arith, mod-lt (T * w (k .0)) h)))))
+      lt-of-mul-lt-mul-right (weight-sum n w) (rw (left-over-is T n w h, ← sumℕ-times n (weight-sum n w) (λ i. one (ltb 0 (w i))))
+      (sumℕ-< n _ _ (λ i _. part i) (k .0) (k .1) (rw (lt-ltb 0 (w (k .0)) (k .2)) (omega (arith, mod-lt (T * w (k .0)) h)))))
     where
       part : (i : ℕ) → remainder T n w i ≤ one (ltb 0 (w i)) * weight-sum n w
       part i = go (ltb 0 (w i)) refl
@@ -193,7 +198,8 @@ one-more rest bound place left = ltb bound rest || eqb rest bound && ltb place l
 
 module _ (T n : ℕ) (w : ℕ → ℕ) {bound above : ℕ} (c : Cut T n w bound above) where
   -- so the cut says who gets one more
-  pub given-by-cut : (i : ℕ) → i < n → given T n w i ≡ one-more (remainder T n w i) bound (above + count i (λ j. eqb (remainder T n w j) bound)) (left-over T n w)
+  pub given-by-cut : (i : ℕ) → i < n → given T n w i ≡ one-more (remainder T n w i) bound (above + count i (λ j. eqb (remainder T n w j) bound))
+      (left-over T n w)
   unfolding given
   given-by-cut i h = go (ltb bound (r i)) refl (eqb (r i) bound) refl
     where
@@ -203,13 +209,20 @@ module _ (T n : ℕ) (w : ℕ → ℕ) {bound above : ℕ} (c : Cut T n w bound 
       place : ℕ
       place = above + count i (λ j. eqb (r j) bound)
 
-      go : (s : Bool) → ltb bound (r i) ≡ s → (t : Bool) → eqb (r i) bound ≡ t → ltb (rank (ahead r) n i) (left-over T n w) ≡ (s || t && ltb place (left-over T n w))
+      go : (s : Bool) → ltb bound (r i) ≡ s → (t : Bool) → eqb (r i) bound ≡ t →
+          ltb (rank (ahead r) n i) (left-over T n w) ≡ (s || t && ltb place (left-over T n w))
       go true e t f =
           lt-ltb (rank (ahead r) n i) (left-over T n w) (omega (arith, rank-above r n i bound h (ltb-true bound (r i) e), c .exact, c .few))
       go false e true f =
-          ap (λ (m : ℕ). ltb m (left-over T n w)) (rank-at r n i bound h (eqb-true (r i) bound f) ∙ ap (λ (m : ℕ). m + count i (λ j. eqb (r j) bound)) (sym (c .exact)))
+          ap (λ (m : ℕ). ltb m (left-over T n w)) (rank-at r n i bound h (eqb-true (r i) bound f)
+          ∙ ap (λ (m : ℕ). m + count i (λ j. eqb (r j) bound)) (sym (c .exact)))
       go false e false f =
-          le-ltb (rank (ahead r) n i) (left-over T n w) (omega (arith, rank-below r n i bound (less (r i) bound (ltb-false bound (r i) e) (eqb-false (r i) bound f)), c .enough))
+          le-ltb (rank (ahead r) n i) (left-over T n w) (omega (
+            arith,
+            rank-below r n i bound
+                (less (r i) bound (ltb-false bound (r i) e) (eqb-false (r i) bound f)),
+            c .enough,
+          ))
         where
           less : (x b : ℕ) → x ≤ b → (x ≡ b → ⊥) → x < b
           less x b l d = omega arith

@@ -1,7 +1,8 @@
 // records: reads lines `KIND CONTEXT HEX` on standard input and prints a line for each: `taken` with the fields, or `refused N`.
 // KIND and CONTEXT: `contents -`, `settings -`, `frequency POSITION`, `unit LEAST`, `requirement LEAST`, and `last LEAST` for a
 // requirement after which no byte may follow. HEX are the bytes from the record on, two digits each; it may be empty.
-// A line that starts with # is printed without its first character. Fields stand in the order of the record, in decimal, after one space each; a flag is 0 or 1. A unit's goodness follows its
+// A line that starts with # is printed without its first character. Fields stand in the order of the record, in decimal, after one space each; a flag is 0 or
+// 1. A unit's goodness follows its
 // defaults. The 75 values of a frequency or unit record come last.
 mod line;
 mod read;

@@ -104,5 +104,6 @@ module _ {start size : ℕ} {next : List ℕ → Reply Book} (before : Next star
   abbrev part-with-all : List Change → List ℕ
   part-with-all cs = all-changed start cs (part start size)
 
-  pub together-later : {n : ℕ} {cs : List Change} → length (part-with-all cs) ≡ size - start → number-of (next (part-with-all cs)) ≡ n → Together start size n cs
+  pub together-later : {n : ℕ} {cs : List Change} → length (part-with-all cs) ≡ size - start → number-of (next (part-with-all cs)) ≡ n →
+      Together start size n cs
   together-later {cs = cs} long same = record { number = later (part-with-all cs) long ∙ same }

@@ -77,7 +77,14 @@ no-defaults : Defaults
 no-defaults = record { payment = pos 0; used = pos 0; unused = pos 0 }
 
 pub no-region : Region
-no-region = record { separation = Bool.true; quality = []; before = pos 0; generation = 0; defaults = record { raise = no-defaults; lower = no-defaults }; frequency = [] }
+no-region = record {
+  separation = Bool.true;
+  quality = [];
+  before = pos 0;
+  generation = 0;
+  defaults = record { raise = no-defaults; lower = no-defaults };
+  frequency = [];
+}
 
 abbrev pub regionOf : Book → ℕ → Region
 regionOf b r = getD (b .regions) r no-region

@@ -29,11 +29,13 @@ name-words residual = text "residual" ∷ []
 
 abbrev pub member-line : Line → List ℕ
 member-line l =
-    words (name-words (l .name) ++ (standing-word (l .standing) ∷ integer (l .performance) ∷ integer (l .factor) ∷ integer (l .payment) ∷ integer (l .used) ∷ integer (l .unused) ∷ []))
+    words (name-words (l .name) ++ (standing-word (l .standing) ∷ integer (l .performance) ∷ integer (l .factor) ∷ integer (l .payment) ∷ integer (l .used) ∷
+    integer (l .unused) ∷ []))
 
 abbrev pub requirement-line : Answer → List ℕ
 requirement-line a =
-    words (text "requirement" ∷ natural (a .number) ∷ direction-word (a .direction) ∷ natural (a .rcr) ∷ natural (a .pool) ∷ natural (a .used-pool) ∷ natural (a .unused-pool) ∷ natural (a .unplaced-used) ∷ natural (a .unplaced-unused) ∷ [])
+    words (text "requirement" ∷ natural (a .number) ∷ direction-word (a .direction) ∷ natural (a .rcr) ∷ natural (a .pool) ∷ natural (a .used-pool) ∷ natural
+    (a .unused-pool) ∷ natural (a .unplaced-used) ∷ natural (a .unplaced-unused) ∷ [])
 
 abbrev pub interval-line : ℕ → List ℕ
 interval-line n = words (text "interval" ∷ natural n ∷ [])

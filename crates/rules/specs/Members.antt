@@ -44,7 +44,8 @@ each-region q p = every regions (λ r. not (covers q r) || p r)
 abbrev pub residual-or : Book → Direction → (Defaults → ℤ) → ℕ → ℤ
 residual-or b d field r = live-or (residual-standing b d r) (residual-performance b d r) (field (by d (regionOf b r .defaults)))
 
--- one residual, whose performance is the sum of its regions' residuals, live or default, and whose unused default is the sum of theirs; it counts as default if any is
+-- one residual, whose performance is the sum of its regions' residuals, live or default, and whose unused default is the sum of theirs; it counts as default if
+-- any is
 unfoldable pub residual-member : Book → Requirement → Member
 residual-member b q =
     let d = q .direction in

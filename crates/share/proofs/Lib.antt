@@ -1,1 +1,7 @@
 pub mod Members
+pub mod Column
+pub mod Digits
+pub mod Promises
+pub mod Rates
+pub mod Signs
+pub mod Weighing

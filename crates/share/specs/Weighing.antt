@@ -1,15 +1,13 @@
 -- Whose weights a total is shared over: those lent, or one side of the lent performances, and the sign that its amounts have.
-use mathlib.Core.Path.{_≡_, refl}
-use mathlib.Core.Bool.{Bool, true, false, cond}
+use mathlib.Core.Path.{_≡_}
+use mathlib.Core.Bool.{cond}
 use mathlib.Core.List.{List, map}
 use Prim.Native.Nat.{ℕ, _+_, _≤_, _<_}
-use native.Mathlib.Omega.{arith}
-use borrow.Author.Tests.{leb-false}
-use lib.Dec.{leb, ltb}
+use lib.Dec.{leb}
 use lib.ListN.{length}
 use lib.IntN.{ℤ, pos, negℤ}
 use Rattle.integers.specs.Pairs.{gain, loss}
-use Rattle.integers.specs.Sums.{sumℕ, count}
+use Rattle.integers.specs.Sums.{sumℕ}
 use Rattle.rules.specs.Quantities.{total-limit, weight-limit}
 use Rattle.rules.specs.Share.{weight-sum, weight-at, whole, remainder, left-over}
 use Rattle.share.specs.declared.weights.Source.{Source}
@@ -30,9 +28,6 @@ signed Unhelpful a = negℤ (pos a)
 -- the share over a list of weights: W, the members with weight, and of each member the whole part and the remainder
 abbrev pub sum-of : List ℕ → ℕ
 sum-of xs = weight-sum (length xs) (weight-at xs)
-
-abbrev pub weighty : List ℕ → ℕ
-weighty xs = count (length xs) (λ i. ltb 0 (weight-at xs i))
 
 abbrev pub whole-of : ℕ → List ℕ → ℕ → ℕ
 whole-of T xs = whole T (length xs) (weight-at xs)
@@ -56,18 +51,3 @@ pub record Shares (T : ℕ) (xs : List ℕ) (W : ℕ) : Type 0 where
   pub sum : W ≡ sum-of xs
   pub some : 0 < W
   pub small : W ≤ weight-limit
-
--- a sum over the limit is told as such, and one within it as it is
-pub over-limit : (W r : ℕ) → r ≡ limited W → weight-limit < r → weight-limit < W
-over-limit W r e h = go (leb W weight-limit) refl e
-  where
-    go : (t : Bool) → leb W weight-limit ≡ t → r ≡ cond t W (weight-limit + 1) → weight-limit < W
-    go true f e = omega arith
-    go false f e = leb-false W weight-limit f
-
-pub within-limit : (W r : ℕ) → r ≡ limited W → r ≤ weight-limit → r ≡ W
-within-limit W r e h = go (leb W weight-limit) e
-  where
-    go : (t : Bool) → r ≡ cond t W (weight-limit + 1) → r ≡ W
-    go true e = e
-    go false e = absurd (omega arith)

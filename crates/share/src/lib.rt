@@ -15,7 +15,7 @@ use weights::members;
 use weights::sum_of;
 ghost use mathlib.Core.Path.{_≡_};
 ghost use mathlib.Core.List.{map};
-ghost use Rattle.integers.specs.Pairs.{gain, loss};
+ghost use Rattle.integers.specs.Pairs.{loss};
 ghost use Rattle.share.specs.Weighing.{weighed, signed};
 ghost use lib.ListN.{length};
 ghost use Rattle.share.specs.Column.{Clear};
@@ -76,7 +76,8 @@ fn share_from(
     performances: &[i64],
     amounts: &mut [i64],
 ) -> Shared
-    ensures { λ r. ⌜ SharedOut (signed source) total (weighed source (now (weights .entry)) (now (performances .entry))) (now (amounts .entry)) r (now (amounts .exit)) ⌝ }
+    ensures { λ r. ⌜ SharedOut (signed source) total (weighed source (now (weights .entry)) (now (performances .entry))) (now (amounts .entry)) r
+        (now (amounts .exit)) ⌝ }
 {
     let room = amounts.len();
     let n = members(source, weights, performances);
@@ -104,15 +105,7 @@ pub fn share(total: u64, weights: &[u64], amounts: &mut [i64]) -> Shared
     share_from(Source::Lent, total, weights, &none, amounts)
 }
 
-// The same over the positive performances.
-pub fn share_helpful(total: u64, performances: &[i64], amounts: &mut [i64]) -> Shared
-    ensures { λ r. ⌜ SharedOut credit total (map gain (now (performances .entry))) (now (amounts .entry)) r (now (amounts .exit)) ⌝ }
-{
-    let none = [0u64; 1];
-    share_from(Source::Helpful, total, &none, performances, amounts)
-}
-
-// The same over the negative performances, the amounts with a minus sign.
+// The same over the negative performances, as sizes, the amounts with a minus sign.
 pub fn share_unhelpful(total: u64, performances: &[i64], amounts: &mut [i64]) -> Shared
     ensures { λ r. ⌜ SharedOut debit total (map loss (now (performances .entry))) (now (amounts .entry)) r (now (amounts .exit)) ⌝ }
 {
@@ -129,8 +122,10 @@ fn place_side(
     test: Tested,
     amounts: &mut [i64],
 ) -> u64
-    requires { ⌜ (test ≡ tested total (weighed source (now weights) (now performances)) (length (now amounts))) × Clear (now amounts) (length (weighed source (now weights) (now performances))) ⌝ }
-    ensures { λ r. ⌜ SidePlaced source total (weighed source (now (weights .entry)) (now (performances .entry))) (now (amounts .entry)) r (now (amounts .exit)) ⌝ }
+    requires { ⌜ (test ≡ tested total (weighed source (now weights) (now performances)) (length (now amounts))) × Clear (now amounts)
+        (length (weighed source (now weights) (now performances))) ⌝ }
+    ensures { λ r. ⌜ SidePlaced source total (weighed source (now (weights .entry)) (now (performances .entry))) (now (amounts .entry)) r (now (amounts .exit))
+        ⌝ }
 {
     match test {
         Tested::Ready(sum) => {

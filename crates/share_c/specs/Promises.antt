@@ -1,5 +1,5 @@
 -- What the boundary promises: the share's reply as a number, and the two lent things after the call.
-use mathlib.Core.Path.{_≡_, sym, _∙_}
+use mathlib.Core.Path.{_≡_}
 use mathlib.Core.List.{List}
 use Prim.Native.Nat.{ℕ}
 use lib.IntN.{ℤ}
@@ -23,7 +23,3 @@ pub record Told (T : ℕ) (ws : List ℕ) (old : List ℤ) (before r : ℕ) (new
   pub reply : r ≡ told (share-reply T ws (length old))
   pub amounts : new ≡ where-taken (share-reply T ws (length old)) (filled (length ws) (λ i. credit (share-of T ws i)) old) old
   pub unplaced : after ≡ left (share-reply T ws (length old)) before
-
-pub share-amounts-only : {T : ℕ} {ws : List ℕ} {old new new′ : List ℤ} {before r r′ after after′ : ℕ} → Told T ws old before r new after → Told T ws old before r′ new′ after′ → (r ≡ r′) × (new ≡ new′) × (after ≡ after′)
-share-amounts-only a b =
-    (a .reply ∙ sym (b .reply), a .amounts ∙ sym (b .amounts), a .unplaced ∙ sym (b .unplaced))

@@ -1,6 +1,4 @@
 -- What the parts of a unit call promise each other, and how they make its promise
-pub mod Range
 pub mod Points
 pub mod UnitLaws
 pub mod Tested
-pub mod UnitAnswer

@@ -38,7 +38,8 @@ pub(crate) fn tested_unit(
 ) -> UnitRead
     ensures { λ r. ⌜
         UnitAnswered
-        (tested-unit tally (now (part .entry)) (now (readings .entry)) deviations (now (measures .entry)) (now (positive .entry)) (now (negative .entry)) numbers places raise lower defaults)
+        (tested-unit tally (now (part .entry)) (now (readings .entry)) deviations (now (measures .entry)) (now (positive .entry)) (now (negative .entry))
+        numbers places raise lower defaults)
         (now (readings .entry)) r (now (readings .exit))
         ⌝ }
 {

@@ -1,5 +1,5 @@
 -- What each call promises, whole: the reply, and every lent number, on refusals too. Beside each, that any two outcomes which it allows are equal.
-use mathlib.Core.Path.{_≡_, sym, _∙_}
+use mathlib.Core.Path.{_≡_}
 use mathlib.Core.Bool.{Bool}
 use mathlib.Core.List.{List}
 use Prim.Native.Nat.{ℕ}
@@ -11,7 +11,7 @@ use Rattle.rules.specs.declared.Whose.{Whose}
 use Rattle.rules.specs.Refusals.{Reply, taken, refused}
 use Rattle.rules.specs.Week.{interval, list-reply}
 use Rattle.rules.specs.RunningWeek.{add-reply, read-reply}
-use Rattle.rules.specs.WeekRoster.{whose-of, roster-reply, counts-after, defaults-after}
+use Rattle.rules.specs.WeekRoster.{roster-reply, counts-after, defaults-after}
 use Rattle.weeks.specs.declared.Told.{Told}
 use Rattle.weeks.specs.declared.Told.the-variants as told
 use Rattle.weeks.specs.declared.Added.{Added}
@@ -41,25 +41,12 @@ where-taken (refused r) new old = old
 pub record WeekPromise (m : Whose) (ps : List ℤ) (bits : List ℕ) (r : Told) : Type 0 where
   pub reply : r ≡ told-of (list-reply m ps bits)
 
-pub week-only : {m : Whose} {ps : List ℤ} {bits : List ℕ} {r r′ : Told} → WeekPromise m ps bits r → WeekPromise m ps bits r′ → r ≡ r′
-week-only a b = a .reply ∙ sym (b .reply)
-
 -- ---- the running week
 pub record AddPromise (m : Whose) (live : Bool) (p : ℤ) (week : RunningWeek) (r : Added) : Type 0 where
   pub reply : r ≡ added-of (add-reply m (interval live p) week)
 
-pub add-only : {m : Whose} {live : Bool} {p : ℤ} {week : RunningWeek} {r r′ : Added} → AddPromise m live p week r → AddPromise m live p week r′ → r ≡ r′
-add-only a b = a .reply ∙ sym (b .reply)
-
 pub record ReadPromise (m : Whose) (week : RunningWeek) (r : Told) : Type 0 where
   pub reply : r ≡ told-of (read-reply m week)
-
-pub read-only : {m : Whose} {week : RunningWeek} {r r′ : Told} → ReadPromise m week r → ReadPromise m week r′ → r ≡ r′
-read-only a b = a .reply ∙ sym (b .reply)
-
--- ---- a roster's week
-pub whose-of-only : (number : ℕ) {r r′ : Whose} → r ≡ whose-of number → r′ ≡ whose-of number → r ≡ r′
-whose-of-only number a b = a ∙ sym b
 
 module _ (n : ℕ) (ms : List ℕ) (ps : List ℤ) (bits counts : List ℕ) (defaults : List ℤ) where
   abbrev pub reply-to : Reply (Unit {0})
@@ -69,8 +56,3 @@ module _ (n : ℕ) (ms : List ℕ) (ps : List ℤ) (bits counts : List ℕ) (def
     pub reply : r ≡ written-of reply-to
     pub counted : counts′ ≡ where-taken reply-to (counts-after n ms ps bits counts) counts
     pub averaged : defaults′ ≡ where-taken reply-to (defaults-after n ms ps bits defaults) defaults
-
-  pub roster-only :
-      {r r′ : Written} {counts′ counts″ : List ℕ} {defaults′ defaults″ : List ℤ} → RosterPromise r counts′ defaults′ → RosterPromise r′ counts″ defaults″ →
-      (r ≡ r′) × (counts′ ≡ counts″) × (defaults′ ≡ defaults″)
-  roster-only a b = (a .reply ∙ sym (b .reply), a .counted ∙ sym (b .counted), a .averaged ∙ sym (b .averaged))

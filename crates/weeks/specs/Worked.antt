@@ -1,19 +1,17 @@
 -- Worked weeks, by computing: no live interval, one, the largest, halves, and both sides of each limit.
 use mathlib.Core.Path.{_≡_, refl}
-use mathlib.Core.Bool.{Bool, true, false, cond}
-use mathlib.Core.List.{List, [], _∷_}
-use Prim.Native.Nat.{ℕ, suc, _+_, _*_, _^_, _<_}
+use mathlib.Core.Bool.{true, false, cond}
+use mathlib.Core.List.{[], _∷_}
+use Prim.Native.Nat.{ℕ, _+_, _*_, _^_, _<_}
 use lib.Dec.{ltb, eqb, ltb→lt}
 use lib.IntN.{ℤ, pos, negsuc, negℤ}
 use Rattle.integers.specs.Sums.{sumℕ, every}
-use Rattle.rules.specs.declared.Refusal.the-variants.{TooShort, WrongCount, OutOfTurn, AverageTooLow, WrongWeek}
-use Rattle.rules.specs.declared.RunningWeek.{RunningWeek}
+use Rattle.rules.specs.declared.Refusal.the-variants.{TooShort, WrongCount, AverageTooLow, WrongWeek}
 use Rattle.rules.specs.declared.WeekDefault.{WeekDefault}
-use Rattle.rules.specs.declared.Whose.{Whose}
 use Rattle.rules.specs.declared.Whose.the-variants.{Unit, Group, Residual}
 use Rattle.rules.specs.Refusals.{Reply, taken, refused}
 use Rattle.rules.specs.Week.{Interval, live, not-live, live-total, week-reply, list-reply}
-use Rattle.rules.specs.RunningWeek.{left-by-a-run, add-reply, read-reply}
+use Rattle.rules.specs.RunningWeek.{left-by-a-run}
 
 abbrev is : ℕ → ℤ → Reply WeekDefault
 is n d = taken (record { count = n; default = d })
@@ -63,6 +61,8 @@ pub record WorkedWeeks : Type 0 where
   pub unit-past : week-reply Unit 1 (flat (negℤ (pos (unit-limit + 1)))) ≡ refused WrongWeek
   pub unit-past-above : week-reply Unit 1 (flat (pos (unit-limit + 1))) ≡ refused WrongWeek
   pub least : week-reply Residual 1 (flat (negsuc 9_223_372_036_854_775_807)) ≡ refused WrongWeek
+  pub residual-at : week-reply Residual 1 (flat (pos residual-reach)) ≡ is 1 (pos 0)
+  pub residual-past : week-reply Residual 1 (flat (pos (residual-reach + 1))) ≡ refused WrongWeek
   pub group-at : week-reply (Group 512) 2 (flat (pos residual-reach)) ≡ is 2 (pos 0)
   pub group-past : week-reply (Group 512) 2 (flat (pos (residual-reach + 1))) ≡ refused WrongWeek
   pub group-of-none : week-reply (Group 0) 1 (flat (pos 0)) ≡ refused WrongCount
@@ -103,6 +103,8 @@ worked-weeks =
       unit-past = refl;
       unit-past-above = refl;
       least = refl;
+      residual-at = refl;
+      residual-past = refl;
       group-at = refl;
       group-past = refl;
       group-of-none = refl;

@@ -5,8 +5,8 @@ use lib.Dec.{leb}
 use lib.ListN.{length}
 use borrow.Author.Needs.{needs}
 use borrow.Author.Tests.{leb-true}
-use Rattle.dullavane.specs.Called.{was-held, was-unheld}
-use Rattle.dullavane.specs.Asked.{Ready, ready-means}
+use Rattle.dullavane.proofs.Called.{was-held, was-unheld}
+use Rattle.dullavane.proofs.AskedLaws.{Ready, ready-means}
 use Rattle.dullavane.specs.Answers.{reply-words}
 use Rattle.dullavane.proofs.dullavane_answer.Statement.{statement}
 use Rattle.dullavane.proofs.dullavane_answer.Tie as tie
@@ -17,7 +17,8 @@ called c = c .before .before .before .before .before .before
 abbrev taken-in : tie.After-tell-answer-arg → tie.After-tally-in
 taken-in c = called c .before .before .before .before .before .before
 
-means : (c : tie.Else1) → let a = c .before .before .before .before .before .before .args in Ready (a .tally .now) true (leb reply-words (length (a .reply .now)))
+means : (c : tie.Else1) → let a = c .before .before .before .before .before .before .args in Ready (a .tally .now) true
+    (leb reply-words (length (a .reply .now)))
 means c = ready-means _ _ _ (c .before .unready .ensures) (c .if1 .left)
 
 unready-requires : tie.Need-unready-requires

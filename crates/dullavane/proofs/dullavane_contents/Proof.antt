@@ -2,7 +2,7 @@
 use mathlib.Core.Path.{refl, sym, _∙_}
 use borrow.Author.Needs.{needs}
 use Rattle.interval.specs.declared.Opened.the-variants.{Taken, Refused}
-use Rattle.dullavane.specs.Promises.{contents-short, contents-opened}
+use Rattle.dullavane.proofs.Promises.{contents-short, contents-opened}
 use Rattle.dullavane.proofs.dullavane_contents.Statement.{statement}
 use Rattle.dullavane.proofs.dullavane_contents.Tie as tie
 
@@ -35,13 +35,15 @@ returns-2 c =
     let put = c .before .before in
     let o = put .before .before .before in
     let call = o .before .before in
-    contents-opened _ _ (call .before .if1 .left) (Taken (o .opened .given .0 .0)) (sym (o .opened .given .1) ∙ call .contents .ensures .reply) refl (put .put-words .ensures)
+    contents-opened _ _ (call .before .if1 .left) (Taken (o .opened .given .0 .0)) (sym (o .opened .given .1) ∙ call .contents .ensures .reply) refl
+    (put .put-words .ensures)
 
 returns-3 : tie.Need-returns-3
 returns-3 c =
     let o = c .before .before in
     let call = o .before .before in
-    contents-opened _ _ (call .before .if1 .left) (Refused (o .opened2 .given .0 .0)) (sym (o .opened2 .given .1) ∙ call .contents .ensures .reply) (c .refusal-number2 .ensures) refl
+    contents-opened _ _ (call .before .if1 .left) (Refused (o .opened2 .given .0 .0)) (sym (o .opened2 .given .1) ∙ call .contents .ensures .reply)
+    (c .refusal-number2 .ensures) refl
 
 pub dullavane-contents-spec : {M : Type 1} → statement M
 dullavane-contents-spec =

@@ -8,20 +8,24 @@ use borrow.Author.Tests.{leb-true}
 use Rattle.rules.specs.declared.Direction.{Direction}
 use Rattle.answer.specs.Roster.{MemberPromise}
 use Rattle.dullavane.specs.Words.{reply-number}
-use Rattle.dullavane.specs.Called.{was-held, was-unheld}
-use Rattle.dullavane.specs.Asked.{ready, asked-narrow, member-words, Ready, ready-means, AskedNarrow, asked-fits}
+use Rattle.dullavane.proofs.Called.{was-held, was-unheld}
+use Rattle.dullavane.specs.Asked.{ready, asked-narrow, member-words}
+use Rattle.dullavane.proofs.AskedLaws.{Ready, ready-means, AskedNarrow, asked-fits}
 use Rattle.dullavane.proofs.dullavane_member.Statement.{statement}
 use Rattle.dullavane.proofs.dullavane_member.Tie as tie
 
 abbrev start : tie.After-unready → tie.Start
 start c = c .before .before .before .before .before .before
 
-ready-number : (c : tie.After-unready) → let a = start c .args in c .unready .result ≡ reply-number (ready (a .tally .now) (asked-narrow (a .row) (a .direction) (a .set)) (leb member-words (length (a .words .now))))
+ready-number : (c : tie.After-unready) → let a = start c .args in c .unready .result ≡
+    reply-number (ready (a .tally .now) (asked-narrow (a .row) (a .direction) (a .set)) (leb member-words (length (a .words .now))))
 ready-number c =
     let a = start c .args in
-    c .unready .ensures ∙ ap (λ (fine : Bool). reply-number (ready (a .tally .now) fine (leb member-words (length (a .words .now))))) (c .before .narrow-asked .ensures)
+    c .unready .ensures ∙ ap (λ (fine : Bool). reply-number (ready (a .tally .now) fine (leb member-words (length (a .words .now)))))
+    (c .before .narrow-asked .ensures)
 
-means : (c : tie.Else1) → let a = start (c .before) .args in Ready (a .tally .now) (asked-narrow (a .row) (a .direction) (a .set)) (leb member-words (length (a .words .now)))
+means : (c : tie.Else1) → let a = start (c .before) .args in Ready (a .tally .now) (asked-narrow (a .row) (a .direction) (a .set))
+    (leb member-words (length (a .words .now)))
 means c = ready-means _ _ _ (ready-number (c .before)) (c .if1 .left)
 
 fits : (c : tie.Else1) → let a = start (c .before) .args in AskedNarrow (a .row) (a .direction) (a .set)
@@ -63,7 +67,8 @@ returns-2 c =
     let found = s .before .before in
     let t = found .before .before in
     let a = start (t .before .before) .args in
-    let promised = subst (λ (d : Direction). MemberPromise (a .row) (t .tally-in .result .units) d (a .set) (a .figures .now) (a .numbers .now) (a .places .now) (found .member .result)) (found .before .direction-of .ensures) (found .member .ensures) in
+    let promised = subst (λ (d : Direction). MemberPromise (a .row) (t .tally-in .result .units) d (a .set) (a .figures .now) (a .numbers .now) (a .places .now)
+    (found .member .result)) (found .before .direction-of .ensures) (found .member .ensures) in
     record { answer = was-held _ _ _ _ _ (means (t .before) .as-held ∙ t .tally-in .ensures) promised (s .tell-row .ensures) }
 
 pub dullavane-member-spec : {M : Type 1} → statement M

@@ -1,8 +1,9 @@
 -- The words hold a tally and the call's step is told, or they hold none and their refusal is.
 use mathlib.Core.Path.{refl}
 use borrow.Author.Needs.{needs}
-use Rattle.dullavane.specs.Words.{Held, held-means}
-use Rattle.dullavane.specs.Called.{was-held, was-unheld}
+use Rattle.dullavane.specs.Words.{Held}
+use Rattle.dullavane.proofs.WordsLaws.{held-means}
+use Rattle.dullavane.proofs.Called.{was-held, was-unheld}
 use Rattle.dullavane.proofs.dullavane_unit.Statement.{statement}
 use Rattle.dullavane.proofs.dullavane_unit.Tie as tie
 

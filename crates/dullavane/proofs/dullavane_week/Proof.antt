@@ -3,7 +3,7 @@ use borrow.Author.Needs.{needs}
 use mathlib.Core.Path.{subst}
 use Rattle.rules.specs.declared.Whose.{Whose}
 use Rattle.weeks.specs.Promises.{WeekPromise}
-use Rattle.dullavane.specs.Weekly.{week-no-room, week-told}
+use Rattle.dullavane.proofs.WeeklyLaws.{week-no-room, week-told}
 use Rattle.dullavane.proofs.dullavane_week.Statement.{statement}
 use Rattle.dullavane.proofs.dullavane_week.Tie as tie
 

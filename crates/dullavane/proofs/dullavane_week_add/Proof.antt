@@ -4,7 +4,8 @@ use mathlib.Core.Path.{_∙_, subst}
 use mir.Facts.{toZ-ofZ}
 use Rattle.rules.specs.declared.Whose.{Whose}
 use Rattle.weeks.specs.Promises.{AddPromise}
-use Rattle.dullavane.specs.Weekly.{WeekHeld, week-held-means, flag, add-unheld, add-told}
+use Rattle.dullavane.specs.Weekly.{WeekHeld, flag}
+use Rattle.dullavane.proofs.WeeklyLaws.{week-held-means, add-unheld, add-told}
 use Rattle.dullavane.proofs.dullavane_week_add.Statement.{statement}
 use Rattle.dullavane.proofs.dullavane_week_add.Tie as tie
 

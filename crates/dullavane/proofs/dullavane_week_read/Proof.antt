@@ -3,7 +3,8 @@ use borrow.Author.Needs.{needs}
 use mathlib.Core.Path.{_∙_, subst}
 use Rattle.rules.specs.declared.Whose.{Whose}
 use Rattle.weeks.specs.Promises.{ReadPromise}
-use Rattle.dullavane.specs.Weekly.{WeekHeld, week-held-means, read-no-room, read-unheld, read-told}
+use Rattle.dullavane.specs.Weekly.{WeekHeld}
+use Rattle.dullavane.proofs.WeeklyLaws.{week-held-means, read-no-room, read-unheld, read-told}
 use Rattle.dullavane.proofs.dullavane_week_read.Statement.{statement}
 use Rattle.dullavane.proofs.dullavane_week_read.Tie as tie
 

@@ -1,7 +1,7 @@
 -- What the roster's call answers is told by its number.
 use borrow.Author.Needs.{needs}
 use mathlib.Core.Path.{sym, _∙_, ap}
-use Rattle.dullavane.specs.Weekly.{weeks-told, written-number}
+use Rattle.dullavane.proofs.WeeklyLaws.{weeks-told, written-number}
 use Rattle.dullavane.proofs.dullavane_weeks.Statement.{statement}
 use Rattle.dullavane.proofs.dullavane_weeks.Tie as tie
 

@@ -1,6 +1,6 @@
 -- The lower half, and the upper one where bytes are left for it.
 use native.Mathlib.Omega.{arith}
-use Rattle.little.specs.Numbers.{halves, lower-half}
+use Rattle.little.proofs.Numbers.{halves, lower-half}
 use borrow.Author.Needs.{needs}
 use Rattle.little.proofs.u64_at.Statement.{statement}
 use Rattle.little.proofs.u64_at.Tie as tie

@@ -62,22 +62,26 @@ take-units-requires : tie.Need-take-units-requires
 take-units-requires c κs = search needs
 
 slice-aggregate-take-requirements : tie.Need-slice-aggregate-take-requirements
-slice-aggregate-take-requirements c = sym (c .before .before .before .before .before .before .before .before .before .before .take-units .kept .1 .0 ∙ head-in (c .before .before .before .before .before .before .before .before .before .before) .take-head .kept .0)
+slice-aggregate-take-requirements c = sym (c .before .before .before .before .before .before .before .before .before .before .take-units .kept .1 .0
+    ∙ head-in (c .before .before .before .before .before .before .before .before .before .before) .take-head .kept .0)
 
 take-requirements-requires : tie.Need-take-requirements-requires
 take-requirements-requires c κs = search needs
 
 slice-aggregate-print-book : tie.Need-slice-aggregate-print-book
-slice-aggregate-print-book c = sym (c .before .before .take-requirements .kept .1 .0 ∙ units-in (c .before .before) .take-units .kept .1 .0 ∙ head-in (units-in (c .before .before)) .take-head .kept .0)
+slice-aggregate-print-book c = sym (c .before .before .take-requirements .kept .1 .0 ∙ units-in (c .before .before) .take-units .kept .1 .0
+    ∙ head-in (units-in (c .before .before)) .take-head .kept .0)
 
 slice-aggregate-print-book-2 : tie.Need-slice-aggregate-print-book-2
 slice-aggregate-print-book-2 c = sym (head-in (units-in (c .before .before .before)) .take-head .kept .1 .0)
 
 slice-aggregate-print-book-3 : tie.Need-slice-aggregate-print-book-3
-slice-aggregate-print-book-3 c = sym (units-in (c .before .before .before .before) .take-units .kept .1 .1 .1 .0 ∙ head-in (units-in (c .before .before .before .before)) .take-head .kept .1 .1 .0)
+slice-aggregate-print-book-3 c = sym (units-in (c .before .before .before .before) .take-units .kept .1 .1 .1 .0
+    ∙ head-in (units-in (c .before .before .before .before)) .take-head .kept .1 .1 .0)
 
 slice-aggregate-print-book-4 : tie.Need-slice-aggregate-print-book-4
-slice-aggregate-print-book-4 c = sym (units-in (c .before .before .before .before .before) .take-units .kept .1 .1 .1 .1 .0 ∙ head-in (units-in (c .before .before .before .before .before)) .take-head .kept .1 .1 .1 .0)
+slice-aggregate-print-book-4 c = sym (units-in (c .before .before .before .before .before) .take-units .kept .1 .1 .1 .1 .0
+    ∙ head-in (units-in (c .before .before .before .before .before)) .take-head .kept .1 .1 .1 .0)
 
 slice-aggregate-print-book-5 : tie.Need-slice-aggregate-print-book-5
 slice-aggregate-print-book-5 c = sym (head-in (units-in (c .before .before .before .before .before .before)) .take-head .kept .1 .1 .1 .1 .0)
@@ -89,13 +93,16 @@ slice-aggregate-print-book-7 : tie.Need-slice-aggregate-print-book-7
 slice-aggregate-print-book-7 c = sym (units-in (c .before .before .before .before .before .before .before .before) .take-units .kept .1 .1 .1 .1 .1 .1 .0)
 
 slice-aggregate-print-book-8 : tie.Need-slice-aggregate-print-book-8
-slice-aggregate-print-book-8 c = sym (units-in (c .before .before .before .before .before .before .before .before .before) .take-units .kept .1 .1 .1 .1 .1 .1 .1 .0)
+slice-aggregate-print-book-8 c =
+    sym (units-in (c .before .before .before .before .before .before .before .before .before) .take-units .kept .1 .1 .1 .1 .1 .1 .1 .0)
 
 slice-aggregate-print-book-9 : tie.Need-slice-aggregate-print-book-9
-slice-aggregate-print-book-9 c = sym (units-in (c .before .before .before .before .before .before .before .before .before .before) .take-units .kept .1 .1 .1 .1 .1 .1 .1 .1 .0)
+slice-aggregate-print-book-9 c =
+    sym (units-in (c .before .before .before .before .before .before .before .before .before .before) .take-units .kept .1 .1 .1 .1 .1 .1 .1 .1 .0)
 
 slice-aggregate-print-book-10 : tie.Need-slice-aggregate-print-book-10
-slice-aggregate-print-book-10 c = sym (units-in (c .before .before .before .before .before .before .before .before .before .before .before) .take-units .kept .1 .1 .1 .1 .1 .1 .1 .1 .1 .0)
+slice-aggregate-print-book-10 c =
+    sym (units-in (c .before .before .before .before .before .before .before .before .before .before .before) .take-units .kept .1 .1 .1 .1 .1 .1 .1 .1 .1 .0)
 
 print-book-requires : tie.Need-print-book-requires
 print-book-requires c κs = search needs

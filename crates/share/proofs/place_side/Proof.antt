@@ -7,8 +7,9 @@ use lib.ListN.{length}
 use borrow.Author.Needs.{needs}
 use Rattle.share.specs.declared.Tested.the-variants.{Ready, Weightless, Unfit}
 use Rattle.share.specs.Weighing.{weighed}
-use Rattle.share.specs.Promises.{tested, Passed, passed, weightless}
-use Rattle.share.specs.Signs.{side-met, all-stay}
+use Rattle.share.specs.Promises.{tested}
+use Rattle.share.proofs.Promises.{Passed, passed, weightless}
+use Rattle.share.proofs.Signs.{side-met, all-stay}
 use Rattle.share.proofs.place_side.Statement.{statement}
 use Rattle.share.proofs.place_side.Tie as tie
 
@@ -55,7 +56,8 @@ returns-2 : tie.Need-returns-2
 returns-2 c =
     let s = c .before .before .before in
     let e : Weightless ≡ tested (s .args .total) (xs s) (length (old s)) = sym (c .enum-told .given .1) ∙ s .pre .0 in
-    side-met (s .args .source) (s .args .total) (xs s) (old s) Weightless e refl (all-stay (s .args .source) (s .args .total) (xs s) (old s) (weightless (s .args .total) (xs s) (length (old s)) e .1))
+    side-met (s .args .source) (s .args .total) (xs s) (old s) Weightless e refl
+    (all-stay (s .args .source) (s .args .total) (xs s) (old s) (weightless (s .args .total) (xs s) (length (old s)) e .1))
 
 returns-3 : tie.Need-returns-3
 returns-3 c =

@@ -7,11 +7,14 @@ use lib.IntN.{ℤ, pos}
 use lib.ListN.{length}
 use native.Mathlib.Omega.{arith}
 use borrow.Author.Needs.{needs}
-use Rattle.integers.specs.Fills.{filled, filled-length}
+use Rattle.integers.specs.Fills.{filled}
+use Rattle.integers.proofs.Fills.{filled-length}
 use Rattle.share.specs.declared.Tested.the-variants.{Ready, Weightless, Unfit}
 use Rattle.share.specs.Weighing.{weighed, signed}
-use Rattle.share.specs.Column.{placed, Clear, clear-column, all-placed, nothing-placed}
-use Rattle.share.specs.Promises.{tested, Passed, passed, weightless, met}
+use Rattle.share.specs.Column.{placed, Clear}
+use Rattle.share.proofs.Column.{clear-column, all-placed, nothing-placed}
+use Rattle.share.specs.Promises.{tested}
+use Rattle.share.proofs.Promises.{Passed, passed, weightless, met}
 use Rattle.share.proofs.share_from.Statement.{statement}
 use Rattle.share.proofs.share_from.Tie as tie
 
@@ -43,7 +46,8 @@ module _ (c : tie.After-enum-told) where
   without = sym (c .enum-told .given .1) ∙ tried .test-share .ensures
 
 -- the cleared column
-cleared : (c : tie.After-clear) → c .clear .last .0 ≡ filled (length (xs (S (test (c .before .before .before))))) (λ i. pos 0) (old (S (test (c .before .before .before))))
+cleared : (c : tie.After-clear) → c .clear .last .0 ≡ filled (length (xs (S (test (c .before .before .before))))) (λ i. pos 0)
+    (old (S (test (c .before .before .before))))
 cleared c =
     let t = test (c .before .before .before) in
     c .clear .ensures ∙ ap (λ (m : ℕ). filled m (λ i. pos 0) (old (S t))) (t .before .members .ensures)
@@ -92,7 +96,9 @@ returns c =
     let k = c .before .before .before .before in
     let u = k .before .before .before in
     let s = S (test u) in
-    met (signed (s .args .source)) (s .args .total) (xs s) (old s) (Ready (u .sum .given .0 .0)) (ready u) refl (c .before .place .ensures ∙ ap (λ (z : List ℤ). filled (length (xs s)) (placed (s .args .source) (s .args .total) (xs s) z) z) (cleared k) ∙ all-placed (s .args .source) (s .args .total) (xs s) (old s) (known u .roomy))
+    met (signed (s .args .source)) (s .args .total) (xs s) (old s) (Ready (u .sum .given .0 .0)) (ready u) refl
+    (c .before .place .ensures ∙ ap (λ (z : List ℤ). filled (length (xs s)) (placed (s .args .source) (s .args .total) (xs s) z) z) (cleared k)
+    ∙ all-placed (s .args .source) (s .args .total) (xs s) (old s) (known u .roomy))
 
 same-length-2 : tie.Need-same-length-2
 same-length-2 c = search needs
@@ -101,13 +107,16 @@ returns-2 : tie.Need-returns-2
 returns-2 c =
     let u = c .before .before .before in
     let s = S (tried u) in
-    met (signed (s .args .source)) (s .args .total) (xs s) (old s) Weightless (without u) refl (c .before .clear2 .ensures ∙ ap (λ (m : ℕ). filled m (λ i. pos 0) (old s)) (tried u .before .members .ensures) ∙ nothing-placed (s .args .source) (s .args .total) (xs s) (old s) (weightless (s .args .total) (xs s) (length (old s)) (without u) .1))
+    met (signed (s .args .source)) (s .args .total) (xs s) (old s) Weightless (without u) refl
+    (c .before .clear2 .ensures ∙ ap (λ (m : ℕ). filled m (λ i. pos 0) (old s)) (tried u .before .members .ensures)
+    ∙ nothing-placed (s .args .source) (s .args .total) (xs s) (old s) (weightless (s .args .total) (xs s) (length (old s)) (without u) .1))
 
 returns-3 : tie.Need-returns-3
 returns-3 c =
     let t = c .before .before .before in
     let s = S t in
-    met (signed (s .args .source)) (s .args .total) (xs s) (old s) (Unfit (c .before .refusal .given .0 .0)) (sym (c .before .refusal .given .1) ∙ t .test-share .ensures) refl refl
+    met (signed (s .args .source)) (s .args .total) (xs s) (old s) (Unfit (c .before .refusal .given .0 .0))
+    (sym (c .before .refusal .given .1) ∙ t .test-share .ensures) refl refl
 
 pub share-from-spec : {M : Type 1} → statement M
 share-from-spec =

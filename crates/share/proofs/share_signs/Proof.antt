@@ -10,14 +10,16 @@ use borrow.Author.Needs.{needs}
 use types.Run.{OneOf, miss}
 use denote.Enum.Declared.{tagOf}
 use Rattle.integers.specs.Pairs.{gain, loss}
-use Rattle.integers.specs.Fills.{filled, filled-length}
+use Rattle.integers.specs.Fills.{filled}
+use Rattle.integers.proofs.Fills.{filled-length}
 use Rattle.rules.specs.Refusals.{taken, refused}
 use Rattle.rules.specs.Share.{share-reply}
 use Rattle.share.specs.declared.Tested.{Tested}
 use Rattle.share.specs.declared.Tested.the-variants.{Ready, Weightless, Unfit}
 use Rattle.share.specs.declared.SharedSigns.the-variants.{Placed}
-use Rattle.share.specs.Promises.{tested, found, tests-tell, passed, weightless}
-use Rattle.share.specs.Signs.{side-taken, first-refused, both-answered, credits, first-clear, first-placed, second-clear, second-placed}
+use Rattle.share.specs.Promises.{tested}
+use Rattle.share.proofs.Promises.{found, tests-tell, passed, weightless}
+use Rattle.share.proofs.Signs.{side-taken, first-refused, both-answered, credits, first-clear, first-placed, second-clear, second-placed}
 use Rattle.share.proofs.Tested.{the-type}
 use Rattle.share.proofs.share_signs.Statement.{statement}
 use Rattle.share.proofs.share_signs.Tie as tie
@@ -44,7 +46,8 @@ ps s = s .args .performances .now
 abbrev old : tie.Start → List ℤ
 old s = s .args .amounts .now
 
-helpful : (c : tie.At-match-keys2) → Fitted (c .before .before .before .args .total) (map gain (ps (c .before .before .before))) (length (old (c .before .before .before)))
+helpful : (c : tie.At-match-keys2) → Fitted (c .before .before .before .args .total) (map gain (ps (c .before .before .before)))
+    (length (old (c .before .before .before)))
 helpful c =
     let s = c .before .before .before in
     fitted (s .args .total) (map gain (ps s)) (length (old s)) (c .before .test-share .result) (c .match .keys2) (c .before .test-share .ensures)
@@ -71,7 +74,8 @@ returns c =
     let h = c .before in
     let t = h .before .before in
     let s = t .before .before in
-    first-refused (s .args .total) (ps s) (old s) (tests-tell (s .args .total) (map gain (ps s)) (length (old s)) ∙ ap (found (s .args .total)) (sym (t .test-share .ensures) ∙ h .helpful .given .1))
+    first-refused (s .args .total) (ps s) (old s) (tests-tell (s .args .total) (map gain (ps s)) (length (old s))
+    ∙ ap (found (s .args .total)) (sym (t .test-share .ensures) ∙ h .helpful .given .1))
 
 slice-aggregate-test-share-2 : tie.Need-slice-aggregate-test-share-2
 slice-aggregate-test-share-2 c = search needs
@@ -87,7 +91,9 @@ returns-2 c =
     let h = c .before in
     let t = h .before .before in
     let s = S t in
-    both-answered (s .args .total) (ps s) (old s) (refused (h .unhelpful .given .0 .0)) (helpful (t .before .before) .told) (tests-tell (s .args .total) (map loss (ps s)) (length (old s)) ∙ ap (found (s .args .total)) (sym (t .test-share2 .ensures) ∙ h .unhelpful .given .1)) refl refl
+    both-answered (s .args .total) (ps s) (old s) (refused (h .unhelpful .given .0 .0)) (helpful (t .before .before) .told)
+    (tests-tell (s .args .total) (map loss (ps s)) (length (old s)) ∙ ap (found (s .args .total)) (sym (t .test-share2 .ensures) ∙ h .unhelpful .given .1))
+    refl refl
 
 clear-requires : tie.Need-clear-requires
 clear-requires c κs =
@@ -126,7 +132,8 @@ module _ (c : tie.After-place-side) where
   abbrev fit : Fitted (s .args .total) (map gain (ps s)) (length (old s))
   fit = helpful (cleared .before .before .before .before .before)
 
-  taken-up : (c .place-side .result ≡ fit .unplaced) × (c .place-side .last .1 .1 .1 .1 .1 .0 ≡ filled (length (ps s)) (credits (s .args .total) (ps s) (old s) (long cleared)) (old s))
+  taken-up : (c .place-side .result ≡ fit .unplaced) × (c .place-side .last .1 .1 .1 .1 .1 .0 ≡
+      filled (length (ps s)) (credits (s .args .total) (ps s) (old s) (long cleared)) (old s))
   taken-up =
       let p = side-taken (c .place-side .ensures) (ap (share-reply (s .args .total) (map gain (ps s))) (sym (same cleared)) ∙ fit .told) in
       (p .0, p .1 ∙ first-placed (s .args .total) (ps s) (old s) (long cleared) (cleared .clear .last .0) (cleared .clear .ensures))
@@ -153,7 +160,8 @@ returns-3 c =
     let k = d .before .before .before .before in
     let f = unhelpful (cleared k .before .before) in
     let p = side-taken (d .place-side2 .ensures) (ap (share-reply (s k .args .total) (map loss (ps (s k)))) (sym (same-again k)) ∙ f .told) in
-    both-answered (s k .args .total) (ps (s k)) (old (s k)) (taken (f .unplaced)) (fit k .told) (f .told) (ap₂ Placed (taken-up k .0) (p .0)) (p .1 ∙ second-placed (s k .args .total) (ps (s k)) (old (s k)) (long (cleared k)) (k .place-side .last .1 .1 .1 .1 .1 .0) (taken-up k .1))
+    both-answered (s k .args .total) (ps (s k)) (old (s k)) (taken (f .unplaced)) (fit k .told) (f .told) (ap₂ Placed (taken-up k .0) (p .0))
+    (p .1 ∙ second-placed (s k .args .total) (ps (s k)) (old (s k)) (long (cleared k)) (k .place-side .last .1 .1 .1 .1 .1 .0) (taken-up k .1))
 
 pub share-signs-spec : {M : Type 1} → statement M
 share-signs-spec =

@@ -8,7 +8,8 @@ use borrow.Author.Needs.{needs}
 use borrow.Author.Tests.{lt-leb, le-leb, eq-eqb, ne-eqb}
 use Rattle.rules.specs.Quantities.{total-limit, weight-limit}
 use Rattle.share.specs.declared.Tested.the-variants.{Ready}
-use Rattle.share.specs.Weighing.{weighed, sum-of, over-limit, within-limit}
+use Rattle.share.specs.Weighing.{weighed, sum-of}
+use Rattle.share.proofs.Weighing.{over-limit, within-limit}
 use Rattle.share.specs.Promises.{tested}
 use Rattle.share.proofs.test_share.Statement.{statement}
 use Rattle.share.proofs.test_share.Tie as tie
@@ -47,7 +48,10 @@ returns-2 : tie.Need-returns-2
 unfolding tested
 returns-2 c =
     let s = c .before .before .before .before in
-    rw (le-leb (length (xs s)) (s .args .room) (omega (arith, c .before .before .members .ensures, c .before .if1 .left)), lt-leb (s .args .total) total-limit (c .if2 .taken))
+    rw (
+      le-leb (length (xs s)) (s .args .room) (omega (arith, c .before .before .members .ensures, c .before .if1 .left)),
+      lt-leb (s .args .total) total-limit (c .if2 .taken),
+    )
 
 sum-of-requires : tie.Need-sum-of-requires
 sum-of-requires c κs = search needs
@@ -56,20 +60,34 @@ returns-3 : tie.Need-returns-3
 unfolding tested
 returns-3 c =
     let s = S (c .before) in
-    rw (le-leb (length (xs s)) (s .args .room) (roomy (c .before)), le-leb (s .args .total) total-limit (total (c .before)), lt-leb (sum-of (xs s)) weight-limit (over-limit (sum-of (xs s)) (c .before .sum-of .result) (c .before .sum-of .ensures) (c .if3 .taken)))
+    rw (
+      le-leb (length (xs s)) (s .args .room) (roomy (c .before)),
+      le-leb (s .args .total) total-limit (total (c .before)),
+      lt-leb (sum-of (xs s)) weight-limit (over-limit (sum-of (xs s)) (c .before .sum-of .result) (c .before .sum-of .ensures) (c .if3 .taken)),
+    )
 
 returns-4 : tie.Need-returns-4
 unfolding tested
 returns-4 c =
     let s = S (c .before .before) in
-    rw (le-leb (length (xs s)) (s .args .room) (roomy (c .before .before)), le-leb (s .args .total) total-limit (total (c .before .before)), le-leb (sum-of (xs s)) weight-limit (small (c .before)), eq-eqb (sum-of (xs s)) 0 (sym (sum (c .before)) ∙ c .if4 .taken))
+    rw (
+      le-leb (length (xs s)) (s .args .room) (roomy (c .before .before)),
+      le-leb (s .args .total) total-limit (total (c .before .before)),
+      le-leb (sum-of (xs s)) weight-limit (small (c .before)),
+      eq-eqb (sum-of (xs s)) 0 (sym (sum (c .before)) ∙ c .if4 .taken),
+    )
 
 returns-5 : tie.Need-returns-5
 unfolding tested
 returns-5 c =
     let t = c .before in
     let s = S (t .before) in
-    rw (le-leb (length (xs s)) (s .args .room) (roomy (t .before)), le-leb (s .args .total) total-limit (total (t .before)), le-leb (sum-of (xs s)) weight-limit (small t), ne-eqb (sum-of (xs s)) 0 (λ e. c .if4 .left (sum t ∙ e))) (ap Ready (sum t))
+    rw (
+      le-leb (length (xs s)) (s .args .room) (roomy (t .before)),
+      le-leb (s .args .total) total-limit (total (t .before)),
+      le-leb (sum-of (xs s)) weight-limit (small t),
+      ne-eqb (sum-of (xs s)) 0 (λ e. c .if4 .left (sum t ∙ e)),
+    ) (ap Ready (sum t))
 
 pub test-share-spec : {M : Type 1} → statement M
 test-share-spec =

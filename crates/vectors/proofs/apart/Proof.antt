@@ -6,10 +6,10 @@ use lib.Signed.{_<ℤ_, _≤ℤ_}
 use mir.Syntax.{w64}
 use mir.Val.{SFits}
 use mir.Facts.{toZ-ofZ}
-use Rattle.integers.specs.Pairs.{v, _⊖_, le!, lt-in, le-in}
-use Rattle.integers.specs.Bounds.{within-difference, fits-within}
-use Rattle.integers.specs.Tests.{ltZ-true, ltZ-false}
-use Rattle.integers.specs.Casts.{to-unsigned}
+use Rattle.integers.proofs.Pairs.{v, _⊖_, le!, lt-in, le-in}
+use Rattle.integers.proofs.Bounds.{within-difference, fits-within}
+use Rattle.integers.proofs.Tests.{ltZ-true, ltZ-false}
+use Rattle.integers.proofs.Casts.{to-unsigned}
 use Rattle.vectors.proofs.apart.Statement.{statement}
 use Rattle.vectors.proofs.apart.Tie as tie
 

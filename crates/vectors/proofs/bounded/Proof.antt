@@ -3,8 +3,8 @@ use borrow.Author.Needs.{needs}
 use lib.IntN.{pos, negsuc}
 use lib.Signed.{_≤ℤ_}
 use mir.Facts.{toZ-ofZ}
-use Rattle.integers.specs.Bounds.{within-both}
-use Rattle.integers.specs.Tests.{ltZ-false}
+use Rattle.integers.proofs.Bounds.{within-both}
+use Rattle.integers.proofs.Tests.{ltZ-false}
 use Rattle.vectors.proofs.bounded.Statement.{statement}
 use Rattle.vectors.proofs.bounded.Tie as tie
 

@@ -3,7 +3,8 @@ use lib.IntN.{pos, _-ℤ_}
 use mir.Syntax.{w64}
 use mir.Val.{SFits}
 use mir.Facts.{toZ-ofZ}
-use Rattle.integers.specs.Bounds.{Within, within-literal, within-difference, within-product, fits-within}
+use Rattle.integers.specs.Bounds.{Within}
+use Rattle.integers.proofs.Bounds.{within-literal, within-difference, within-product, fits-within}
 use borrow.Author.Needs.{needs}
 use Rattle.vectors.proofs.minute.Statement.{statement}
 use Rattle.vectors.proofs.minute.Tie as tie

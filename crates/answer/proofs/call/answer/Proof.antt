@@ -4,9 +4,10 @@ use lib.ListN.{length}
 use borrow.Author.Needs.{needs}
 use Rattle.rules.specs.Refusals.{Reply, taken, refused}
 use Rattle.rules.specs.Book.{Requirement}
-use Rattle.answer.specs.Tested.{tested-requirement, tests-passed}
+use Rattle.answer.specs.Tested.{tested-requirement}
+use Rattle.answer.proofs.TestedLaws.{tests-passed}
 use Rattle.answer.specs.Given.{required}
-use Rattle.answer.specs.Call.{was-read, not-read, given-ready, refuses, gives}
+use Rattle.answer.proofs.CallLaws.{was-read, not-read, given-ready, refuses, gives}
 use Rattle.answer.proofs.call.answer.Statement.{statement}
 use Rattle.answer.proofs.call.answer.Tie as tie
 

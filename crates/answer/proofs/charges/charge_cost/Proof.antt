@@ -3,9 +3,9 @@ use mathlib.Core.Path.{_≡_, refl, _∙_, ap}
 use Prim.Native.Nat.{_≤_}
 use lib.ListN.{length}
 use native.Mathlib.Omega.{arith}
-use Rattle.answer.specs.Lists.{headed-length}
-use Rattle.answer.specs.Pools.{used-cents-≤}
-use Rattle.answer.specs.Charges.{cost-charged}
+use Rattle.answer.proofs.Lists.{headed-length}
+use Rattle.answer.proofs.PoolsLaws.{used-cents-≤}
+use Rattle.answer.proofs.ChargesLaws.{cost-charged}
 use borrow.Author.Needs.{needs}
 use Rattle.answer.proofs.charges.charge_cost.Statement.{statement}
 use Rattle.answer.proofs.charges.charge_cost.Tie as tie

@@ -8,7 +8,8 @@ use borrow.Author.Tests.{not-true, not-false}
 use mir.Syntax.{w64}
 use mir.Val.{toZ}
 use mir.Facts.{toZ-ofZ}
-use Rattle.integers.specs.Sums.{every, every-step, every-none, every-fails}
+use Rattle.integers.specs.Sums.{every}
+use Rattle.integers.proofs.Sums.{every-step, every-none, every-fails}
 use Rattle.answer.specs.Ranges.{fine-from}
 use Rattle.answer.proofs.defaults.six_in_range.Statement.{statement}
 use Rattle.answer.proofs.defaults.six_in_range.Tie as tie

@@ -3,8 +3,8 @@ use mathlib.Core.Path.{_≡_, _∙_, ap}
 use Prim.Native.Nat.{_≤_}
 use lib.ListN.{length}
 use native.Mathlib.Omega.{arith}
-use Rattle.answer.specs.Lists.{headed-length}
-use Rattle.answer.specs.Given.{rcr-ready, rcr-small, numbers-fine, Rooms, rooms, members-ready, cost-ready, given-is}
+use Rattle.answer.proofs.Lists.{headed-length}
+use Rattle.answer.proofs.GivenLaws.{rcr-ready, rcr-small, numbers-fine, Rooms, rooms, members-ready, cost-ready, given-is}
 use borrow.Author.Needs.{needs}
 use Rattle.answer.proofs.given.given.Statement.{statement}
 use Rattle.answer.proofs.given.given.Tie as tie

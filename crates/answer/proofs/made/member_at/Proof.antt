@@ -6,7 +6,8 @@ use borrow.Author.Needs.{needs, sfits-of}
 use lib.IntN.{pos}
 use lib.ListN.{getD}
 use mir.Facts.{toZ-ofZ}
-use Rattle.answer.specs.Made.{defaults-at, defaults-at-≤, made-same}
+use Rattle.answer.specs.Made.{defaults-at}
+use Rattle.answer.proofs.MadeLaws.{defaults-at-≤, made-same}
 use Rattle.answer.proofs.made.member_at.Statement.{statement}
 use Rattle.answer.proofs.made.member_at.Tie as tie
 

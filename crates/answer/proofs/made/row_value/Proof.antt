@@ -6,7 +6,7 @@ use borrow.Author.Needs.{needs, sfits-of}
 use lib.IntN.{pos}
 use lib.ListN.{getD}
 use mir.Facts.{toZ-ofZ}
-use Rattle.answer.specs.Made.{defaults-at-≤, field-at-≤, number-is}
+use Rattle.answer.proofs.MadeLaws.{defaults-at-≤, field-at-≤, number-is}
 use Rattle.answer.proofs.made.row_value.Statement.{statement}
 use Rattle.answer.proofs.made.row_value.Tie as tie
 

@@ -4,7 +4,7 @@ use Prim.Native.Nat.{ℕ, _+_, _-_, _≤_, max}
 use native.Mathlib.Omega.{arith}
 use borrow.Author.Needs.{needs}
 use Rattle.integers.specs.Sums as sums
-use Rattle.integers.specs.Sums.{largest-step, largest-none}
+use Rattle.integers.proofs.Sums.{largest-step, largest-none}
 use Rattle.rules.specs.Quantities.{points}
 use Rattle.answer.specs.Rcr.{point-response}
 use Rattle.answer.proofs.points.largest_response.Statement.{statement}

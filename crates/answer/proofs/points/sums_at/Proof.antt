@@ -9,10 +9,12 @@ use lib.ListN.{getD}
 use mir.Syntax.{w32, w64}
 use mir.Val.{SFits, toZ}
 use mir.Facts.{toZ-ofZ, sfits-widen}
-use Rattle.integers.specs.Sums.{sum, sum-none, when}
+use Rattle.integers.specs.Sums.{sum, when}
+use Rattle.integers.proofs.Sums.{sum-none}
 use Rattle.rules.specs.Quantities.{regions}
 use Rattle.answer.specs.Ranges.{there}
-use Rattle.answer.specs.Rcr.{weighed-part, sum-part, Turn, product-fits, weighed-turn, positive-turn, negative-turn}
+use Rattle.answer.specs.Rcr.{weighed-part, sum-part}
+use Rattle.answer.proofs.RcrLaws.{Turn, product-fits, weighed-turn, positive-turn, negative-turn}
 use Rattle.answer.proofs.points.sums_at.Statement.{statement}
 use Rattle.answer.proofs.points.sums_at.Tie as tie
 

@@ -3,7 +3,7 @@ use mathlib.Core.Path.{sym}
 use native.Mathlib.Nat.{div-add-mod, div-le-self, mod-lt}
 use native.Mathlib.Omega.{arith}
 use borrow.Author.Needs.{needs}
-use Rattle.integers.specs.Nearest.{nearestℕ-only}
+use Rattle.integers.proofs.Nearest.{nearestℕ-only}
 use Rattle.answer.proofs.pools.nearest_cent.Statement.{statement}
 use Rattle.answer.proofs.pools.nearest_cent.Tie as tie
 

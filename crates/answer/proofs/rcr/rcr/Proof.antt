@@ -3,7 +3,7 @@ use mathlib.Core.Path.{_≡_, sym, _∙_}
 use borrow.Author.Tests.{not-true, not-false}
 use Rattle.kept.specs.Kept.{kept-reliable}
 use Rattle.answer.specs.Asked.{lent, asked}
-use Rattle.answer.specs.Rcr.{all-stand-is, found-unreliable, found-many-bad, found-points}
+use Rattle.answer.proofs.RcrLaws.{all-stand-is, found-unreliable, found-many-bad, found-points}
 use Rattle.answer.proofs.rcr.rcr.Statement.{statement}
 use Rattle.answer.proofs.rcr.rcr.Tie as tie
 

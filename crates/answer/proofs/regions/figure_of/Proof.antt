@@ -6,7 +6,7 @@ use borrow.Author.Needs.{needs, sfits-of}
 use lib.IntN.{pos}
 use lib.ListN.{getD}
 use mir.Facts.{toZ-ofZ}
-use Rattle.answer.specs.Made.{reliable-at-≤}
+use Rattle.answer.proofs.MadeLaws.{reliable-at-≤}
 use Rattle.answer.proofs.regions.figure_of.Statement.{statement}
 use Rattle.answer.proofs.regions.figure_of.Tie as tie
 

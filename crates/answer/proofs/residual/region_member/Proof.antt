@@ -9,8 +9,8 @@ use lib.IntN.{negℤ}
 use Rattle.integers.specs.Bounds.{Within}
 use Rattle.rules.specs.declared.Reason.the-variants.{NoGoodUnit}
 use Rattle.rules.specs.Standings.{standing}
-use Rattle.answer.specs.Made.{made-same, made-behind}
-use Rattle.answer.specs.Residual.{column-fits, held-within, turned-fits, turned-back}
+use Rattle.answer.proofs.MadeLaws.{made-same, made-behind}
+use Rattle.answer.proofs.ResidualLaws.{column-fits, held-within, turned-fits, turned-back}
 use Rattle.answer.proofs.residual.region_member.Statement.{statement}
 use Rattle.answer.proofs.residual.region_member.Tie as tie
 

@@ -3,7 +3,7 @@ use mathlib.Core.Path.{_≡_}
 use Prim.Native.Nat.{_-_, _≤_}
 use native.Mathlib.Omega.{arith}
 use Rattle.answer.specs.Made.{residual-to}
-use Rattle.answer.specs.Residual.{none-yet}
+use Rattle.answer.proofs.ResidualLaws.{none-yet}
 use Rattle.answer.proofs.residual.residual_member.Statement.{statement}
 use Rattle.answer.proofs.residual.residual_member.Tie as tie
 

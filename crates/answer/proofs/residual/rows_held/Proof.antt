@@ -2,7 +2,8 @@
 use Prim.Native.Nat.{_-_, _≤_}
 use mathlib.Core.Path.{_≡_}
 use native.Mathlib.Omega.{arith}
-use Rattle.answer.specs.Residual.{Holds, fewer-fit, holds-none}
+use Rattle.answer.specs.Residual.{Holds}
+use Rattle.answer.proofs.ResidualLaws.{fewer-fit, holds-none}
 use Rattle.answer.proofs.residual.rows_held.Statement.{statement}
 use Rattle.answer.proofs.residual.rows_held.Tie as tie
 

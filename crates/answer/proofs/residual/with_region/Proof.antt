@@ -1,7 +1,7 @@
 -- A region that is not of the set leaves the residual as it is; one of the set joins it.
 use mathlib.Core.Path.{sym, _∙_}
 use borrow.Author.Tests.{not-true, not-false}
-use Rattle.answer.specs.Residual.{Joins, joins, same-member, added-fits, added-back, residual-stays}
+use Rattle.answer.proofs.ResidualLaws.{Joins, joins, same-member, added-fits, added-back, residual-stays}
 use borrow.Author.Needs.{needs}
 use Rattle.answer.proofs.residual.with_region.Statement.{statement}
 use Rattle.answer.proofs.residual.with_region.Tie as tie

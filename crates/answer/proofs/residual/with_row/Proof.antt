@@ -11,7 +11,7 @@ use mir.Facts.{toZ-ofZ}
 use native.Mathlib.Omega.{arith}
 use borrow.Author.Needs.{needs, sfits-of}
 use borrow.Author.Tests.{eq-eqb, ne-eqb, not-true, not-false}
-use Rattle.answer.specs.Residual.{Fitting, holds-more, few-held, row-joins, added-fits, added-back}
+use Rattle.answer.proofs.ResidualLaws.{Fitting, holds-more, few-held, row-joins, added-fits, added-back}
 use Rattle.answer.proofs.residual.with_row.Statement.{statement}
 use Rattle.answer.proofs.residual.with_row.Tie as tie
 

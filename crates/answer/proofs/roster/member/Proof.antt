@@ -9,7 +9,8 @@ use borrow.Author.Needs.{needs}
 use borrow.Author.Tests.{le-ltb, lt-ltb, not-true, not-false}
 use Rattle.rules.specs.RequirementRecord.{set-fine}
 use Rattle.answer.specs.Asked.{asked}
-use Rattle.answer.specs.Roster.{roster-room, roster-room-means, member-reply, kept-roster, row-answer, row-told-is}
+use Rattle.answer.specs.Roster.{roster-room, member-reply, kept-roster, row-answer}
+use Rattle.answer.proofs.RosterLaws.{roster-room-means, row-told-is}
 use Rattle.answer.proofs.roster.member.Statement.{statement}
 use Rattle.answer.proofs.roster.member.Tie as tie
 

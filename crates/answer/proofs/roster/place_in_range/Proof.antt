@@ -10,7 +10,7 @@ use lib.Signed.{leZ, ltZ}
 use mir.Syntax.{w64}
 use mir.Val.{toZ, ofZ}
 use mir.Facts.{toZ-ofZ}
-use Rattle.integers.specs.Tests.{leZ-not}
+use Rattle.integers.proofs.Tests.{leZ-not}
 use Rattle.answer.specs.Made.{reliable-at}
 use Rattle.answer.proofs.roster.place_in_range.Statement.{statement}
 use Rattle.answer.proofs.roster.place_in_range.Tie as tie

@@ -7,7 +7,8 @@ use borrow.Author.Needs.{needs}
 use borrow.Author.Tests.{not-true, not-false}
 use Rattle.rules.specs.declared.Standing.{Standing}
 use Rattle.answer.specs.declared.Row.the-variants.{Unit}
-use Rattle.answer.specs.Roster.{place-fine, place-means}
+use Rattle.answer.specs.Roster.{place-fine}
+use Rattle.answer.proofs.RosterLaws.{place-means}
 use Rattle.answer.proofs.roster.unit_or_other.Statement.{statement}
 use Rattle.answer.proofs.roster.unit_or_other.Tie as tie
 

@@ -7,7 +7,7 @@ use lib.ListN.{getD}
 use mir.Facts.{toZ-ofZ}
 use Rattle.rules.specs.Quantities.{performance-limit}
 use Rattle.rules.specs.Fields.{sized}
-use Rattle.answer.specs.Ranges.{sized-between}
+use Rattle.answer.proofs.Ranges.{sized-between}
 use Rattle.answer.proofs.rows.row_in_range.Statement.{statement}
 use Rattle.answer.proofs.rows.row_in_range.Tie as tie
 

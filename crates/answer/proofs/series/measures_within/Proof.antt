@@ -9,10 +9,11 @@ use lib.IntN.{ℤ}
 use mir.Syntax.{w32, w64}
 use mir.Val.{SFits}
 use mir.Facts.{toZ-ofZ, sfits-widen}
-use Rattle.integers.specs.Sums.{every, every-step, every-none, every-fails}
+use Rattle.integers.specs.Sums.{every}
+use Rattle.integers.proofs.Sums.{every-step, every-none, every-fails}
 use Rattle.rules.specs.Quantities.{regions, measure-limit}
 use Rattle.rules.specs.Fields.{sized}
-use Rattle.answer.specs.Ranges.{sized-between}
+use Rattle.answer.proofs.Ranges.{sized-between}
 use Rattle.answer.specs.Ranges.{there}
 use Rattle.answer.proofs.series.measures_within.Statement.{statement}
 use Rattle.answer.proofs.series.measures_within.Tie as tie

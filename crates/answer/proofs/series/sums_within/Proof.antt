@@ -6,7 +6,8 @@ use borrow.Author.Needs.{needs, sfits-of}
 use borrow.Author.Tests.{lt-leb, le-leb}
 use lib.IntN.{natAbs}
 use mir.Facts.{toZ-ofZ}
-use Rattle.integers.specs.Sums.{sumℕ, sumℕ-step, sumℕ-none, sumℕ-prefix}
+use Rattle.integers.specs.Sums.{sumℕ}
+use Rattle.integers.proofs.Sums.{sumℕ-step, sumℕ-none, sumℕ-prefix}
 use Rattle.rules.specs.Quantities.{regions}
 use Rattle.answer.specs.Ranges.{there}
 use Rattle.answer.proofs.series.sums_within.Statement.{statement}

@@ -1,7 +1,7 @@
 -- The share refuses nothing: its limits are kept.
 use mathlib.Core.Path.{sym}
 use lib.Seq.{length-take-le}
-use Rattle.answer.specs.Shares.{charged}
+use Rattle.answer.proofs.SharesLaws.{charged}
 use borrow.Author.Needs.{needs}
 use Rattle.answer.proofs.shares.charge.Statement.{statement}
 use Rattle.answer.proofs.shares.charge.Tie as tie

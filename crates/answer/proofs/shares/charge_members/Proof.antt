@@ -1,7 +1,7 @@
 -- What was listed is within the share's limits, and the share goes over it.
 use Rattle.integers.specs.Pairs.{loss}
-use Rattle.integers.specs.Bounds.{loss-≤}
-use Rattle.answer.specs.Shares.{front, front-fits, members-charged}
+use Rattle.integers.proofs.Bounds.{loss-≤}
+use Rattle.answer.proofs.SharesLaws.{front, front-fits, members-charged}
 use borrow.Author.Needs.{needs}
 use Rattle.answer.proofs.shares.charge_members.Statement.{statement}
 use Rattle.answer.proofs.shares.charge_members.Tie as tie

@@ -4,10 +4,10 @@ use Prim.Native.Nat.{ℕ, _≤_}
 use lib.Dec.{eqb}
 use native.Mathlib.Omega.{arith}
 use Rattle.integers.specs.Pairs.{gain, loss}
-use Rattle.integers.specs.Bounds.{gain-≤, loss-≤}
+use Rattle.integers.proofs.Bounds.{gain-≤, loss-≤}
 use Rattle.rules.specs.Quantities.{total-limit}
-use Rattle.answer.specs.Pools.{pool-cents-within}
-use Rattle.answer.specs.Shares.{front, front-fits, members-513, members-paid, not-refused}
+use Rattle.answer.proofs.PoolsLaws.{pool-cents-within}
+use Rattle.answer.proofs.SharesLaws.{front, front-fits, members-513, members-paid, not-refused}
 use borrow.Author.Needs.{needs}
 use Rattle.answer.proofs.shares.pay.Statement.{statement}
 use Rattle.answer.proofs.shares.pay.Tie as tie

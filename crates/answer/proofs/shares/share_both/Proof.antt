@@ -1,7 +1,7 @@
 -- The share refuses nothing: its limits are kept on both sides.
 use mathlib.Core.Path.{sym}
 use lib.Seq.{length-take-le}
-use Rattle.answer.specs.Shares.{signs-shared}
+use Rattle.answer.proofs.SharesLaws.{signs-shared}
 use borrow.Author.Needs.{needs}
 use Rattle.answer.proofs.shares.share_both.Statement.{statement}
 use Rattle.answer.proofs.shares.share_both.Tie as tie

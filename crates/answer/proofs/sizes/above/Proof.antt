@@ -3,9 +3,9 @@ use mathlib.Core.Path.{sym}
 use lib.IntN.{pos}
 use lib.Signed.{_≤ℤ_}
 use mir.Facts.{toZ-ofZ}
-use Rattle.integers.specs.Order.{<ℤ-≤ℤ}
-use Rattle.integers.specs.Tests.{ltZ-true, ltZ-false}
-use Rattle.integers.specs.Casts.{to-unsigned, gain-pos, no-gain}
+use Rattle.integers.proofs.Order.{<ℤ-≤ℤ}
+use Rattle.integers.proofs.Tests.{ltZ-true, ltZ-false}
+use Rattle.integers.proofs.Casts.{to-unsigned, gain-pos, no-gain}
 use Rattle.answer.proofs.sizes.above.Statement.{statement}
 use Rattle.answer.proofs.sizes.above.Tie as tie
 

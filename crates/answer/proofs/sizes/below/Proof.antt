@@ -6,8 +6,8 @@ use mir.Syntax.{w64}
 use mir.Val.{SFits}
 use mir.Facts.{toZ-ofZ}
 use native.Mathlib.Omega.{arith}
-use Rattle.integers.specs.Tests.{ltZ-true, ltZ-false}
-use Rattle.integers.specs.Casts.{turned, fits-up, fits-loss, some-loss, no-loss}
+use Rattle.integers.proofs.Tests.{ltZ-true, ltZ-false}
+use Rattle.integers.proofs.Casts.{turned, fits-up, fits-loss, some-loss, no-loss}
 use Rattle.answer.proofs.sizes.below.Statement.{statement}
 use Rattle.answer.proofs.sizes.below.Tie as tie
 

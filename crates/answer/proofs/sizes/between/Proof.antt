@@ -1,6 +1,6 @@
 -- Two signed tests, one for each end.
 use mir.Facts.{toZ-ofZ}
-use Rattle.integers.specs.Tests.{leZ-not}
+use Rattle.integers.proofs.Tests.{leZ-not}
 use Rattle.answer.proofs.sizes.between.Statement.{statement}
 use Rattle.answer.proofs.sizes.between.Tie as tie
 

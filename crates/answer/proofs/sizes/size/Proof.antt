@@ -4,10 +4,10 @@ use borrow.Author.Needs.{needs}
 use lib.IntN.{pos}
 use lib.Signed.{_<ℤ_, _≤ℤ_}
 use mir.Facts.{toZ-ofZ}
-use Rattle.integers.specs.Bounds.{abs-is}
-use Rattle.integers.specs.Order.{<ℤ-≤ℤ}
-use Rattle.integers.specs.Tests.{ltZ-true, ltZ-false}
-use Rattle.integers.specs.Casts.{no-gain, no-loss}
+use Rattle.integers.proofs.Bounds.{abs-is}
+use Rattle.integers.proofs.Order.{<ℤ-≤ℤ}
+use Rattle.integers.proofs.Tests.{ltZ-true, ltZ-false}
+use Rattle.integers.proofs.Casts.{no-gain, no-loss}
 use Rattle.answer.proofs.sizes.size.Statement.{statement}
 use Rattle.answer.proofs.sizes.size.Tie as tie
 

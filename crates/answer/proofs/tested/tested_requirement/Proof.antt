@@ -6,7 +6,8 @@ use borrow.Author.Needs.{needs}
 use borrow.Author.Tests.{not-true, not-false}
 use Rattle.interval.specs.Tally.{in-range, answer-turn}
 use Rattle.answer.specs.Promises.{lists-long, columns-long}
-use Rattle.answer.specs.Tested.{tested-requirement, lent-long}
+use Rattle.answer.specs.Tested.{tested-requirement}
+use Rattle.answer.proofs.TestedLaws.{lent-long}
 use Rattle.answer.proofs.tested.tested_requirement.Statement.{statement}
 use Rattle.answer.proofs.tested.tested_requirement.Tie as tie
 

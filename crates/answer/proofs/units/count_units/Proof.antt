@@ -3,7 +3,7 @@ use mathlib.Core.Path.{_≡_, sym, ap}
 use Prim.Native.Nat.{ℕ, _+_, _-_, _≤_}
 use native.Mathlib.Omega.{arith}
 use borrow.Author.Needs.{needs}
-use Rattle.integers.specs.Sums.{count-≤, sumℕ-step, sumℕ-none}
+use Rattle.integers.proofs.Sums.{count-≤, sumℕ-step, sumℕ-none}
 use Rattle.answer.specs.Rcr.{unit-there, bad-unit-there, units-there, bad-there}
 use Rattle.answer.proofs.units.count_units.Statement.{statement}
 use Rattle.answer.proofs.units.count_units.Tie as tie

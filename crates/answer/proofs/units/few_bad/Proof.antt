@@ -4,7 +4,7 @@ use Prim.Native.Nat.{ℕ, _*_, _≤_}
 use native.Mathlib.Nat.{mul-le-mul}
 use native.Mathlib.Omega.{arith}
 use lib.Dec.{leb}
-use Rattle.integers.specs.Sums.{count-≤}
+use Rattle.integers.proofs.Sums.{count-≤}
 use Rattle.answer.specs.Rcr.{unit-there, bad-unit-there}
 use Rattle.answer.proofs.units.few_bad.Statement.{statement}
 use Rattle.answer.proofs.units.few_bad.Tie as tie

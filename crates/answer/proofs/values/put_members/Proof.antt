@@ -8,8 +8,8 @@ use mir.Facts.{toZ-ofZ}
 use Rattle.answer.specs.Asked.{kept-rows, asked}
 use Rattle.answer.specs.declared.Member.{Member}
 use Rattle.answer.specs.Made.{picked}
-use Rattle.answer.specs.Lists.{headed-length}
-use Rattle.answer.specs.Values.{with-residual}
+use Rattle.answer.proofs.Lists.{headed-length}
+use Rattle.answer.proofs.ValuesLaws.{with-residual}
 use Rattle.answer.proofs.values.put_members.Statement.{statement}
 use Rattle.answer.proofs.values.put_members.Tie as tie
 

@@ -3,8 +3,9 @@ use mathlib.Core.Path.{_≡_, _∙_, ap}
 use Prim.Native.Nat.{_-_, _≤_}
 use native.Mathlib.Omega.{arith}
 use lib.ListN.{length}
-use Rattle.answer.specs.Lists.{headed-length}
-use Rattle.answer.specs.Values.{RowsPut, rows-none, rows-more}
+use Rattle.answer.proofs.Lists.{headed-length}
+use Rattle.answer.specs.Values.{RowsPut}
+use Rattle.answer.proofs.ValuesLaws.{rows-none, rows-more}
 use Rattle.answer.proofs.values.put_rows.Statement.{statement}
 use Rattle.answer.proofs.values.put_rows.Tie as tie
 

@@ -21,10 +21,12 @@ kind-is c = eq-eqb _ _ (sym (c .before .u16-at .ensures .reply) ∙ c .if1 .left
 abbrev found : tie.After-count-within → ℕ
 found c = items (start (c .before .before) .args .place) (start (c .before .before) .args .part .now)
 
-count-tested : (c : tie.After-count-within) → (leb (start (c .before .before) .args .least) (found c) && leb (found c) (start (c .before .before) .args .most)) ≡ c .count-within .result
+count-tested : (c : tie.After-count-within) → (leb (start (c .before .before) .args .least) (found c) && leb (found c) (start (c .before .before) .args .most))
+    ≡ c .count-within .result
 count-tested c = sym (rw (c .before .u16-at2 .ensures .reply) at (c .count-within .ensures))
 
-count-fine : (c : tie.Else2) → (leb (start (c .before .before .before) .args .least) (found (c .before)) && leb (found (c .before)) (start (c .before .before .before) .args .most)) ≡ true
+count-fine : (c : tie.Else2) → (leb (start (c .before .before .before) .args .least) (found (c .before))
+    && leb (found (c .before)) (start (c .before .before .before) .args .most)) ≡ true
 count-fine c = count-tested (c .before) ∙ not-false _ (c .if2 .left)
 
 abbrev second : tie.Else3 → tie.Else2
@@ -36,7 +38,8 @@ first c = second c .before .before .before
 offset-is : (c : tie.Else3) → eqb (number-at 4 (start (first c) .args .place + 4) (start (first c) .args .part .now)) (start (first c) .args .start) ≡ true
 offset-is c = eq-eqb _ _ (sym (c .before .u32-at .ensures .reply) ∙ c .if3 .left)
 
-body : (c : tie.After-u32-at2) → second (c .before) .before .before .u16-at2 .result * start (first (c .before)) .args .size ≡ found (second (c .before) .before) * start (first (c .before)) .args .size
+body : (c : tie.After-u32-at2) → second (c .before) .before .before .u16-at2 .result * start (first (c .before)) .args .size ≡
+    found (second (c .before) .before) * start (first (c .before)) .args .size
 body c = ap (λ (n : ℕ). n * start (first (c .before)) .args .size) (second (c .before) .before .before .u16-at2 .ensures .reply)
 
 u16-at-requires : tie.Need-u16-at-requires
@@ -64,7 +67,11 @@ u32-at-requires : tie.Need-u32-at-requires
 u32-at-requires c κs = search needs
 
 returns-3 : tie.Need-returns-3
-returns-3 c = let d = c .before .before in simp (kind-is (d .before .before .before), count-fine d, ne-eqb _ _ (λ e. c .if3 .taken (c .before .u32-at .ensures .reply ∙ e)))
+returns-3 c = let d = c .before .before in simp (
+  kind-is (d .before .before .before),
+  count-fine d,
+  ne-eqb _ _ (λ e. c .if3 .taken (c .before .u32-at .ensures .reply ∙ e)),
+)
 
 add-u32-at-2 : tie.Need-add-u32-at-2
 add-u32-at-2 c = search needs
@@ -85,10 +92,20 @@ mul-if4 c =
     record { fits = omega (arith, product) }
 
 returns-4 : tie.Need-returns-4
-returns-4 c = let d = c .before .before in simp (kind-is (first d), count-fine (second d), offset-is d, ne-eqb _ _ (λ e. c .if4 .taken (c .before .u32-at2 .ensures .reply ∙ e ∙ sym (body (c .before)))))
+returns-4 c = let d = c .before .before in simp (
+  kind-is (first d),
+  count-fine (second d),
+  offset-is d,
+  ne-eqb _ _ (λ e. c .if4 .taken (c .before .u32-at2 .ensures .reply ∙ e ∙ sym (body (c .before)))),
+)
 
 returns-5 : tie.Need-returns-5
-returns-5 c = let d = c .before .before in simp (kind-is (first d), count-fine (second d), offset-is d, eq-eqb _ _ (sym (c .before .u32-at2 .ensures .reply) ∙ c .if4 .left ∙ body (c .before)))
+returns-5 c = let d = c .before .before in simp (
+  kind-is (first d),
+  count-fine (second d),
+  offset-is d,
+  eq-eqb _ _ (sym (c .before .u32-at2 .ensures .reply) ∙ c .if4 .left ∙ body (c .before)),
+)
 
 pub entry-spec : {M : Type 1} → statement M
 entry-spec =

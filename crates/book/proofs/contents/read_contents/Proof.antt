@@ -39,21 +39,41 @@ u16-at-requires c κs = search needs
 
 returns-3 : tie.Need-returns-3
 unfolding contents
-returns-3 c = record { reply = simp (long-enough (c .before .before .before .before), marked (c .before .before), ne-eqb _ _ (λ e. c .if3 .taken (c .before .u16-at .ensures .reply ∙ e))) }
+returns-3 c = record {
+  reply = simp (
+    long-enough (c .before .before .before .before),
+    marked (c .before .before),
+    ne-eqb _ _ (λ e. c .if3 .taken (c .before .u16-at .ensures .reply ∙ e)),
+  );
+}
 
 u16-at-requires-2 : tie.Need-u16-at-requires-2
 u16-at-requires-2 c κs = search needs
 
 returns-4 : tie.Need-returns-4
 unfolding contents
-returns-4 c = record { reply = simp (long-enough (c .before .before .before .before .before .before), marked (c .before .before .before .before), four-entries (c .before .before), ne-eqb _ _ (λ e. c .if4 .taken (c .before .u16-at2 .ensures .reply ∙ e))) }
+returns-4 c = record {
+  reply = simp (
+    long-enough (c .before .before .before .before .before .before),
+    marked (c .before .before .before .before),
+    four-entries (c .before .before),
+    ne-eqb _ _ (λ e. c .if4 .taken (c .before .u16-at2 .ensures .reply ∙ e)),
+  );
+}
 
 read-entries-requires : tie.Need-read-entries-requires
 read-entries-requires c κs = search needs
 
 returns-5 : tie.Need-returns-5
 unfolding contents entries
-returns-5 c = record { reply = simp (long-enough (c .before .before .before .before .before .before .before), marked (c .before .before .before .before .before), four-entries (c .before .before .before), zero-field (c .before)) (c .read-entries .ensures) }
+returns-5 c = record {
+  reply = simp (
+    long-enough (c .before .before .before .before .before .before .before),
+    marked (c .before .before .before .before .before),
+    four-entries (c .before .before .before),
+    zero-field (c .before),
+  ) (c .read-entries .ensures);
+}
 
 pub read-contents-spec : {M : Type 1} → statement M
 read-contents-spec =

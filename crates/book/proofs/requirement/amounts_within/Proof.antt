@@ -39,14 +39,19 @@ u32-at-requires-2 c κs = search needs
 
 returns-3 : tie.Need-returns-3
 unfolding requirement-in
-returns-3 c = simp (cheap (c .before .before .before .before), bounded (c .before .before), lt-leb _ _ (rw (c .before .u32-at2 .ensures .reply) at (c .if3 .taken)))
+returns-3 c = simp (
+  cheap (c .before .before .before .before),
+  bounded (c .before .before),
+  lt-leb _ _ (rw (c .before .u32-at2 .ensures .reply) at (c .if3 .taken)),
+)
 
 u32-at-requires-3 : tie.Need-u32-at-requires-3
 u32-at-requires-3 c κs = search needs
 
 returns-4 : tie.Need-returns-4
 unfolding requirement-in
-returns-4 c = simp (cheap (c .before .before .before .before .before), bounded (c .before .before .before), possible (c .before)) (rw (c .u32-at3 .ensures .reply))
+returns-4 c = simp (cheap (c .before .before .before .before .before), bounded (c .before .before .before), possible (c .before))
+    (rw (c .u32-at3 .ensures .reply))
 
 pub amounts-within-spec : {M : Type 1} → statement M
 amounts-within-spec =

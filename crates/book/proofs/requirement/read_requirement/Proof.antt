@@ -16,10 +16,13 @@ use Rattle.book.proofs.requirement.read_requirement.Tie as tie
 long-enough : (c : tie.Else1) → leb requirement-size (length (c .before .before .args .part .now)) ≡ true
 long-enough c = le-leb _ _ (c .if1 .left)
 
-tested : (c : tie.Else2) → (leb (c .before .before .before .before .args .least) (requirement-in (c .before .before .before .before .args .part .now) .number) && leb (number-at 1 3 (c .before .before .before .before .args .part .now)) 1 && requirement-fine (requirement-in (c .before .before .before .before .args .part .now))) ≡ true
+tested : (c : tie.Else2) → (leb (c .before .before .before .before .args .least) (requirement-in (c .before .before .before .before .args .part .now) .number)
+    && leb (number-at 1 3 (c .before .before .before .before .args .part .now)) 1
+    && requirement-fine (requirement-in (c .before .before .before .before .args .part .now))) ≡ true
 tested c = sym (c .before .requirement-fields-fine .ensures) ∙ not-false _ (c .if2 .left)
 
-ended : (c : tie.Else3) → (not (c .before .before .before .before .before .before .args .last) || eqb (length (c .before .before .before .before .before .before .args .part .now)) requirement-size) ≡ true
+ended : (c : tie.Else3) → (not (c .before .before .before .before .before .before .args .last) || eqb
+    (length (c .before .before .before .before .before .before .args .part .now)) requirement-size) ≡ true
 ended c = sym (c .before .ends-with-the-book .ensures) ∙ not-false _ (c .if3 .left)
 
 returns : tie.Need-returns
@@ -38,14 +41,24 @@ ends-with-the-book-requires c κs = search needs
 
 returns-3 : tie.Need-returns-3
 unfolding requirement-record
-returns-3 c = record { reply = simp (long-enough (c .before .before .before .before), tested (c .before .before), sym (c .before .ends-with-the-book .ensures) ∙ not-true _ (c .if3 .taken)) }
+returns-3 c = record {
+  reply = simp (
+    long-enough (c .before .before .before .before),
+    tested (c .before .before),
+    sym (c .before .ends-with-the-book .ensures)
+        ∙ not-true _ (c .if3 .taken),
+  );
+}
 
 requirement-fields-requires : tie.Need-requirement-fields-requires
 requirement-fields-requires c κs = search needs
 
 returns-4 : tie.Need-returns-4
 unfolding requirement-record
-returns-4 c = record { reply = simp (long-enough (c .before .before .before .before .before), tested (c .before .before .before), ended (c .before)) (ap Taken (c .requirement-fields .ensures)) }
+returns-4 c = record {
+  reply = simp (long-enough (c .before .before .before .before .before), tested (c .before .before .before), ended (c .before))
+      (ap Taken (c .requirement-fields .ensures));
+}
 
 pub read-requirement-spec : {M : Type 1} → statement M
 read-requirement-spec =

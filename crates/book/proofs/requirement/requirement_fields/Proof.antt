@@ -31,7 +31,16 @@ u32-at-requires-3 c κs = search needs
 
 returns : tie.Need-returns
 unfolding requirement-in
-returns c = rw (c .before .before .before .before .before .before .before .u16-at .ensures .reply, c .before .before .before .before .before .before .u8-at .ensures .reply, c .before .before .before .before .direction .ensures ∙ ap direction-of (c .before .before .before .before .before .u8-at2 .ensures .reply), c .before .before .before .u32-at .ensures .reply, c .before .before .u64-at .ensures .reply, c .before .u32-at2 .ensures .reply, c .u32-at3 .ensures .reply)
+returns c = rw (
+  c .before .before .before .before .before .before .before .u16-at .ensures .reply,
+  c .before .before .before .before .before .before .u8-at .ensures .reply,
+  c .before .before .before .before .direction .ensures
+      ∙ ap direction-of (c .before .before .before .before .before .u8-at2 .ensures .reply),
+  c .before .before .before .u32-at .ensures .reply,
+  c .before .before .u64-at .ensures .reply,
+  c .before .u32-at2 .ensures .reply,
+  c .u32-at3 .ensures .reply,
+)
 
 pub requirement-fields-spec : {M : Type 1} → statement M
 requirement-fields-spec =

@@ -16,7 +16,8 @@ rising c = le-leb _ _ (rw (c .before .u16-at .ensures .reply) at (c .if1 .left))
 directed : (c : tie.Else2) → leb (number-at 1 3 (c .before .before .before .before .before .args .part .now)) 1 ≡ true
 directed c = le-leb _ _ (rw (c .before .u8-at .ensures .reply) at (c .if2 .left))
 
-tested : (c : tie.After-region-set-fine) → set-fine (requirement-in (c .before .before .before .before .before .before .before .args .part .now) .set) ≡ c .region-set-fine .result
+tested : (c : tie.After-region-set-fine) → set-fine (requirement-in (c .before .before .before .before .before .before .before .args .part .now) .set) ≡
+    c .region-set-fine .result
 unfolding requirement-in
 tested c = ap set-fine (sym (c .before .u8-at2 .ensures .reply)) ∙ sym (c .region-set-fine .ensures)
 
@@ -52,7 +53,11 @@ amounts-within-requires c κs = search needs
 
 returns-4 : tie.Need-returns-4
 unfolding requirement-in
-returns-4 c = simp (rising (c .before .before .before .before .before .before), directed (c .before .before .before .before), tested (c .before .before) ∙ not-false _ (c .before .if3 .left)) (c .amounts-within .ensures)
+returns-4 c = simp (
+  rising (c .before .before .before .before .before .before),
+  directed (c .before .before .before .before),
+  tested (c .before .before) ∙ not-false _ (c .before .if3 .left),
+) (c .amounts-within .ensures)
 
 pub requirement-fields-fine-spec : {M : Type 1} → statement M
 requirement-fields-fine-spec =

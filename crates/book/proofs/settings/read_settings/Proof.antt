@@ -13,8 +13,10 @@ use Rattle.book.proofs.settings.read_settings.Tie as tie
 long-enough : (c : tie.Else1) → leb settings-size (length (c .before .before .args .part .now)) ≡ true
 long-enough c = le-leb _ _ (c .if1 .left)
 
-tested : (c : tie.After-settings-fine) → settings-fine (settings-in (c .before .before .before .before .before .before .args .part .now)) ≡ c .settings-fine .result
-tested c = sym (rw (c .before .before .before .u16-at .ensures .reply, c .before .before .u8-at .ensures .reply, c .before .u8-at2 .ensures .reply) at (c .settings-fine .ensures))
+tested : (c : tie.After-settings-fine) → settings-fine (settings-in (c .before .before .before .before .before .before .args .part .now)) ≡
+    c .settings-fine .result
+tested c = sym (rw (c .before .before .before .u16-at .ensures .reply, c .before .before .u8-at .ensures .reply, c .before .u8-at2 .ensures .reply) at
+    (c .settings-fine .ensures))
 
 returns : tie.Need-returns
 unfolding settings
@@ -41,7 +43,15 @@ u32-at-requires c κs = search needs
 
 returns-3 : tie.Need-returns-3
 unfolding settings
-returns-3 c = record { reply = rw (c .before .before .before .before .before .u16-at .ensures .reply, c .before .before .before .before .u8-at .ensures .reply, c .before .before .before .u8-at2 .ensures .reply, c .u32-at .ensures .reply) (simp (long-enough (c .before .before .before .before .before .before), tested (c .before .before) ∙ not-false _ (c .before .if2 .left))) }
+returns-3 c = record {
+  reply = rw (
+    c .before .before .before .before .before .u16-at .ensures .reply,
+    c .before .before .before .before .u8-at .ensures .reply,
+    c .before .before .before .u8-at2 .ensures .reply,
+    c .u32-at .ensures .reply,
+  )
+      (simp (long-enough (c .before .before .before .before .before .before), tested (c .before .before) ∙ not-false _ (c .before .if2 .left)));
+}
 
 pub read-settings-spec : {M : Type 1} → statement M
 read-settings-spec =

@@ -1,6 +1,6 @@
 -- 0 is raise, and what is not 0 is lower.
 use borrow.Author.Needs.{needs}
-use Rattle.dullavane.specs.Asked.{lower-of}
+use Rattle.dullavane.proofs.AskedLaws.{lower-of}
 use Rattle.dullavane.proofs.asked.direction_of.Statement.{statement}
 use Rattle.dullavane.proofs.asked.direction_of.Tie as tie
 

@@ -6,7 +6,7 @@ use native.Mathlib.Nat.{lt-of-lt-of-le}
 use lib.Dec.{lit<}
 use lib.ListN.{length-set, drop}
 use borrow.Author.Needs.{needs}
-use Rattle.dullavane.specs.Words.{eight-stores}
+use Rattle.dullavane.proofs.WordsLaws.{eight-stores}
 use Rattle.dullavane.specs.Answers.{reply-words}
 use Rattle.dullavane.proofs.asked.put_answer.Statement.{statement}
 use Rattle.dullavane.proofs.asked.put_answer.Tie as tie
@@ -56,8 +56,10 @@ returns c =
     let a = start c .args in
     let g = a .given in
     let ws = a .reply .now in
-    eight-stores ws (g .members) (g .rcr) (g .pool) (g .used .pool) (g .unused .pool) (g .used .unplaced) (g .unused .unplaced) (numbered .standing-number .result) (start c .pre)
-    ∙ ap (λ (s : ℕ). g .members ∷ g .rcr ∷ g .pool ∷ g .used .pool ∷ g .unused .pool ∷ g .used .unplaced ∷ g .unused .unplaced ∷ s ∷ drop reply-words ws) (numbered .standing-number .ensures)
+    eight-stores ws (g .members) (g .rcr) (g .pool) (g .used .pool) (g .unused .pool) (g .used .unplaced) (g .unused .unplaced)
+    (numbered .standing-number .result) (start c .pre)
+    ∙ ap (λ (s : ℕ). g .members ∷ g .rcr ∷ g .pool ∷ g .used .pool ∷ g .unused .pool ∷ g .used .unplaced ∷ g .unused .unplaced ∷ s ∷ drop reply-words ws)
+    (numbered .standing-number .ensures)
 
 pub put-answer-spec : {M : Type 1} → statement M
 put-answer-spec =

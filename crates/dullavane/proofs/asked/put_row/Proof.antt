@@ -2,7 +2,7 @@
 use native.Mathlib.Omega.{arith}
 use lib.ListN.{length-set}
 use borrow.Author.Needs.{needs}
-use Rattle.dullavane.specs.Asked.{three-stores}
+use Rattle.dullavane.proofs.AskedLaws.{three-stores}
 use Rattle.dullavane.proofs.asked.put_row.Statement.{statement}
 use Rattle.dullavane.proofs.asked.put_row.Tie as tie
 

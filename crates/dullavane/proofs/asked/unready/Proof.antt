@@ -5,15 +5,19 @@ use borrow.Author.Needs.{needs}
 use borrow.Author.Tests.{not-true, not-false}
 use Rattle.rules.specs.declared.Refusal.the-variants.{OutOfTurn, TooShort}
 use Rattle.rules.specs.Refusals.{taken, unless}
-use Rattle.dullavane.specs.Words.{reply-number, held-means}
-use Rattle.dullavane.specs.Asked.{ready, ready-number, unready-held}
+use Rattle.dullavane.specs.Words.{reply-number}
+use Rattle.dullavane.proofs.WordsLaws.{held-means}
+use Rattle.dullavane.specs.Asked.{ready}
+use Rattle.dullavane.proofs.AskedLaws.{ready-number, unready-held}
 use Rattle.dullavane.proofs.asked.unready.Statement.{statement}
 use Rattle.dullavane.proofs.asked.unready.Tie as tie
 
 abbrev start : tie.After-answer-turn → tie.Start
 start c = c .before .before .before .before .before
 
-tested : (c : tie.After-answer-turn) {x f m : Bool} → let a = start c .args in c .answer-turn .result ≡ x → a .fine ≡ f → a .room ≡ m → reply-number (unless x OutOfTurn (unless f OutOfTurn (unless m TooShort (taken (c .before .tally-in .result))))) ≡ reply-number (ready (a .words .now) (a .fine) (a .room))
+tested : (c : tie.After-answer-turn) {x f m : Bool} → let a = start c .args in c .answer-turn .result ≡ x → a .fine ≡ f → a .room ≡ m →
+    reply-number (unless x OutOfTurn (unless f OutOfTurn (unless m TooShort (taken (c .before .tally-in .result))))) ≡
+    reply-number (ready (a .words .now) (a .fine) (a .room))
 tested c e = ready-number _ _ _ (c .before .tally-in .ensures) (sym (c .answer-turn .ensures) ∙ e)
 
 unheld-requires : tie.Need-unheld-requires

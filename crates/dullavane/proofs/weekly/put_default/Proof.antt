@@ -8,8 +8,8 @@ use lib.ListN.{set}
 use mir.Syntax.{w64}
 use mir.Facts.{toZ-ofZ}
 use borrow.Author.Needs.{sfits-of}
-use Rattle.integers.specs.Casts.{toZ-small}
-use Rattle.dullavane.specs.Weekly.{two-stores}
+use Rattle.integers.proofs.Casts.{toZ-small}
+use Rattle.dullavane.proofs.WeeklyLaws.{two-stores}
 use Rattle.dullavane.proofs.weekly.put_default.Statement.{statement}
 use Rattle.dullavane.proofs.weekly.put_default.Tie as tie
 

@@ -1,6 +1,6 @@
 -- Two stores in a row are the two words.
 use borrow.Author.Needs.{needs}
-use Rattle.dullavane.specs.Weekly.{two-stores}
+use Rattle.dullavane.proofs.WeeklyLaws.{two-stores}
 use Rattle.dullavane.proofs.weekly.put_week.Statement.{statement}
 use Rattle.dullavane.proofs.weekly.put_week.Tie as tie
 

@@ -2,7 +2,7 @@
 use borrow.Author.Needs.{needs}
 use mathlib.Core.Path.{sym, _∙_, ap}
 use Rattle.dullavane.specs.Words.{reply-number}
-use Rattle.dullavane.specs.Weekly.{week-short, week-wide, week-there}
+use Rattle.dullavane.proofs.WeeklyLaws.{week-short, week-wide, week-there}
 use Rattle.dullavane.proofs.weekly.week_unheld.Statement.{statement}
 use Rattle.dullavane.proofs.weekly.week_unheld.Tie as tie
 

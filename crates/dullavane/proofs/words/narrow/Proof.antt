@@ -1,7 +1,7 @@
 -- A word over its width is told at its turn; past five tests the last word settles it.
 use native.Mathlib.Nat.{not-le-of-lt}
 use borrow.Author.Needs.{needs}
-use Rattle.dullavane.specs.Words.{wide, narrow-but}
+use Rattle.dullavane.proofs.WordsLaws.{wide, narrow-but}
 use Rattle.dullavane.proofs.words.narrow.Statement.{statement}
 use Rattle.dullavane.proofs.words.narrow.Tie as tie
 

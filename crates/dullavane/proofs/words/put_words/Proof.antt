@@ -3,7 +3,7 @@ use native.Mathlib.Nat.{lt-of-lt-of-le}
 use lib.Dec.{lit<}
 use lib.ListN.{length-set}
 use borrow.Author.Needs.{needs}
-use Rattle.dullavane.specs.Words.{eight-stores}
+use Rattle.dullavane.proofs.WordsLaws.{eight-stores}
 use Rattle.dullavane.proofs.words.put_words.Statement.{statement}
 use Rattle.dullavane.proofs.words.put_words.Tie as tie
 

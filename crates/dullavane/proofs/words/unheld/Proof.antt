@@ -6,7 +6,8 @@ use lib.Dec.{leb}
 use lib.ListN.{length}
 use borrow.Author.Needs.{needs}
 use borrow.Author.Tests.{le-leb, lt-leb, not-true, not-false}
-use Rattle.dullavane.specs.Words.{tally-words, reply-number, held-by}
+use Rattle.dullavane.specs.Words.{tally-words, reply-number}
+use Rattle.dullavane.proofs.WordsLaws.{held-by}
 use Rattle.dullavane.proofs.words.unheld.Statement.{statement}
 use Rattle.dullavane.proofs.words.unheld.Tie as tie
 

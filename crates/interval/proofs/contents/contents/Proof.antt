@@ -1,7 +1,7 @@
 -- What the reader answers is what the format says, and the tally is made of it.
 use mathlib.Core.Path.{_≡_, sym, _∙_, ap}
 use Rattle.rules.specs.Contents.{contents}
-use Rattle.interval.specs.Calls.{opened-from, opened-is}
+use Rattle.interval.proofs.Calls.{opened-from, opened-is}
 use borrow.Author.Needs.{needs}
 use Rattle.interval.proofs.contents.contents.Statement.{statement}
 use Rattle.interval.proofs.contents.contents.Tie as tie

@@ -9,8 +9,9 @@ use Rattle.rules.specs.RequirementRecord.{requirement-record}
 use Rattle.book.specs.Requirement.{requirement-answer}
 use Rattle.interval.specs.declared.Step.{Step}
 use Rattle.interval.specs.Tally.{in-range, requirement-turn, book-end}
-use Rattle.interval.specs.TallyLaws.{RequirementTurn, requirement-comes}
-use Rattle.interval.specs.Calls.{count-taken, requirement-reply, required-from, required-is}
+use Rattle.interval.proofs.TallyLaws.{RequirementTurn, requirement-comes}
+use Rattle.interval.proofs.Calls.{count-taken, required-from, required-is}
+use Rattle.interval.specs.Calls.{requirement-reply}
 use Rattle.interval.specs.Promises.{RequirementPromise}
 use Rattle.interval.proofs.requirement.requirement.Statement.{statement}
 use Rattle.interval.proofs.requirement.requirement.Tie as tie
@@ -25,13 +26,15 @@ comes : (c : tie.Else1) → RequirementTurn (start c .args .tally)
 comes c = requirement-comes _ (in-turn c)
 
 -- what the reader answered is what the call answers
-answers : (c : tie.After-read-requirement) (r : Step) → r ≡ required-from (start (c .before .before) .args .tally) (c .read-requirement .result) → RequirementPromise (start (c .before .before) .args .tally) (start (c .before .before) .args .part .now) r
+answers : (c : tie.After-read-requirement) (r : Step) → r ≡ required-from (start (c .before .before) .args .tally) (c .read-requirement .result) →
+    RequirementPromise (start (c .before .before) .args .tally) (start (c .before .before) .args .part .now) r
 unfolding requirement-reply
 answers c r e =
     let t = start (c .before .before) .args .tally in
     let part = start (c .before .before) .args .part .now in
     let last = eqb (t .records + 1) (book-end t) in
-    let read = c .read-requirement .ensures .reply ∙ ap (λ (b : Bool). requirement-answer (requirement-record (t .least) b part)) (c .before .comes-last .ensures) in
+    let read = c .read-requirement .ensures .reply ∙ ap (λ (b : Bool). requirement-answer (requirement-record (t .least) b part))
+    (c .before .comes-last .ensures) in
     record { reply = rw (in-turn (c .before .before)) (e ∙ ap (required-from t) read ∙ required-is t (requirement-record (t .least) last part)) }
 
 requirement-turn-requires : tie.Need-requirement-turn-requires
@@ -71,7 +74,8 @@ refuse-requires-2 c κs = search needs
 returns-2 : tie.Need-returns-2
 returns-2 c =
     let a = c .before .before .before .before .before in
-    answers a _ (c .count .ensures ∙ count-taken _ _ (comes (a .before .before) .few) ∙ ap (required-from (start (a .before .before) .args .tally)) (sym (c .before .before .before .read .given .1)))
+    answers a _ (c .count .ensures ∙ count-taken _ _ (comes (a .before .before) .few) ∙ ap (required-from (start (a .before .before) .args .tally))
+    (sym (c .before .before .before .read .given .1)))
 
 returns-3 : tie.Need-returns-3
 returns-3 c =

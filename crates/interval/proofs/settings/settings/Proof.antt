@@ -6,7 +6,8 @@ use borrow.Author.Needs.{needs}
 use Rattle.rules.specs.SettingsRecord.{settings}
 use Rattle.interval.specs.declared.Step.{Step}
 use Rattle.interval.specs.Tally.{in-range, settings-turn}
-use Rattle.interval.specs.Calls.{settings-reply, settled-from, settled-is}
+use Rattle.interval.specs.Calls.{settings-reply}
+use Rattle.interval.proofs.Calls.{settled-from, settled-is}
 use Rattle.interval.specs.Promises.{SettingsPromise}
 use Rattle.interval.proofs.settings.settings.Statement.{statement}
 use Rattle.interval.proofs.settings.settings.Tie as tie
@@ -18,11 +19,15 @@ in-turn : (c : tie.Else1) → (in-range (start c .args .tally) && settings-turn 
 in-turn c = sym (c .before .settings-turn .ensures) ∙ not-false _ (c .if1 .left)
 
 -- what the reader answered is what the call answers
-answers : (c : tie.After-read-settings) (r : Step) → r ≡ settled-from (start (c .before) .args .tally) (c .read-settings .result) → SettingsPromise (start (c .before) .args .tally) (start (c .before) .args .part .now) r
+answers : (c : tie.After-read-settings) (r : Step) → r ≡ settled-from (start (c .before) .args .tally) (c .read-settings .result) →
+    SettingsPromise (start (c .before) .args .tally) (start (c .before) .args .part .now) r
 unfolding settings-reply
 answers c r e =
     let t = start (c .before) .args .tally in
-    record { reply = rw (in-turn (c .before)) (e ∙ ap (settled-from t) (c .read-settings .ensures .reply) ∙ settled-is t (settings (start (c .before) .args .part .now))) }
+    record {
+      reply = rw (in-turn (c .before)) (e ∙ ap (settled-from t) (c .read-settings .ensures .reply)
+          ∙ settled-is t (settings (start (c .before) .args .part .now)));
+    }
 
 settings-turn-requires : tie.Need-settings-turn-requires
 settings-turn-requires c κs = search needs

@@ -17,7 +17,8 @@ some-requirements c = le-leb _ _ (c .if2 .left)
 few-requirements : (c : tie.Else3) → leb (c .before .before .before .before .before .before .args .tally .requirements) 32 ≡ true
 few-requirements c = le-leb _ _ (c .if3 .left)
 
-few-records : (c : tie.Else4) → leb (c .before .before .before .before .before .before .before .before .before .before .args .tally .records) (book-end (c .before .before .before .before .before .before .before .before .before .before .args .tally)) ≡ true
+few-records : (c : tie.Else4) → leb (c .before .before .before .before .before .before .before .before .before .before .args .tally .records)
+    (book-end (c .before .before .before .before .before .before .before .before .before .before .args .tally)) ≡ true
 few-records c = le-leb _ _ (c .if4 .left)
 
 returns : tie.Need-returns
@@ -40,18 +41,26 @@ add-if4-2 c = search needs
 
 returns-4 : tie.Need-returns-4
 unfolding in-range
-returns-4 c = let d = c .before .before .before .before in simp (few-units (d .before .before .before .before), some-requirements (d .before .before), few-requirements d, lt-leb _ _ (c .if4 .taken))
+returns-4 c = let d = c .before .before .before .before in simp (
+  few-units (d .before .before .before .before),
+  some-requirements (d .before .before),
+  few-requirements d,
+  lt-leb _ _ (c .if4 .taken),
+)
 
 returns-5 : tie.Need-returns-5
 unfolding in-range
-returns-5 c = let e = c .before .before in let d = e .before .before .before .before in simp (few-units (d .before .before .before .before), some-requirements (d .before .before), few-requirements d, few-records e, lt-leb _ _ (c .if5 .taken))
+returns-5 c = let e = c .before .before in let d = e .before .before .before .before in simp
+    (few-units (d .before .before .before .before), some-requirements (d .before .before), few-requirements d, few-records e, lt-leb _ _ (c .if5 .taken))
 
 settings-in-range-requires : tie.Need-settings-in-range-requires
 settings-in-range-requires c κs = search needs
 
 returns-6 : tie.Need-returns-6
 unfolding in-range
-returns-6 c = let e = c .before .before .before in let d = e .before .before .before .before in simp (few-units (d .before .before .before .before), some-requirements (d .before .before), few-requirements d, few-records e, le-leb _ _ (c .before .if5 .left)) (c .settings-in-range .ensures)
+returns-6 c = let e = c .before .before .before in let d = e .before .before .before .before in simp
+    (few-units (d .before .before .before .before), some-requirements (d .before .before), few-requirements d, few-records e, le-leb _ _ (c .before .if5 .left))
+    (c .settings-in-range .ensures)
 
 pub in-range-spec : {M : Type 1} → statement M
 in-range-spec =

@@ -5,7 +5,7 @@ use native.Mathlib.Omega.{arith}
 use borrow.Author.Tests.{not-true, not-false, le-leb, lt-leb}
 use borrow.Author.Needs.{needs}
 use Rattle.interval.specs.Tally.{in-range}
-use Rattle.interval.specs.TallyLaws.{ranged}
+use Rattle.interval.proofs.TallyLaws.{ranged}
 use Rattle.interval.proofs.turns.requirement_turn.Statement.{statement}
 use Rattle.interval.proofs.turns.requirement_turn.Tie as tie
 

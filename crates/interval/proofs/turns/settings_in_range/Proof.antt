@@ -26,10 +26,20 @@ returns-3 : tie.Need-returns-3
 returns-3 c = simp (some (c .before .before .before .before), least (c .before .before), lt-leb _ _ (c .if3 .taken))
 
 returns-4 : tie.Need-returns-4
-returns-4 c = simp (some (c .before .before .before .before .before .before), least (c .before .before .before .before), most (c .before .before), lt-leb _ _ (c .if4 .taken))
+returns-4 c = simp (
+  some (c .before .before .before .before .before .before),
+  least (c .before .before .before .before),
+  most (c .before .before),
+  lt-leb _ _ (c .if4 .taken),
+)
 
 returns-5 : tie.Need-returns-5
-returns-5 c = rw (some (c .before .before .before .before .before .before .before), least (c .before .before .before .before .before), most (c .before .before .before), le-leb _ _ (c .before .if4 .left))
+returns-5 c = rw (
+  some (c .before .before .before .before .before .before .before),
+  least (c .before .before .before .before .before),
+  most (c .before .before .before),
+  le-leb _ _ (c .before .if4 .left),
+)
 
 pub settings-in-range-spec : {M : Type 1} → statement M
 settings-in-range-spec = tie.close (tie.spec returns returns-2 returns-3 returns-4 returns-5)

@@ -3,7 +3,7 @@ use mathlib.Core.Path.{sym}
 use native.Mathlib.Omega.{arith}
 use borrow.Author.Needs.{needs}
 use lib.ListN.{drop, length-drop}
-use Rattle.listing.specs.Lines.{line-refused, line-copied, from-place}
+use Rattle.listing.proofs.LinesLaws.{line-refused, line-copied, from-place}
 use Rattle.listing.proofs.lines.hand_over.Statement.{statement}
 use Rattle.listing.proofs.lines.hand_over.Tie as tie
 
@@ -11,7 +11,8 @@ sub-length : tie.Need-sub-length
 sub-length c = search needs
 
 returns : tie.Need-returns
-returns c = let s = c .before .before .before in line-refused (drop (s .args .at) (s .args .line .now)) (s .args .text .now) (omega (arith, length-drop (s .args .at) (s .args .line .now)))
+returns c = let s = c .before .before .before in line-refused (drop (s .args .at) (s .args .line .now)) (s .args .text .now)
+    (omega (arith, length-drop (s .args .at) (s .args .line .now)))
 
 sub-copy : tie.Need-sub-copy
 sub-copy c = search needs
@@ -32,7 +33,8 @@ returns-2 : tie.Need-returns-2
 returns-2 c =
     let s = c .before .before .before .before .before .before .before .before in
     let line = drop (s .args .at) (s .args .line .now) in
-    line-copied line (s .args .text .now) (omega (arith, length-drop (s .args .at) (s .args .line .now))) (sym (length-drop (s .args .at) (s .args .line .now))) (rw (from-place (s .args .line .now) (s .args .at)) at (c .before .before .copy .ensures))
+    line-copied line (s .args .text .now) (omega (arith, length-drop (s .args .at) (s .args .line .now))) (sym (length-drop (s .args .at) (s .args .line .now)))
+    (rw (from-place (s .args .line .now) (s .args .at)) at (c .before .before .copy .ensures))
 
 pub hand-over-spec : {M : Type 1} → statement M
 hand-over-spec =

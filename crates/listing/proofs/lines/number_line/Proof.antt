@@ -1,8 +1,9 @@
 -- The number, then the word before it; what stands from there on is the line.
 use borrow.Author.Needs.{needs}
 use Rattle.rules.specs.Text.{text, words}
-use Rattle.listing.specs.Pieces.{Room, room-less, room-after, put-inside, put-onto, natural-most}
-use Rattle.listing.specs.Lines.{line-room, line-end}
+use Rattle.listing.specs.Pieces.{Room}
+use Rattle.listing.proofs.PiecesLaws.{room-less, room-after, put-inside, put-onto, natural-most}
+use Rattle.listing.proofs.LinesLaws.{line-room, line-end}
 use Rattle.listing.proofs.lines.number_line.Statement.{statement}
 use Rattle.listing.proofs.lines.number_line.Tie as tie
 

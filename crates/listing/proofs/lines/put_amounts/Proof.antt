@@ -3,7 +3,8 @@ use lib.Dec.{lit≤}
 use borrow.Author.Needs.{needs, sfits-of}
 use mir.Facts.{toZ-ofZ}
 use Rattle.rules.specs.Text.{integer}
-use Rattle.listing.specs.Pieces.{Room, Put, after-space, room-less, room-after, put-before, integer-most}
+use Rattle.listing.specs.Pieces.{Room, Put, after-space}
+use Rattle.listing.proofs.PiecesLaws.{room-less, room-after, put-before, integer-most}
 use Rattle.listing.specs.Lines.{amounts-words}
 use Rattle.listing.proofs.lines.put_amounts.Statement.{statement}
 use Rattle.listing.proofs.lines.put_amounts.Tie as tie
@@ -11,35 +12,50 @@ use Rattle.listing.proofs.lines.put_amounts.Tie as tie
 abbrev S : tie.After-put-integer → tie.Start
 S c = c .before .before .before .before
 
-unused-put : (c : tie.After-put-integer) → Put (after-space (integer (S c .args .amounts .unused))) 164 (S c .args .line .now) (c .put-integer .result) (c .put-integer .last .1 .1 .0)
+unused-put : (c : tie.After-put-integer) → Put (after-space (integer (S c .args .amounts .unused))) 164 (S c .args .line .now) (c .put-integer .result)
+    (c .put-integer .last .1 .1 .0)
 unused-put c = rw (toZ-ofZ (sfits-of (c .before .struct-told .given .1 .1 .1 .1 .0 .1))) at (c .put-integer .ensures)
 
 unused-room : (c : tie.After-put-integer) → Room 142 (c .put-integer .result) (c .put-integer .last .1 .1 .0)
 unused-room c = room-after {k = 142} {j = 22} (S c .pre) (integer-most (S c .args .amounts .unused)) (unused-put c)
 
-used-put : (c : tie.After-put-integer2) → Put (after-space (integer (S (c .before .before .before .before .before) .args .amounts .used))) (c .before .before .before .before .before .put-integer .result) (c .before .before .before .before .before .put-integer .last .1 .1 .0) (c .put-integer2 .result) (c .put-integer2 .last .1 .1 .0)
+used-put : (c : tie.After-put-integer2) → Put (after-space (integer (S (c .before .before .before .before .before) .args .amounts .used)))
+    (c .before .before .before .before .before .put-integer .result) (c .before .before .before .before .before .put-integer .last .1 .1 .0)
+    (c .put-integer2 .result) (c .put-integer2 .last .1 .1 .0)
 used-put c = rw (toZ-ofZ (sfits-of (c .before .struct-told2 .given .1 .1 .1 .0 .1))) at (c .put-integer2 .ensures)
 
 used-room : (c : tie.After-put-integer2) → Room 120 (c .put-integer2 .result) (c .put-integer2 .last .1 .1 .0)
-used-room c = room-after {k = 120} {j = 22} (unused-room (c .before .before .before .before .before)) (integer-most (S (c .before .before .before .before .before) .args .amounts .used)) (used-put c)
+used-room c = room-after {k = 120} {j = 22} (unused-room (c .before .before .before .before .before))
+    (integer-most (S (c .before .before .before .before .before) .args .amounts .used)) (used-put c)
 
-payment-put : (c : tie.After-put-integer3) → Put (after-space (integer (S (c .before .before .before .before .before .before .before .before .before .before) .args .amounts .payment))) (c .before .before .before .before .before .put-integer2 .result) (c .before .before .before .before .before .put-integer2 .last .1 .1 .0) (c .put-integer3 .result) (c .put-integer3 .last .1 .1 .0)
+payment-put : (c : tie.After-put-integer3) → Put (after-space (integer (S
+    (c .before .before .before .before .before .before .before .before .before .before) .args .amounts .payment)))
+    (c .before .before .before .before .before .put-integer2 .result) (c .before .before .before .before .before .put-integer2 .last .1 .1 .0)
+    (c .put-integer3 .result) (c .put-integer3 .last .1 .1 .0)
 payment-put c = rw (toZ-ofZ (sfits-of (c .before .struct-told3 .given .1 .1 .0 .1))) at (c .put-integer3 .ensures)
 
 payment-room : (c : tie.After-put-integer3) → Room 98 (c .put-integer3 .result) (c .put-integer3 .last .1 .1 .0)
-payment-room c = room-after {k = 98} {j = 22} (used-room (c .before .before .before .before .before)) (integer-most (S (c .before .before .before .before .before .before .before .before .before .before) .args .amounts .payment)) (payment-put c)
+payment-room c = room-after {k = 98} {j = 22} (used-room (c .before .before .before .before .before))
+    (integer-most (S (c .before .before .before .before .before .before .before .before .before .before) .args .amounts .payment)) (payment-put c)
 
-factor-put : (c : tie.After-put-integer4) → Put (after-space (integer (S (c .before .before .before .before .before .before .before .before .before .before .before .before .before .before .before) .args .amounts .factor))) (c .before .before .before .before .before .put-integer3 .result) (c .before .before .before .before .before .put-integer3 .last .1 .1 .0) (c .put-integer4 .result) (c .put-integer4 .last .1 .1 .0)
+factor-put : (c : tie.After-put-integer4) →
+    Put (after-space (integer
+    (S (c .before .before .before .before .before .before .before .before .before .before .before .before .before .before .before) .args .amounts .factor)))
+    (c .before .before .before .before .before .put-integer3 .result) (c .before .before .before .before .before .put-integer3 .last .1 .1 .0)
+    (c .put-integer4 .result) (c .put-integer4 .last .1 .1 .0)
 factor-put c = rw (toZ-ofZ (sfits-of (c .before .struct-told4 .given .1 .0 .1))) at (c .put-integer4 .ensures)
 
 factor-room : (c : tie.After-put-integer4) → Room 76 (c .put-integer4 .result) (c .put-integer4 .last .1 .1 .0)
-factor-room c = room-after {k = 76} {j = 22} (payment-room (c .before .before .before .before .before)) (integer-most (S (c .before .before .before .before .before .before .before .before .before .before .before .before .before .before .before) .args .amounts .factor)) (factor-put c)
+factor-room c = room-after {k = 76} {j = 22} (payment-room (c .before .before .before .before .before))
+    (integer-most (S (c .before .before .before .before .before .before .before .before .before .before .before .before .before .before .before) .args .amounts .factor)) (factor-put c)
 
-performance-put : (c : tie.After-put-integer5) → Put (after-space (integer (S (c .before .before .before .before .before .before .before .before .before .before .before .before .before .before .before .before .before .before .before .before) .args .amounts .performance))) (c .before .before .before .before .before .put-integer4 .result) (c .before .before .before .before .before .put-integer4 .last .1 .1 .0) (c .put-integer5 .result) (c .put-integer5 .last .1 .1 .0)
+performance-put : (c : tie.After-put-integer5) → Put (after-space (integer
+    (S (c .before .before .before .before .before .before .before .before .before .before .before .before .before .before .before .before .before .before .before .before) .args .amounts .performance))) (c .before .before .before .before .before .put-integer4 .result) (c .before .before .before .before .before .put-integer4 .last .1 .1 .0) (c .put-integer5 .result) (c .put-integer5 .last .1 .1 .0)
 performance-put c = rw (toZ-ofZ (sfits-of (c .before .struct-told5 .given .0 .1))) at (c .put-integer5 .ensures)
 
 performance-room : (c : tie.After-put-integer5) → Room 54 (c .put-integer5 .result) (c .put-integer5 .last .1 .1 .0)
-performance-room c = room-after {k = 54} {j = 22} (factor-room (c .before .before .before .before .before)) (integer-most (S (c .before .before .before .before .before .before .before .before .before .before .before .before .before .before .before .before .before .before .before .before) .args .amounts .performance)) (performance-put c)
+performance-room c = room-after {k = 54} {j = 22} (factor-room (c .before .before .before .before .before))
+    (integer-most (S (c .before .before .before .before .before .before .before .before .before .before .before .before .before .before .before .before .before .before .before .before) .args .amounts .performance)) (performance-put c)
 
 put-integer-requires : tie.Need-put-integer-requires
 put-integer-requires c κs = search needs
@@ -70,7 +86,8 @@ returns c =
     let f = p .before .before .before .before .before in
     let y = f .before .before .before .before .before in
     let u = y .before .before .before .before .before in
-    put-before (put-before (put-before (put-before (put-before (unused-put (u .before .before .before .before .before)) (used-put u)) (payment-put y)) (factor-put f)) (performance-put p)) (s .put-standing .ensures)
+    put-before (put-before (put-before (put-before (put-before (unused-put (u .before .before .before .before .before)) (used-put u)) (payment-put y))
+    (factor-put f)) (performance-put p)) (s .put-standing .ensures)
 
 pub put-amounts-spec : {M : Type 1} → statement M
 put-amounts-spec =

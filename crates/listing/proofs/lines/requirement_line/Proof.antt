@@ -2,8 +2,9 @@
 use lib.Dec.{lit≤}
 use borrow.Author.Needs.{needs}
 use Rattle.rules.specs.Text.{text, words}
-use Rattle.listing.specs.Pieces.{Room, room-less, room-after, put-inside, put-onto, natural-most, direction-piece, direction-most}
-use Rattle.listing.specs.Lines.{line-room, line-end}
+use Rattle.listing.specs.Pieces.{Room, direction-piece}
+use Rattle.listing.proofs.PiecesLaws.{room-less, room-after, put-inside, put-onto, natural-most, direction-most}
+use Rattle.listing.proofs.LinesLaws.{line-room, line-end}
 use Rattle.listing.proofs.lines.requirement_line.Statement.{statement}
 use Rattle.listing.proofs.lines.requirement_line.Tie as tie
 
@@ -113,8 +114,10 @@ returns c =
     let i = g .before .before .before in
     let j = i .before .before .before in
     let k = j .before .before .before in
-    let tail = put-onto (e .put-natural5 .ensures) (put-onto (g .put-natural4 .ensures) (put-onto (i .put-natural3 .ensures) (put-onto (j .put-natural2 .ensures) (put-onto (k .put-natural .ensures) line-end)))) in
-    rw (put-onto (p .put .ensures) (put-onto (n .put-natural7 .ensures) (put-onto (d .put-direction .ensures) (put-onto (f .put-natural6 .ensures) tail)))) at (h .hand-over .ensures)
+    let tail = put-onto (e .put-natural5 .ensures) (put-onto (g .put-natural4 .ensures)
+    (put-onto (i .put-natural3 .ensures) (put-onto (j .put-natural2 .ensures) (put-onto (k .put-natural .ensures) line-end)))) in
+    rw (put-onto (p .put .ensures) (put-onto (n .put-natural7 .ensures) (put-onto (d .put-direction .ensures) (put-onto (f .put-natural6 .ensures) tail)))) at
+    (h .hand-over .ensures)
 
 pub requirement-line-spec : {M : Type 1} → statement M
 requirement-line-spec =

@@ -41,8 +41,11 @@ loop-again c =
     let l = c .before .before in
     let a = l .before .args in
     let i = l .loop .i in
-    let e = paste-suc (a .target .now) (a .to) (a .source .now) i 0 (omega arith) (omega arith) in
-    (omega arith, ap (λ (t : List ℕ). set t (a .to + i) (getD (a .source .now) i 0)) (l .loop .inv .1) ∙ e ∙ ap (paste (a .target .now) (a .to) (a .source .now)) (sym (add-one i)))
+    let e = paste-suc (a .target .now) (a .to) (a .source .now) i 0 (omega arith) (omega arith) in (
+      omega arith,
+      ap (λ (t : List ℕ). set t (a .to + i) (getD (a .source .now) i 0)) (l .loop .inv .1) ∙ e
+          ∙ ap (paste (a .target .now) (a .to) (a .source .now)) (sym (add-one i)),
+    )
 
 same-length : tie.Need-same-length Inv-loop μ-loop
 same-length c = long (c .before)

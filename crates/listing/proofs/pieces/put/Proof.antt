@@ -1,7 +1,7 @@
 -- The word is copied to where it ends at `at`.
 use native.Mathlib.Omega.{arith}
 use borrow.Author.Needs.{needs}
-use Rattle.listing.specs.Pieces.{put-word}
+use Rattle.listing.proofs.PiecesLaws.{put-word}
 use Rattle.listing.proofs.pieces.put.Statement.{statement}
 use Rattle.listing.proofs.pieces.put.Tie as tie
 

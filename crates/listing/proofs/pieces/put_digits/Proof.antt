@@ -2,7 +2,7 @@
 use native.Mathlib.Omega.{arith}
 use lib.ListN.{length-set}
 use borrow.Author.Needs.{needs}
-use Rattle.listing.specs.Pieces.{Spelt, spelt-none, spelt-more, spelt-all}
+use Rattle.listing.proofs.PiecesLaws.{Spelt, spelt-none, spelt-more, spelt-all}
 use Rattle.listing.proofs.pieces.put_digits.Statement.{statement}
 use Rattle.listing.proofs.pieces.put_digits.Tie as tie
 

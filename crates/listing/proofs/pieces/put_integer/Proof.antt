@@ -3,9 +3,10 @@ use lib.Dec.{lit≤}
 use borrow.Author.Needs.{needs}
 use lib.IntN.{natAbs}
 use mir.Facts.{toZ-ofZ}
-use Rattle.integers.specs.Tests.{leZ-true, leZ-false}
+use Rattle.integers.proofs.Tests.{leZ-true, leZ-false}
 use Rattle.rules.specs.Text.{text, natural}
-use Rattle.listing.specs.Pieces.{Room, Put, room-less, room-after, put-before, digits-most, integer-below, integer-above}
+use Rattle.listing.specs.Pieces.{Room, Put}
+use Rattle.listing.proofs.PiecesLaws.{room-less, room-after, put-before, digits-most, integer-below, integer-above}
 use Rattle.listing.proofs.pieces.put_integer.Statement.{statement}
 use Rattle.listing.proofs.pieces.put_integer.Tie as tie
 

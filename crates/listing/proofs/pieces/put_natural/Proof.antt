@@ -1,7 +1,7 @@
 -- The digits, and a space before them.
 use borrow.Author.Needs.{needs}
 use Rattle.rules.specs.Text.{text}
-use Rattle.listing.specs.Pieces.{room-after, put-before, digits-most}
+use Rattle.listing.proofs.PiecesLaws.{room-after, put-before, digits-most}
 use Rattle.listing.proofs.pieces.put_natural.Statement.{statement}
 use Rattle.listing.proofs.pieces.put_natural.Tie as tie
 

@@ -6,9 +6,9 @@ use mir.Syntax.{w64}
 use mir.Val.{SFits}
 use mir.Facts.{toZ-ofZ}
 use native.Mathlib.Omega.{arith}
-use Rattle.integers.specs.Tests.{ltZ-true, ltZ-false}
-use Rattle.integers.specs.Casts.{turned, fits-up, fits-loss, some-loss, to-unsigned}
-use Rattle.listing.specs.Pieces.{size-below}
+use Rattle.integers.proofs.Tests.{ltZ-true, ltZ-false}
+use Rattle.integers.proofs.Casts.{turned, fits-up, fits-loss, some-loss, to-unsigned}
+use Rattle.listing.proofs.PiecesLaws.{size-below}
 use Rattle.listing.proofs.pieces.size.Statement.{statement}
 use Rattle.listing.proofs.pieces.size.Tie as tie
 
@@ -36,11 +36,13 @@ sub-result c = simp (toZ-ofZ, c .before .fits .x, up c) (down c)
 
 cast-result : tie.Need-cast-result
 cast-result c =
-    simp (toZ-ofZ, c .before .fits .x, up c, down c) (rw (turned (x c) (below c)) (tt, record { fits = omega (arith, fits-loss (x c) (below c) (c .before .fits .x)) }))
+    simp (toZ-ofZ, c .before .fits .x, up c, down c) (rw (turned (x c) (below c))
+    (tt, record { fits = omega (arith, fits-loss (x c) (below c) (c .before .fits .x)) }))
 
 add-result-2 : tie.Need-add-result-2
 add-result-2 c =
-    simp (toZ-ofZ, c .before .fits .x, up c, down c) (rw (turned (x c) (below c)) (record { fits = omega (arith, fits-loss (x c) (below c) (c .before .fits .x)) }))
+    simp (toZ-ofZ, c .before .fits .x, up c, down c) (rw (turned (x c) (below c))
+    (record { fits = omega (arith, fits-loss (x c) (below c) (c .before .fits .x)) }))
 
 cast-result-2 : tie.Need-cast-result-2
 cast-result-2 c = simp (toZ-ofZ, c .before .fits .x) (to-unsigned tt (c .before .fits .x) (from-zero c))

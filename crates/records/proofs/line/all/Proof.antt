@@ -7,7 +7,8 @@ use Rattle.records.proofs.line.all.Statement.{statement}
 use Rattle.records.proofs.line.all.Tie as tie
 
 abbrev Inv-loop : tie.InvT-loop
-Inv-loop bytes₀ frequencies₀ readings₀ line₀ turns₀ bytes frequencies readings line turns = (length bytes ≡ length bytes₀) × (length frequencies ≡ length frequencies₀) × (length readings ≡ length readings₀)
+Inv-loop bytes₀ frequencies₀ readings₀ line₀ turns₀ bytes frequencies readings line turns = (length bytes ≡ length bytes₀) ×
+    (length frequencies ≡ length frequencies₀) × (length readings ≡ length readings₀)
 
 abbrev μ-loop : tie.MeasureT-loop
 μ-loop bytes₀ frequencies₀ readings₀ line₀ turns₀ bytes frequencies readings line turns = turns

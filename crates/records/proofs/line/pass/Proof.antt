@@ -8,7 +8,8 @@ use Rattle.records.proofs.line.pass.Statement.{statement}
 use Rattle.records.proofs.line.pass.Tie as tie
 
 abbrev Inv-loop : tie.InvT-loop
-Inv-loop text bytes₀ frequencies₀ readings₀ line₀ i₀ bytes frequencies readings line i = (i ≤ length text) × (length bytes ≡ length bytes₀) × (length frequencies ≡ length frequencies₀) × (length readings ≡ length readings₀)
+Inv-loop text bytes₀ frequencies₀ readings₀ line₀ i₀ bytes frequencies readings line i = (i ≤ length text) × (length bytes ≡ length bytes₀) ×
+    (length frequencies ≡ length frequencies₀) × (length readings ≡ length readings₀)
 
 abbrev μ-loop : tie.MeasureT-loop
 μ-loop text bytes₀ frequencies₀ readings₀ line₀ i₀ bytes frequencies readings line i = length text - i

@@ -1,7 +1,7 @@
 -- By the sign; each test tells what the cast or the call asks.
 use mir.Facts.{toZ-ofZ}
-use Rattle.integers.specs.Tests.{ltZ-true, ltZ-false}
-use Rattle.integers.specs.Casts.{to-unsigned}
+use Rattle.integers.proofs.Tests.{ltZ-true, ltZ-false}
+use Rattle.integers.proofs.Casts.{to-unsigned}
 use borrow.Author.Needs.{needs}
 use Rattle.records.proofs.say.signed.Statement.{statement}
 use Rattle.records.proofs.say.signed.Tie as tie
@@ -18,7 +18,10 @@ write-all-requires c κs = search needs
 size-requires : tie.Need-size-requires
 size-requires c κs =
     let s = c .before .before .before .before in
-    rw (toZ-ofZ (s .fits .x)) (ltZ-false (simp (toZ-ofZ (s .fits .x)) at (c .before .before .before .if1 .left)), ltZ-true (simp (toZ-ofZ (s .fits .x)) at (c .before .before .if2 .taken)))
+    rw (toZ-ofZ (s .fits .x)) (
+      ltZ-false (simp (toZ-ofZ (s .fits .x)) at (c .before .before .before .if1 .left)),
+      ltZ-true (simp (toZ-ofZ (s .fits .x)) at (c .before .before .if2 .taken)),
+    )
 
 print-decimal-requires : tie.Need-print-decimal-requires
 print-decimal-requires c κs = search needs

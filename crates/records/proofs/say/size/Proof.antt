@@ -4,9 +4,9 @@ use lib.IntN.{pos, negsuc, _-ℤ_}
 use mir.Facts.{toZ-ofZ}
 use mir.Syntax.{w64}
 use mir.Val.{SFits}
-use Rattle.integers.specs.Pairs.{v, _⊖_, le!, le?, lt-in}
-use Rattle.integers.specs.Bounds.{fits! }
-use Rattle.integers.specs.Casts.{to-unsigned}
+use Rattle.integers.proofs.Pairs.{v, _⊖_, le!, le?, lt-in}
+use Rattle.integers.proofs.Bounds.{fits! }
+use Rattle.integers.proofs.Casts.{to-unsigned}
 use borrow.Author.Needs.{needs}
 use Rattle.records.proofs.say.size.Statement.{statement}
 use Rattle.records.proofs.say.size.Tie as tie
@@ -21,7 +21,8 @@ sub-result : tie.Need-sub-result
 sub-result c = rw (toZ-ofZ (c .fits .x)) (turned c)
 
 cast-result : tie.Need-cast-result
-cast-result c = simp (toZ-ofZ (c .fits .x), toZ-ofZ (turned c)) (to-unsigned tt (turned c) (le! (v (pos 0)) (v (pos 0) ⊖ v (c .args .x)) (omega (arith, lt-in (c .pre .1)))))
+cast-result c = simp (toZ-ofZ (c .fits .x), toZ-ofZ (turned c)) (to-unsigned tt (turned c)
+    (le! (v (pos 0)) (v (pos 0) ⊖ v (c .args .x)) (omega (arith, lt-in (c .pre .1)))))
 
 returns : tie.Need-returns
 returns c = search needs

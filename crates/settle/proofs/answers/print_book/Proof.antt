@@ -8,11 +8,13 @@ use Rattle.settle.proofs.answers.print_book.Statement.{statement}
 use Rattle.settle.proofs.answers.print_book.Tie as tie
 
 abbrev Inv-loop : tie.InvT-loop
-Inv-loop bytes measures positive negative figures numbers places raise lower defaults performances₀ factors₀ payments₀ used₀ unused₀ text₀ tally left₀ start₀ performances factors payments used unused text left start =
+Inv-loop bytes measures positive negative figures numbers places raise lower defaults performances₀ factors₀ payments₀ used₀ unused₀ text₀ tally left₀ start₀
+    performances factors payments used unused text left start =
     (start + 24 * left ≤ 768) × (513 ≡ length factors) × (513 ≡ length payments) × (513 ≡ length used) × (513 ≡ length unused)
 
 abbrev μ-loop : tie.MeasureT-loop
-μ-loop bytes measures positive negative figures numbers places raise lower defaults performances₀ factors₀ payments₀ used₀ unused₀ text₀ tally left₀ start₀ performances factors payments used unused text left start =
+μ-loop bytes measures positive negative figures numbers places raise lower defaults performances₀ factors₀ payments₀ used₀ unused₀ text₀ tally left₀ start₀
+    performances factors payments used unused text left start =
     left
 
 tally-of-requires : tie.Need-tally-of-requires Inv-loop μ-loop
@@ -70,8 +72,13 @@ loop-again : tie.Need-loop-again Inv-loop μ-loop
 loop-again c =
     let a = c .before .before .before .before .before .before .before .before .before .before .before .before .before in
     let i = a .before .before .before .before .before .before .before .before .loop .inv in
-    let k = a .answer .kept in
-    (omega arith, i .1 ∙ sym (k .1 .1 .1 .1 .1 .1 .1 .1 .1 .1 .1 .0), i .2 ∙ sym (k .1 .1 .1 .1 .1 .1 .1 .1 .1 .1 .1 .1 .0), i .3 ∙ sym (k .1 .1 .1 .1 .1 .1 .1 .1 .1 .1 .1 .1 .1 .0), i .4 ∙ sym (k .1 .1 .1 .1 .1 .1 .1 .1 .1 .1 .1 .1 .1 .1 .0))
+    let k = a .answer .kept in (
+      omega arith,
+      i .1 ∙ sym (k .1 .1 .1 .1 .1 .1 .1 .1 .1 .1 .1 .0),
+      i .2 ∙ sym (k .1 .1 .1 .1 .1 .1 .1 .1 .1 .1 .1 .1 .0),
+      i .3 ∙ sym (k .1 .1 .1 .1 .1 .1 .1 .1 .1 .1 .1 .1 .1 .0),
+      i .4 ∙ sym (k .1 .1 .1 .1 .1 .1 .1 .1 .1 .1 .1 .1 .1 .1 .0),
+    )
 
 returns : tie.Need-returns Inv-loop μ-loop
 returns c = search needs

@@ -8,7 +8,8 @@ use Rattle.settle.proofs.records.take_head.Tie as tie
 
 abbrev Inv-loop : tie.InvT-loop
 Inv-loop bytes₀ measures₀ positive₀ negative₀ figures₀ frequencies₀ next₀ left₀ bytes measures positive negative figures frequencies next left =
-    (length bytes ≡ length bytes₀) × (length measures ≡ length measures₀) × (length positive ≡ length positive₀) × (length negative ≡ length negative₀) × (length figures ≡ length figures₀) × (75 ≡ length frequencies)
+    (length bytes ≡ length bytes₀) × (length measures ≡ length measures₀) × (length positive ≡ length positive₀) × (length negative ≡ length negative₀) ×
+    (length figures ≡ length figures₀) × (75 ≡ length frequencies)
 
 abbrev μ-loop : tie.MeasureT-loop
 μ-loop bytes₀ measures₀ positive₀ negative₀ figures₀ frequencies₀ next₀ left₀ bytes measures positive negative figures frequencies next left =
@@ -71,8 +72,14 @@ loop-again c =
     let a = frequency-in (c .before) in
     let b = reading-in a in
     let i = turn-in b .before .loop .inv in
-    let k = a .frequency .kept in
-    (b .read-record .kept .0 ∙ i .0, k .1 .1 .1 .0 ∙ i .1, k .1 .1 .1 .1 .0 ∙ i .2, k .1 .1 .1 .1 .1 .0 ∙ i .3, k .1 .1 .1 .1 .1 .1 .0 ∙ i .4, i .5 ∙ sym (k .1 .1 .0))
+    let k = a .frequency .kept in (
+      b .read-record .kept .0 ∙ i .0,
+      k .1 .1 .1 .0 ∙ i .1,
+      k .1 .1 .1 .1 .0 ∙ i .2,
+      k .1 .1 .1 .1 .1 .0 ∙ i .3,
+      k .1 .1 .1 .1 .1 .1 .0 ∙ i .4,
+      i .5 ∙ sym (k .1 .1 .0),
+    )
 
 same-length : tie.Need-same-length Inv-loop μ-loop
 same-length c = c .before .loop .inv .0 ∙ c .before .before .before .before .before .take-opening .kept .0

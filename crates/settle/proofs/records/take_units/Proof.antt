@@ -7,11 +7,15 @@ use Rattle.settle.proofs.records.take_units.Statement.{statement}
 use Rattle.settle.proofs.records.take_units.Tie as tie
 
 abbrev Inv-loop : tie.InvT-loop
-Inv-loop next₀ bytes₀ measures positive₀ negative₀ numbers₀ places₀ raise₀ lower₀ defaults₀ deviations₀ readings₀ tally₀ left₀ next bytes positive negative numbers places raise lower defaults deviations readings tally left =
-    (length bytes ≡ length bytes₀) × (length positive ≡ length positive₀) × (length negative ≡ length negative₀) × (length numbers ≡ length numbers₀) × (length places ≡ length places₀) × (length raise ≡ length raise₀) × (length lower ≡ length lower₀) × (length defaults ≡ length defaults₀) × (length deviations ≡ length deviations₀) × (75 ≡ length readings)
+Inv-loop next₀ bytes₀ measures positive₀ negative₀ numbers₀ places₀ raise₀ lower₀ defaults₀ deviations₀ readings₀ tally₀ left₀ next bytes positive negative
+    numbers places raise lower defaults deviations readings tally left =
+    (length bytes ≡ length bytes₀) × (length positive ≡ length positive₀) × (length negative ≡ length negative₀) × (length numbers ≡ length numbers₀) ×
+    (length places ≡ length places₀) × (length raise ≡ length raise₀) × (length lower ≡ length lower₀) × (length defaults ≡ length defaults₀) ×
+    (length deviations ≡ length deviations₀) × (75 ≡ length readings)
 
 abbrev μ-loop : tie.MeasureT-loop
-μ-loop next₀ bytes₀ measures positive₀ negative₀ numbers₀ places₀ raise₀ lower₀ defaults₀ deviations₀ readings₀ tally₀ left₀ next bytes positive negative numbers places raise lower defaults deviations readings tally left =
+μ-loop next₀ bytes₀ measures positive₀ negative₀ numbers₀ places₀ raise₀ lower₀ defaults₀ deviations₀ readings₀ tally₀ left₀ next bytes positive negative
+    numbers places raise lower defaults deviations readings tally left =
     left
 
 -- the places of a turn, from its end: the call, the reading, the start
@@ -65,8 +69,18 @@ loop-again c =
     let a = unit-in (c .before) in
     let b = reading-in a in
     let i = turn-in b .before .loop .inv in
-    let k = a .unit .kept in
-    (b .read-record .kept .0 ∙ i .0, k .1 .1 .1 .1 .1 .0 ∙ i .1, k .1 .1 .1 .1 .1 .1 .0 ∙ i .2, k .1 .1 .1 .1 .1 .1 .1 .0 ∙ i .3, k .1 .1 .1 .1 .1 .1 .1 .1 .0 ∙ i .4, k .1 .1 .1 .1 .1 .1 .1 .1 .1 .0 ∙ i .5, k .1 .1 .1 .1 .1 .1 .1 .1 .1 .1 .0 ∙ i .6, k .1 .1 .1 .1 .1 .1 .1 .1 .1 .1 .1 .0 ∙ i .7, k .1 .1 .1 .0 ∙ i .8, i .9 ∙ sym (k .1 .1 .0))
+    let k = a .unit .kept in (
+      b .read-record .kept .0 ∙ i .0,
+      k .1 .1 .1 .1 .1 .0 ∙ i .1,
+      k .1 .1 .1 .1 .1 .1 .0 ∙ i .2,
+      k .1 .1 .1 .1 .1 .1 .1 .0 ∙ i .3,
+      k .1 .1 .1 .1 .1 .1 .1 .1 .0 ∙ i .4,
+      k .1 .1 .1 .1 .1 .1 .1 .1 .1 .0 ∙ i .5,
+      k .1 .1 .1 .1 .1 .1 .1 .1 .1 .1 .0 ∙ i .6,
+      k .1 .1 .1 .1 .1 .1 .1 .1 .1 .1 .1 .0 ∙ i .7,
+      k .1 .1 .1 .0 ∙ i .8,
+      i .9 ∙ sym (k .1 .1 .0),
+    )
 
 same-length : tie.Need-same-length Inv-loop μ-loop
 same-length c = c .before .loop .inv .0

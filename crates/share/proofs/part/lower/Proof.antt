@@ -4,7 +4,7 @@ use Prim.Native.Nat.{ℕ, _+_, _*_, _/_, _%_, _≤_, _<_, _^_}
 use native.Mathlib.Nat.{mul-le-mul}
 use native.Mathlib.Omega.{arith}
 use borrow.Author.Needs.{needs}
-use Rattle.share.specs.Rates.{half, halves, lower-is}
+use Rattle.share.proofs.Rates.{half, halves, lower-is}
 use Rattle.share.proofs.part.lower.Statement.{statement}
 use Rattle.share.proofs.part.lower.Tie as tie
 

@@ -5,10 +5,12 @@ use Prim.Native.Nat.{ℕ, _+_, _-_, _*_, _≤_, _<_, _^_}
 use native.Mathlib.Nat.{mul-le-mul-left, le-of-mul-le-mul-right, le-of-lt, le-refl, le-trans}
 use native.Mathlib.Omega.{arith}
 use borrow.Author.Needs.{needs}
-use Rattle.integers.specs.Division.{Divided, quotient-≤}
+use Rattle.integers.specs.Division.{Divided}
+use Rattle.integers.proofs.Division.{quotient-≤}
 use Rattle.rules.specs.Quantities.{total-limit, weight-limit}
 use Rattle.share.specs.declared.part.Rate.{Rate}
-use Rattle.share.specs.Rates.{total-of, Rated, estimate-few, left-by, with-whole}
+use Rattle.share.specs.Rates.{total-of, Rated}
+use Rattle.share.proofs.Rates.{estimate-few, left-by, with-whole}
 use Rattle.share.proofs.part.part_of.Statement.{statement}
 use Rattle.share.proofs.part.part_of.Tie as tie
 
@@ -62,7 +64,8 @@ module _ (c : tie.After-wrapping-sub-u64) where
 
   leaves : (rate at .rest * w at ≡ at .upper .result * rate at .sum + over) × (over < 2 * rate at .sum)
   leaves =
-      left-by (rate at) (rated at) (w at) (at .upper .result) (S at .pre .1) (at .upper .ensures) (c .before .before .lower .result) (c .before .lower2 .result) over (c .before .before .lower .ensures) (c .before .lower2 .ensures) (c .wrapping-sub-u64 .ok) (c .wrapping-sub-u64 .ensures)
+      left-by (rate at) (rated at) (w at) (at .upper .result) (S at .pre .1) (at .upper .ensures) (c .before .before .lower .result) (c .before .lower2 .result)
+      over (c .before .before .lower .ensures) (c .before .lower2 .ensures) (c .wrapping-sub-u64 .ok) (c .wrapping-sub-u64 .ensures)
 
   all : total-of (rate at) * w at ≡ whole * rate at .sum + over
   all =
@@ -75,7 +78,9 @@ module _ (c : tie.After-wrapping-sub-u64) where
       some : (r W : ℕ) → r < W → 0 < W
       some r W h = omega arith
 
-next-one : (c : tie.Else1) → Divided (total-of (rate (at (c .before .before .before))) * w (at (c .before .before .before))) (rate (at (c .before .before .before)) .sum) (whole (c .before .before .before) + 1) (over (c .before .before .before) - rate (at (c .before .before .before)) .sum)
+next-one : (c : tie.Else1) → Divided (total-of (rate (at (c .before .before .before))) * w (at (c .before .before .before)))
+    (rate (at (c .before .before .before)) .sum) (whole (c .before .before .before) + 1)
+    (over (c .before .before .before) - rate (at (c .before .before .before)) .sum)
 next-one c =
     let u = c .before .before .before in
     one-short (total-of (rate (at u))) (w (at u)) (rate (at u) .sum) (whole u) (over u) (all u) (c .if1 .left) (leaves u .1)
@@ -102,7 +107,10 @@ wrapping-sub-u64-requires c κs = search needs
 mul-whole : tie.Need-mul-whole
 mul-whole c =
     let u = c .before in
-    record { fits = word (rate (at u) .whole * w (at u)) (total-of (rate (at u))) (addend (rate (at u) .whole * w (at u)) (at u .upper .result) (total-of (rate (at u))) (few u)) (rated (at u) .total) }
+    record {
+      fits = word (rate (at u) .whole * w (at u)) (total-of (rate (at u)))
+          (addend (rate (at u) .whole * w (at u)) (at u .upper .result) (total-of (rate (at u))) (few u)) (rated (at u) .total);
+    }
 
 add-whole : tie.Need-add-whole
 add-whole c =
@@ -117,7 +125,10 @@ returns c =
 add-t7 : tie.Need-add-t7
 add-t7 c =
     let u = c .before .before .before in
-    record { fits = word (whole u + 1) (total-of (rate (at u))) (quotient-≤ (total-of (rate (at u))) (w (at u)) (S (at u) .pre .1) (next-one c)) (rated (at u) .total) }
+    record {
+      fits = word (whole u + 1) (total-of (rate (at u))) (quotient-≤ (total-of (rate (at u))) (w (at u)) (S (at u) .pre .1) (next-one c))
+          (rated (at u) .total);
+    }
 
 returns-2 : tie.Need-returns-2
 returns-2 c = next-one (c .before)

@@ -1,7 +1,7 @@
 -- `upper` meets its contract: each product of two halves fits a word, with the carry beside it, and the columns add up to the product.
 use Prim.Native.Nat.{ℕ, _+_, _*_, _/_, _%_, _≤_, _<_, _^_}
 use native.Mathlib.Omega.{arith}
-use Rattle.share.specs.Rates.{half, halves, middle, next, upper-is, upper-small}
+use Rattle.share.proofs.Rates.{half, halves, middle, next, upper-is, upper-small}
 use Rattle.share.proofs.part.upper.Statement.{statement}
 use Rattle.share.proofs.part.upper.Tie as tie
 

@@ -5,10 +5,12 @@ use Prim.Native.Nat.{ℕ, _+_, _-_, _*_, _/_, _%_, _≤_, _<_, _^_}
 use native.Mathlib.Nat.{mul-le-mul-left, mul-le-mul-right, lt-of-mul-lt-mul-right}
 use native.Mathlib.Omega.{arith}
 use borrow.Author.Needs.{needs}
-use Rattle.integers.specs.Division.{Divided, divided, quotient, quotient-≤}
+use Rattle.integers.specs.Division.{Divided}
+use Rattle.integers.proofs.Division.{divided, quotient, quotient-≤}
 use Rattle.rules.specs.Quantities.{total-limit}
 use Rattle.share.specs.declared.part.Rate.{Rate}
-use Rattle.share.specs.Rates.{total-of, Rated, rounded-up}
+use Rattle.share.specs.Rates.{total-of, Rated}
+use Rattle.share.proofs.Rates.{rounded-up}
 use Rattle.share.proofs.part.whole_of.Statement.{statement}
 use Rattle.share.proofs.part.whole_of.Tie as tie
 
@@ -36,9 +38,11 @@ module _ (c : tie.Else1) where
   abbrev s : tie.Start
   s = c .before .before
 
-  is : total-of (s .args .rate) * s .args .weight / s .args .rate .sum ≡ s .args .rate .whole * s .args .weight + (s .args .rate .ratio + 1) * s .args .weight / 2 ^ 64
+  is : total-of (s .args .rate) * s .args .weight / s .args .rate .sum ≡ s .args .rate .whole * s .args .weight + (s .args .rate .ratio + 1) * s .args .weight /
+      2 ^ 64
   is =
-      let room : total-of (s .args .rate) * s .args .weight % s .args .rate .sum + s .args .weight ≤ s .args .rate .sum = omega (arith, s .pre .2, s .pre .3, c .if1 .left) in
+      let room : total-of (s .args .rate) * s .args .weight % s .args .rate .sum + s .args .weight ≤ s .args .rate .sum =
+      omega (arith, s .pre .2, s .pre .3, c .if1 .left) in
       rounded-up (s .args .rate) (s .args .weight) (s .pre .0) (s .pre .1) room
 
 sub-if1 : tie.Need-sub-if1

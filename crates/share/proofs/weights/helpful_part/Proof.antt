@@ -4,9 +4,9 @@ use lib.IntN.{pos}
 use lib.Signed.{_≤ℤ_, _<ℤ_}
 use mir.Facts.{toZ-ofZ}
 use native.Mathlib.Omega.{arith}
-use Rattle.integers.specs.Pairs.{lt-in, le-out}
-use Rattle.integers.specs.Tests.{ltZ-true, ltZ-false}
-use Rattle.integers.specs.Casts.{to-unsigned, gain-pos, no-gain}
+use Rattle.integers.proofs.Pairs.{lt-in, le-out}
+use Rattle.integers.proofs.Tests.{ltZ-true, ltZ-false}
+use Rattle.integers.proofs.Casts.{to-unsigned, gain-pos, no-gain}
 use Rattle.share.proofs.weights.helpful_part.Statement.{statement}
 use Rattle.share.proofs.weights.helpful_part.Tie as tie
 

@@ -7,7 +7,8 @@ use lib.ListN.{length}
 use native.Mathlib.Omega.{arith}
 use borrow.Author.Needs.{needs}
 use borrow.Author.Tests.{le-leb, lt-leb}
-use Rattle.integers.specs.Sums.{sumℕ, sumℕ-none, sumℕ-step, sumℕ-prefix}
+use Rattle.integers.specs.Sums.{sumℕ}
+use Rattle.integers.proofs.Sums.{sumℕ-none, sumℕ-step, sumℕ-prefix}
 use Rattle.rules.specs.Quantities.{weight-limit}
 use Rattle.rules.specs.Share.{weight-at}
 use Rattle.share.specs.Weighing.{weighed}
@@ -30,7 +31,8 @@ abbrev μ-loop : tie.MeasureT-loop
 abbrev xs : tie.At-loop Inv-loop μ-loop → List ℕ
 xs l = weighed (l .before .before .before .args .source) (l .before .before .before .args .weights .now) (l .before .before .before .args .performances .now)
 
-more : (c : tie.After-weight Inv-loop μ-loop) → sumℕ (c .before .before .loop .i + 1) (weight-at (xs (c .before .before))) ≡ c .before .before .loop .sum + c .weight .result
+more : (c : tie.After-weight Inv-loop μ-loop) → sumℕ (c .before .before .loop .i + 1) (weight-at (xs (c .before .before))) ≡
+    c .before .before .loop .sum + c .weight .result
 more c =
     let l = c .before .before in
     sumℕ-step (l .loop .i) (weight-at (xs l)) ∙ omega (arith, l .loop .inv .so-far, c .weight .ensures)
@@ -40,7 +42,13 @@ members-requires c κs = tt
 
 loop-holds : tie.Need-loop-holds Inv-loop μ-loop
 loop-holds c =
-    record { all = c .members .ensures; within = omega arith; small = omega arith; so-far = sym (sumℕ-none (weight-at (weighed (c .before .before .args .source) (c .before .before .args .weights .now) (c .before .before .args .performances .now)))) }
+    record {
+      all = c .members .ensures;
+      within = omega arith;
+      small = omega arith;
+      so-far = sym (sumℕ-none (weight-at (weighed (c .before .before .args .source) (c .before .before .args .weights .now)
+          (c .before .before .args .performances .now))));
+    }
 
 weight-requires : tie.Need-weight-requires Inv-loop μ-loop
 weight-requires c κs = omega (arith, c .before .loop .inv .all)

@@ -7,8 +7,8 @@ use mir.Syntax.{w64}
 use mir.Val.{SFits}
 use mir.Facts.{toZ-ofZ}
 use native.Mathlib.Omega.{arith}
-use Rattle.integers.specs.Tests.{ltZ-true, ltZ-false}
-use Rattle.integers.specs.Casts.{turned, fits-up, fits-loss, some-loss, no-loss}
+use Rattle.integers.proofs.Tests.{ltZ-true, ltZ-false}
+use Rattle.integers.proofs.Casts.{turned, fits-up, fits-loss, some-loss, no-loss}
 use Rattle.share.proofs.weights.unhelpful_part.Statement.{statement}
 use Rattle.share.proofs.weights.unhelpful_part.Tie as tie
 
@@ -36,11 +36,13 @@ sub-result c = simp (toZ-ofZ, c .before .fits .performance, up c) (down c)
 
 cast-result : tie.Need-cast-result
 cast-result c =
-    simp (toZ-ofZ, c .before .fits .performance, up c, down c) (rw (turned (x c) (below c)) (tt, record { fits = omega (arith, fits-loss (x c) (below c) (fits c)) }))
+    simp (toZ-ofZ, c .before .fits .performance, up c, down c) (rw (turned (x c) (below c))
+    (tt, record { fits = omega (arith, fits-loss (x c) (below c) (fits c)) }))
 
 add-result-2 : tie.Need-add-result-2
 add-result-2 c =
-    simp (toZ-ofZ, c .before .fits .performance, up c, down c) (rw (turned (x c) (below c)) (record { fits = omega (arith, fits-loss (x c) (below c) (fits c)) }))
+    simp (toZ-ofZ, c .before .fits .performance, up c, down c) (rw (turned (x c) (below c))
+    (record { fits = omega (arith, fits-loss (x c) (below c) (fits c)) }))
 
 returns : tie.Need-returns
 returns c =

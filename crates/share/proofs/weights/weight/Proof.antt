@@ -10,7 +10,7 @@ use mir.Syntax.{w64}
 use mir.Val.{toZ, ofZ}
 use mir.Facts.{toZ-ofZ}
 use Rattle.integers.specs.Pairs.{gain, loss}
-use Rattle.integers.specs.Casts.{elem}
+use Rattle.integers.proofs.Casts.{elem}
 use Rattle.share.proofs.weights.weight.Statement.{statement}
 use Rattle.share.proofs.weights.weight.Tie as tie
 
@@ -24,7 +24,8 @@ unhelpful : (c : tie.After-enum-told3) → c .before .before .before .args .i < 
 unhelpful c = rw (c .enum-told3 .given .1, length-map) at (c .before .before .before .pre)
 
 -- what is made of a performance is the weight there
-read : (f : ℤ → ℕ) (ps : List ℤ) (i r : ℕ) → mag (getD ps i (pos 0)) < 2 ^ 63 → r ≡ f (toZ w64 (ofZ w64 (getD ps i (pos 0)))) → r ≡ getD (map f ps) i (f (pos 0))
+read : (f : ℤ → ℕ) (ps : List ℤ) (i r : ℕ) → mag (getD ps i (pos 0)) < 2 ^ 63 → r ≡ f (toZ w64 (ofZ w64 (getD ps i (pos 0)))) →
+    r ≡ getD (map f ps) i (f (pos 0))
 read f ps i r h e = e ∙ ap f (toZ-ofZ (elem w64 (getD ps i (pos 0)) h)) ∙ sym (List·getD-map f ps i (pos 0))
 
 enum-told : tie.Need-enum-told
@@ -66,12 +67,14 @@ returns c = rw (c .before .enum-told .given .1)
 returns-2 : tie.Need-returns-2
 returns-2 c =
     let a = c .before .before .before .before .before .args in
-    rw (c .before .before .enum-told2 .given .1) (read gain (a .performances .now) (a .i) (c .helpful-part .result) (c .before .helpful-part-arg .given) (c .helpful-part .ensures))
+    rw (c .before .before .enum-told2 .given .1) (read gain (a .performances .now) (a .i) (c .helpful-part .result) (c .before .helpful-part-arg .given)
+    (c .helpful-part .ensures))
 
 returns-3 : tie.Need-returns-3
 returns-3 c =
     let a = c .before .before .before .before .before .args in
-    rw (c .before .before .enum-told3 .given .1) (read loss (a .performances .now) (a .i) (c .unhelpful-part .result) (c .before .unhelpful-part-arg .given) (c .unhelpful-part .ensures))
+    rw (c .before .before .enum-told3 .given .1) (read loss (a .performances .now) (a .i) (c .unhelpful-part .result) (c .before .unhelpful-part-arg .given)
+    (c .unhelpful-part .ensures))
 
 pub weight-spec : {M : Type 1} → statement M
 weight-spec =

@@ -7,9 +7,9 @@ use mir.Syntax.{w64}
 use mir.Val.{SFits, toZ}
 use mir.Facts.{toZ-ofZ}
 use native.Mathlib.Omega.{arith}
-use Rattle.integers.specs.Pairs.{v, _⊖_}
-use Rattle.integers.specs.Bounds.{fits! }
-use Rattle.integers.specs.Casts.{toZ-small}
+use Rattle.integers.proofs.Pairs.{v, _⊖_}
+use Rattle.integers.proofs.Bounds.{fits! }
+use Rattle.integers.proofs.Casts.{toZ-small}
 use Rattle.share.proofs.weights.with_sign.Statement.{statement}
 use Rattle.share.proofs.weights.with_sign.Tie as tie
 

@@ -14,7 +14,12 @@ returns-3 : tie.Need-returns-3
 returns-3 c = simp (lt-ltb _ _ (c .before .before .if1 .left), lt-ltb _ _ (c .before .if2 .left), le-ltb _ _ (c .if3 .taken))
 
 returns-4 : tie.Need-returns-4
-returns-4 c = simp (lt-ltb _ _ (c .before .before .before .if1 .left), lt-ltb _ _ (c .before .before .if2 .left), lt-ltb _ _ (c .before .if3 .left), le-ltb _ _ (c .if4 .taken))
+returns-4 c = simp (
+  lt-ltb _ _ (c .before .before .before .if1 .left),
+  lt-ltb _ _ (c .before .before .if2 .left),
+  lt-ltb _ _ (c .before .if3 .left),
+  le-ltb _ _ (c .if4 .taken),
+)
 
 mul-result : tie.Need-mul-result
 mul-result c = omega arith
@@ -23,7 +28,12 @@ add-result : tie.Need-add-result
 add-result c = omega arith
 
 returns-5 : tie.Need-returns-5
-returns-5 c = simp (lt-ltb _ _ (c .before .before .before .if1 .left), lt-ltb _ _ (c .before .before .if2 .left), lt-ltb _ _ (c .before .if3 .left), lt-ltb _ _ (c .if4 .left))
+returns-5 c = simp (
+  lt-ltb _ _ (c .before .before .before .if1 .left),
+  lt-ltb _ _ (c .before .before .if2 .left),
+  lt-ltb _ _ (c .before .if3 .left),
+  lt-ltb _ _ (c .if4 .left),
+)
 
 pub columns-room-spec : {M : Type 1} → statement M
 columns-room-spec = tie.close (tie.spec returns returns-2 returns-3 returns-4 mul-result add-result returns-5)

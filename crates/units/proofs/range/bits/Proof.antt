@@ -6,9 +6,9 @@ use mir.Syntax.{w64}
 use mir.Val.{SFits}
 use mir.Facts.{toZ-ofZ}
 use native.Mathlib.Omega.{arith}
-use Rattle.integers.specs.Tests.{ltZ-true, ltZ-false}
-use Rattle.integers.specs.Casts.{turned, fits-up, fits-loss, to-unsigned}
-use Rattle.units.specs.Range.{bits-below, bits-above}
+use Rattle.integers.proofs.Tests.{ltZ-true, ltZ-false}
+use Rattle.integers.proofs.Casts.{turned, fits-up, fits-loss, to-unsigned}
+use Rattle.units.proofs.RangeLaws.{bits-below, bits-above}
 use Rattle.units.proofs.range.bits.Statement.{statement}
 use Rattle.units.proofs.range.bits.Tie as tie
 
@@ -39,7 +39,8 @@ sub-result c = simp (toZ-ofZ, c .before .fits .x, up c) (down c)
 
 cast-result : tie.Need-cast-result
 cast-result c =
-    simp (toZ-ofZ, c .before .fits .x, up c, down c) (rw (turned (number c) (below c)) (tt, record { fits = omega (arith, fits-loss (number c) (below c) (fits c)) }))
+    simp (toZ-ofZ, c .before .fits .x, up c, down c) (rw (turned (number c) (below c))
+    (tt, record { fits = omega (arith, fits-loss (number c) (below c) (fits c)) }))
 
 sub-result-2 : tie.Need-sub-result-2
 sub-result-2 c =

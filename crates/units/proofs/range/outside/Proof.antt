@@ -4,7 +4,7 @@ use Prim.Native.Nat.{ℕ, _+_, _^_, _%_}
 use native.Mathlib.Omega.{arith}
 use borrow.Author.Needs.{needs}
 use mir.Facts.{toZ-ofZ}
-use Rattle.units.specs.Range.{sign-bits}
+use Rattle.units.proofs.RangeLaws.{sign-bits}
 use Rattle.units.proofs.range.outside.Statement.{statement}
 use Rattle.units.proofs.range.outside.Tie as tie
 
@@ -25,8 +25,12 @@ returns c =
     let a = c .before in
     let n = a .before in
     let s = n .before in
-    let is = simp (toZ-ofZ, s .fits .x) at (n .bits .ensures) in
-    (omega arith, sign-bits (s .args .limit) (s .args .x) (s .pre) (s .fits .x) (a .wrapping-add-u64 .ensures ∙ ap (λ (k : ℕ). (s .args .limit + k) % 2 ^ 64) is) (sym (ap (λ (k : ℕ). (c .wrapping-sub-u64 .result + k) % 2 ^ 64) is) ∙ c .wrapping-sub-u64 .ensures) (omega arith))
+    let is = simp (toZ-ofZ, s .fits .x) at (n .bits .ensures) in (
+      omega arith,
+      sign-bits (s .args .limit) (s .args .x) (s .pre) (s .fits .x)
+          (a .wrapping-add-u64 .ensures ∙ ap (λ (k : ℕ). (s .args .limit + k) % 2 ^ 64) is)
+          (sym (ap (λ (k : ℕ). (c .wrapping-sub-u64 .result + k) % 2 ^ 64) is) ∙ c .wrapping-sub-u64 .ensures) (omega arith),
+    )
 
 pub outside-spec : {M : Type 1} → statement M
 outside-spec =

@@ -5,7 +5,7 @@ use native.Mathlib.Omega.{arith}
 use borrow.Author.Needs.{needs}
 use lib.IntN.{pos}
 use mir.Facts.{toZ-ofZ}
-use Rattle.integers.specs.Tests.{leZ-not, size-below, size-above}
+use Rattle.integers.proofs.Tests.{leZ-not, size-below, size-above}
 use Rattle.units.proofs.range.past_limit.Statement.{statement}
 use Rattle.units.proofs.range.past_limit.Tie as tie
 

@@ -8,7 +8,8 @@ use borrow.Author.Tests.{not-true, not-false}
 use Rattle.interval.specs.Tally.{in-range, unit-turn, units-taken}
 use Rattle.interval.specs.Lent.{named-region, series-in-range}
 use Rattle.units.specs.UnitLaws.{series-lengths, columns-lengths}
-use Rattle.units.specs.Tested.{unit-comes, rooms, tested-unit, answers-refusal, answers-record}
+use Rattle.units.proofs.TestedLaws.{unit-comes, rooms, answers-refusal, answers-record}
+use Rattle.units.specs.Tested.{tested-unit}
 use Rattle.units.proofs.tested.tested_unit.Statement.{statement}
 use Rattle.units.proofs.tested.tested_unit.Tie as tie
 
@@ -18,28 +19,34 @@ start c = c .before .before .before
 in-turn : (c : tie.Else1) → (in-range (start c .args .tally) && unit-turn (start c .args .tally)) ≡ true
 in-turn c = sym (c .before .unit-turn .ensures) ∙ not-false _ (c .if1 .left)
 
-roomy : (c : tie.Else2) → let a = start (c .before .before) .args in series-lengths (length (a .readings .now)) (a .deviations) (length (a .measures .now)) (length (a .positive .now)) (length (a .negative .now)) ≡ true
+roomy : (c : tie.Else2) → let a = start (c .before .before) .args in series-lengths (length (a .readings .now)) (a .deviations) (length (a .measures .now))
+    (length (a .positive .now)) (length (a .negative .now)) ≡ true
 roomy c = sym (c .before .series-room .ensures) ∙ not-false _ (c .if2 .left)
 
 abbrev turned : tie.After-next-row → tie.Else1
 turned c = c .before .before .before
 
-columns-told : (c : tie.After-columns-room) → let a = start (turned (c .before)) .args in columns-lengths (units-taken (a .tally)) (a .numbers) (a .places) (a .raise) (a .lower) (a .defaults) ≡ c .columns-room .result
+columns-told : (c : tie.After-columns-room) → let a = start (turned (c .before)) .args in columns-lengths (units-taken (a .tally)) (a .numbers) (a .places)
+    (a .raise) (a .lower) (a .defaults) ≡ c .columns-room .result
 columns-told c =
     let a = start (turned (c .before)) .args in
-    ap (λ (n : ℕ). columns-lengths n (a .numbers) (a .places) (a .raise) (a .lower) (a .defaults)) (sym (c .before .next-row .ensures)) ∙ sym (c .columns-room .ensures)
+    ap (λ (n : ℕ). columns-lengths n (a .numbers) (a .places) (a .raise) (a .lower) (a .defaults)) (sym (c .before .next-row .ensures))
+    ∙ sym (c .columns-room .ensures)
 
 abbrev rowed : tie.After-series-in-range → tie.After-next-row
 rowed c = c .before .before .before .before
 
-columned : (c : tie.Else3) → let a = start (turned (c .before .before)) .args in columns-lengths (units-taken (a .tally)) (a .numbers) (a .places) (a .raise) (a .lower) (a .defaults) ≡ true
+columned : (c : tie.Else3) → let a = start (turned (c .before .before)) .args in columns-lengths (units-taken (a .tally)) (a .numbers) (a .places) (a .raise)
+    (a .lower) (a .defaults) ≡ true
 columned c = columns-told (c .before) ∙ not-false _ (c .if3 .left)
 
 -- the region is that of byte 2
-range-told : (c : tie.After-series-in-range) → let a = start (turned (rowed c)) .args in series-in-range (named-region (a .part .now)) (units-taken (a .tally)) (a .measures .now) (a .positive .now) (a .negative .now) ≡ c .series-in-range .result
+range-told : (c : tie.After-series-in-range) → let a = start (turned (rowed c)) .args in series-in-range (named-region (a .part .now)) (units-taken (a .tally))
+    (a .measures .now) (a .positive .now) (a .negative .now) ≡ c .series-in-range .result
 range-told c =
     let a = start (turned (rowed c)) .args in
-    ap₂ (λ (region row : ℕ). series-in-range region row (a .measures .now) (a .positive .now) (a .negative .now)) (sym (c .before .named-region .ensures)) (sym (rowed c .next-row .ensures)) ∙ sym (c .series-in-range .ensures)
+    ap₂ (λ (region row : ℕ). series-in-range region row (a .measures .now) (a .positive .now) (a .negative .now)) (sym (c .before .named-region .ensures))
+    (sym (rowed c .next-row .ensures)) ∙ sym (c .series-in-range .ensures)
 
 unit-turn-requires : tie.Need-unit-turn-requires
 unit-turn-requires c κs = search needs
@@ -74,7 +81,8 @@ series-in-range-requires : tie.Need-series-in-range-requires
 series-in-range-requires c κs =
     let n = c .before .before .before in
     let a = start (turned n) .args in
-    let room = rooms (length (a .readings .now)) (a .deviations) (length (a .measures .now)) (length (a .positive .now)) (length (a .negative .now)) (roomy (n .before)) in
+    let room = rooms (length (a .readings .now)) (a .deviations) (length (a .measures .now)) (length (a .positive .now)) (length (a .negative .now))
+    (roomy (n .before)) in
     (rw (n .next-row .ensures) (unit-comes _ (in-turn (turned n)) .row), room .measures-room, room .positive-room, room .negative-room)
 
 returns-4 : tie.Need-returns-4
@@ -97,7 +105,9 @@ returns-5 c =
     let d = f .before in
     let n = rowed d in
     let a = start (turned n) .args in
-    answers-record (a .tally .least) (a .part .now) (rooms (length (a .readings .now)) (a .deviations) (length (a .measures .now)) (length (a .positive .now)) (length (a .negative .now)) (roomy (n .before)) .readings-room) (rw (in-turn (turned n), roomy (n .before), columned (d .before .before), range-told d ∙ not-false _ (f .if4 .left))) (c .before .read-unit .ensures)
+    answers-record (a .tally .least) (a .part .now) (rooms (length (a .readings .now)) (a .deviations) (length (a .measures .now)) (length (a .positive .now))
+    (length (a .negative .now)) (roomy (n .before)) .readings-room) (rw
+    (in-turn (turned n), roomy (n .before), columned (d .before .before), range-told d ∙ not-false _ (f .if4 .left))) (c .before .read-unit .ensures)
 
 pub tested-unit-spec : {M : Type 1} → statement M
 tested-unit-spec =

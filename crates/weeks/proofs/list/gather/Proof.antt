@@ -9,7 +9,8 @@ use borrow.Author.Needs.{needs, sfits-of}
 use mir.Syntax.{w64}
 use mir.Val.{toZ, ofZ}
 use mir.Facts.{toZ-ofZ}
-use Rattle.integers.specs.Sums.{every, every-none, every-step, every-fails}
+use Rattle.integers.specs.Sums.{every}
+use Rattle.integers.proofs.Sums.{every-none, every-step, every-fails}
 use Rattle.rules.specs.declared.RunningWeek.{RunningWeek}
 use Rattle.rules.specs.declared.Refusal.{Refusal}
 use Rattle.rules.specs.Week.{Interval, interval, interval-at, within}
@@ -18,7 +19,8 @@ use Rattle.weeks.specs.declared.Added.{Added}
 use Rattle.weeks.specs.declared.Added.the-variants.{Next, Refused}
 use Rattle.weeks.specs.Promises.{added-of}
 use Rattle.weeks.specs.Runs.{more-reply}
-use Rattle.weeks.specs.Gather.{run-of, run-none, run-more, run-of-run, byte-there, gathered, more-means, more-fails}
+use Rattle.weeks.specs.Gather.{run-of, gathered}
+use Rattle.weeks.proofs.GatherLaws.{run-none, run-more, run-of-run, byte-there, more-means, more-fails}
 use Rattle.weeks.proofs.list.gather.Statement.{statement}
 use Rattle.weeks.proofs.list.gather.Tie as tie
 

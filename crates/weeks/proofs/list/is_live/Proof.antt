@@ -1,7 +1,7 @@
 -- The byte shifted down by i mod 8 and masked by 1 is the bit of the definition.
 use borrow.Author.Needs.{needs}
 use Prim.Native.Nat.{_%_}
-use Rattle.weeks.specs.Gather.{bit-masked}
+use Rattle.weeks.proofs.GatherLaws.{bit-masked}
 use Rattle.weeks.proofs.list.is_live.Statement.{statement}
 use Rattle.weeks.proofs.list.is_live.Tie as tie
 

@@ -10,7 +10,8 @@ use Rattle.rules.specs.Week.{whose-fine, bytes-for, reach, interval-at, most-in
 use Rattle.rules.specs.declared.RunningWeek.{RunningWeek}
 use Rattle.weeks.specs.declared.Added.the-variants.{Next}
 use Rattle.weeks.specs.Promises.{added-of}
-use Rattle.weeks.specs.Gather.{gathered, too-short, wrong-count, too-long, outside, inside, Read}
+use Rattle.weeks.specs.Gather.{gathered}
+use Rattle.weeks.proofs.GatherLaws.{too-short, wrong-count, too-long, outside, inside, Read}
 use Rattle.weeks.proofs.list.week.Statement.{statement}
 use Rattle.weeks.proofs.list.week.Tie as tie
 

@@ -7,7 +7,8 @@ use lib.ListN.{length, getD}
 use native.Mathlib.Omega.{arith}
 use borrow.Author.Needs.{needs}
 use borrow.Author.Tests.{not-true, not-false}
-use Rattle.integers.specs.Sums.{every, every-none, every-step, every-fails}
+use Rattle.integers.specs.Sums.{every}
+use Rattle.integers.proofs.Sums.{every-none, every-step, every-fails}
 use Rattle.rules.specs.Week.{whose-fine}
 use Rattle.rules.specs.WeekRoster.{whose-of}
 use Rattle.weeks.proofs.roster.all_fine.Statement.{statement}

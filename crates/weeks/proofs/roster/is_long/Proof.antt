@@ -4,7 +4,7 @@ use mathlib.Core.Path.{sym, ap}
 use Prim.Native.Nat.{ℕ, _*_}
 use native.Mathlib.Omega.{arith}
 use borrow.Author.Tests.{le-leb}
-use Rattle.weeks.specs.Rosters.{long-by-division}
+use Rattle.weeks.proofs.Rosters.{long-by-division}
 use Rattle.weeks.proofs.roster.is_long.Statement.{statement}
 use Rattle.weeks.proofs.roster.is_long.Tie as tie
 

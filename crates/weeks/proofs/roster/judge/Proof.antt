@@ -5,8 +5,9 @@ use Prim.Native.Nat.{ℕ, _-_, _≤_, max}
 use lib.ListN.{length}
 use native.Mathlib.Omega.{arith}
 use borrow.Author.Needs.{needs}
-use Rattle.integers.specs.Sums.{every-at}
-use Rattle.weeks.specs.Rosters.{judged, judged-none, judged-more, told-number, member-told}
+use Rattle.integers.proofs.Sums.{every-at}
+use Rattle.weeks.specs.Rosters.{judged, told-number, member-told}
+use Rattle.weeks.proofs.Rosters.{judged-none, judged-more}
 use Rattle.weeks.proofs.roster.judge.Statement.{statement}
 use Rattle.weeks.proofs.roster.judge.Tie as tie
 

@@ -7,7 +7,7 @@ use lib.ListN.{length}
 use native.Mathlib.Omega.{arith}
 use Rattle.rules.specs.Week.{bytes-for}
 use Rattle.weeks.specs.Promises.{told-of}
-use Rattle.weeks.specs.Rosters.{own-part-cut}
+use Rattle.weeks.proofs.Rosters.{own-part-cut}
 use Rattle.weeks.proofs.roster.member_week.Statement.{statement}
 use Rattle.weeks.proofs.roster.member_week.Tie as tie
 

@@ -1,6 +1,6 @@
 -- A number that is neither 0 nor 1 is a group.
 use borrow.Author.Needs.{needs}
-use Rattle.weeks.specs.Rosters.{group-of}
+use Rattle.weeks.proofs.Rosters.{group-of}
 use Rattle.weeks.proofs.roster.whose_of.Statement.{statement}
 use Rattle.weeks.proofs.roster.whose_of.Tie as tie
 

@@ -7,7 +7,8 @@ use lib.ListN.{length}
 use native.Mathlib.Omega.{arith}
 use borrow.Author.Needs.{needs, sfits-of}
 use mir.Facts.{toZ-ofZ}
-use Rattle.integers.specs.Fills.{filled, filled-none, filled-store, filled-length}
+use Rattle.integers.specs.Fills.{filled}
+use Rattle.integers.proofs.Fills.{filled-none, filled-store, filled-length}
 use Rattle.rules.specs.declared.WeekDefault.{WeekDefault}
 use Rattle.weeks.specs.Rosters.{default-in, member-told}
 use Rattle.weeks.proofs.roster.write.Statement.{statement}

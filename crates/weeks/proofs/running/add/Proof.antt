@@ -9,7 +9,8 @@ use borrow.Author.Tests.{not-true, not-false, lt-ltb, le-ltb}
 use Rattle.rules.specs.Week.{interval, whose-fine}
 use Rattle.rules.specs.RunningWeek.{add-reply, left-by-a-run}
 use Rattle.weeks.specs.Promises.{added-of}
-use Rattle.weeks.specs.Runs.{run-means, more-reply}
+use Rattle.weeks.proofs.Runs.{run-means}
+use Rattle.weeks.specs.Runs.{more-reply}
 use Rattle.weeks.proofs.running.add.Statement.{statement}
 use Rattle.weeks.proofs.running.add.Tie as tie
 

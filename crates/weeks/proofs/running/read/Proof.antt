@@ -5,7 +5,7 @@ use mathlib.Core.Bool.{true}
 use borrow.Author.Tests.{not-true, not-false}
 use Rattle.rules.specs.Week.{whose-fine}
 use Rattle.rules.specs.RunningWeek.{read-reply, left-by-a-run}
-use Rattle.weeks.specs.Runs.{run-means}
+use Rattle.weeks.proofs.Runs.{run-means}
 use Rattle.weeks.proofs.running.read.Statement.{statement}
 use Rattle.weeks.proofs.running.read.Tie as tie
 

@@ -4,7 +4,7 @@ use Prim.Native.Nat.{_<_}
 use native.Mathlib.Omega.{arith}
 use Rattle.rules.specs.declared.RunningWeek.{RunningWeek}
 use Rattle.weeks.specs.Runs.{Run}
-use Rattle.weeks.specs.Averages.{left-small, taken-small, rest-small, whole-small, rest-below, rounds-down, rounds-up}
+use Rattle.weeks.proofs.Averages.{left-small, taken-small, rest-small, whole-small, rest-below, rounds-down, rounds-up}
 use Rattle.weeks.proofs.total.average.Statement.{statement}
 use Rattle.weeks.proofs.total.average.Tie as tie
 

@@ -3,9 +3,9 @@ use borrow.Author.Needs.{needs}
 use mathlib.Core.Path.{_≡_}
 use Prim.Native.Nat.{_+_, _-_, _%_}
 use native.Mathlib.Omega.{arith}
-use Rattle.integers.specs.Division.{remains}
+use Rattle.integers.proofs.Division.{remains}
 use Rattle.rules.specs.RunningWeek.{base}
-use Rattle.weeks.specs.Runs.{digits}
+use Rattle.weeks.proofs.Runs.{digits}
 use Rattle.weeks.proofs.total.carried.Statement.{statement}
 use Rattle.weeks.proofs.total.carried.Tie as tie
 

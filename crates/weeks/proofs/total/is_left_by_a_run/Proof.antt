@@ -2,7 +2,8 @@
 use mathlib.Core.Path.{sym}
 use native.Mathlib.Omega.{arith}
 use Rattle.rules.specs.declared.RunningWeek.{RunningWeek}
-use Rattle.weeks.specs.Runs.{Run, no-run, means-run, last-digit}
+use Rattle.weeks.specs.Runs.{Run}
+use Rattle.weeks.proofs.Runs.{no-run, means-run, last-digit}
 use Rattle.weeks.proofs.total.is_left_by_a_run.Statement.{statement}
 use Rattle.weeks.proofs.total.is_left_by_a_run.Tie as tie
 

@@ -9,12 +9,12 @@ use lib.Signed.{_≤ℤ_, _<ℤ_}
 use mir.Facts.{toZ-ofZ}
 use borrow.Author.Tests.{not-true, not-false, le-leb, lt-leb}
 use Rattle.integers.specs.Pairs.{loss}
-use Rattle.integers.specs.Tests.{leZ-true, leZ-false}
-use Rattle.integers.specs.Casts.{to-unsigned}
+use Rattle.integers.proofs.Tests.{leZ-true, leZ-false}
+use Rattle.integers.proofs.Casts.{to-unsigned}
 use Rattle.rules.specs.declared.RunningWeek.{RunningWeek}
 use Rattle.rules.specs.RunningWeek.{running, total-in}
 use Rattle.weeks.specs.declared.Added.the-variants.{Next}
-use Rattle.weeks.specs.Runs.{still-more, counted-more, size-below}
+use Rattle.weeks.proofs.Runs.{still-more, counted-more, size-below}
 use Rattle.weeks.proofs.total.one_more.Statement.{statement}
 use Rattle.weeks.proofs.total.one_more.Tie as tie
 

@@ -8,9 +8,9 @@ use mir.Syntax.{w64}
 use mir.Val.{SFits}
 use mir.Facts.{toZ-ofZ}
 use native.Mathlib.Omega.{arith}
-use Rattle.integers.specs.Tests.{ltZ-true, ltZ-false}
-use Rattle.integers.specs.Casts.{turned, fits-up, fits-loss, some-loss, to-unsigned}
-use Rattle.weeks.specs.Runs.{size-below}
+use Rattle.integers.proofs.Tests.{ltZ-true, ltZ-false}
+use Rattle.integers.proofs.Casts.{turned, fits-up, fits-loss, some-loss, to-unsigned}
+use Rattle.weeks.proofs.Runs.{size-below}
 use Rattle.weeks.proofs.total.size.Statement.{statement}
 use Rattle.weeks.proofs.total.size.Tie as tie
 

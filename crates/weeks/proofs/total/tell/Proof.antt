@@ -8,7 +8,7 @@ use borrow.Author.Tests.{le-leb, lt-leb}
 use Rattle.rules.specs.Week.{average, default-limit}
 use Rattle.rules.specs.RunningWeek.{total-in}
 use Rattle.weeks.specs.declared.Told.the-variants.{Is}
-use Rattle.weeks.specs.Averages.{turned-fits-in, turned-is}
+use Rattle.weeks.proofs.Averages.{turned-fits-in, turned-is}
 use Rattle.weeks.proofs.total.tell.Statement.{statement}
 use Rattle.weeks.proofs.total.tell.Tie as tie
 

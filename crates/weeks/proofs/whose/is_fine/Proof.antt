@@ -5,7 +5,8 @@ use Prim.Native.Nat.{ℕ}
 use lib.Dec.{leb}
 use native.Mathlib.Omega.{arith}
 use borrow.Author.Tests.{le-leb, lt-leb}
-use Rattle.weeks.specs.Runs.{units-of, fine-units}
+use Rattle.weeks.specs.Runs.{units-of}
+use Rattle.weeks.proofs.Runs.{fine-units}
 use Rattle.weeks.proofs.whose.is_fine.Statement.{statement}
 use Rattle.weeks.proofs.whose.is_fine.Tie as tie
 

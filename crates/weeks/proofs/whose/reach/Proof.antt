@@ -4,7 +4,7 @@ use mathlib.Core.Path.{_≡_, _∙_, ap}
 use Prim.Native.Nat.{ℕ, _*_, _≤_}
 use native.Mathlib.Omega.{arith}
 use Rattle.rules.specs.Quantities.{performance-limit}
-use Rattle.weeks.specs.Runs.{reach-units, few-units}
+use Rattle.weeks.proofs.Runs.{reach-units, few-units}
 use Rattle.weeks.proofs.whose.reach.Statement.{statement}
 use Rattle.weeks.proofs.whose.reach.Tie as tie
 

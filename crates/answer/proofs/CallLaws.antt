@@ -1,0 +1,126 @@
+-- How the call's promise is met: by the record that is read past the tests, or by the first refusal.
+use mathlib.Core.Path.{_≡_, sym, _∙_, ap}
+use mathlib.Core.Bool.{true, false, not, _&&_, _||_}
+use mathlib.Core.List.{List, []}
+use Prim.Native.Nat.{ℕ, _≤_}
+use native.Mathlib.Omega.{arith}
+use lib.Dec.{eqb, leb}
+use lib.IntN.{ℤ}
+use lib.ListN.{length}
+use borrow.Author.Tests.{leb-true}
+use Rattle.integers.specs.Sums.{both}
+use Rattle.rules.specs.declared.Refusal.{Refusal}
+use Rattle.rules.specs.declared.Refusal.the-variants.{EndsEarly, BytesFollow, RequirementField}
+use Rattle.rules.specs.Quantities.{price-limit, cost-limit, amount-limit}
+use Rattle.rules.specs.Refusals.{Reply, taken, refused}
+use Rattle.rules.specs.Bytes.{number-at}
+use Rattle.rules.specs.Book.{Requirement}
+use Rattle.rules.specs.Contents.{requirement-size}
+use Rattle.rules.specs.RequirementRecord.{requirement-in, set-fine, requirement-fine, requirement-record}
+use Rattle.laws.proofs.LimitsLaws.{passed, took}
+use Rattle.interval.specs.declared.Tally.{Tally}
+use Rattle.interval.specs.Tally.{units-end, in-range, answer-turn}
+use Rattle.interval.proofs.TallyLaws.{settings-stay}
+use Rattle.book.specs.declared.RequirementFields.{RequirementFields}
+use Rattle.book.specs.declared.RequirementRead.the-variants as read
+use Rattle.book.specs.Requirement.{requirement-of, requirement-answer}
+use Rattle.answer.specs.declared.Answered.{Answered}
+use Rattle.answer.specs.declared.Answered.the-variants.{Refused}
+use Rattle.answer.proofs.LentLaws.{long-means}
+use Rattle.answer.specs.Promises.{AnswerPromise}
+use Rattle.answer.specs.Tested.{tested-requirement}
+use Rattle.answer.proofs.TestedLaws.{Tested, fine-any, units-few, tested-answer}
+use Rattle.answer.specs.Given.{required, GivenReady, GivenAll}
+
+-- ---- the record
+-- a requirement that is read is the record's
+pub was-read : (y : Reply Requirement) (f : RequirementFields) → read.Taken f ≡ requirement-answer y → y ≡ taken (required f)
+was-read (taken q) f e =
+    let same : f ≡ requirement-of q = cc in
+    ap (λ (g : RequirementFields). taken (required g)) (sym same)
+was-read (refused x) f e = let z : _≡_ {A = ℕ} 0 1 = cc in absurd (omega arith)
+
+pub not-read : (y : Reply Requirement) (x : Refusal) → read.Refused x ≡ requirement-answer y → y ≡ refused x
+not-read (taken q) x e = let z : _≡_ {A = ℕ} 0 1 = cc in absurd (omega arith)
+not-read (refused y) x e = cc
+
+-- and keeps its rules
+pub record FieldsFine (q : Requirement) : Type 0 where
+  pub set : set-fine (q .set) ≡ true
+  pub price : q .price ≤ price-limit
+  pub cost : q .cost ≤ cost-limit
+  pub enabled : q .enabled ≤ amount-limit
+
+fine-fields : (q : Requirement) → requirement-fine q ≡ true → FieldsFine q
+fine-fields q e =
+    let a = both (set-fine (q .set) && leb (q .price) price-limit && leb (q .cost) cost-limit && leb (q .enabled) amount-limit) (leb (q .used) amount-limit)
+    e in
+    let b = both (set-fine (q .set) && leb (q .price) price-limit && leb (q .cost) cost-limit) (leb (q .enabled) amount-limit) (a .0) in
+    let c = both (set-fine (q .set) && leb (q .price) price-limit) (leb (q .cost) cost-limit) (b .0) in
+    let d = both (set-fine (q .set)) (leb (q .price) price-limit) (c .0) in
+    record { set = d .0; price = leb-true _ _ (d .1); cost = leb-true _ _ (c .1); enabled = leb-true _ _ (b .1) }
+
+pub record-fine : (bs : List ℕ) (q : Requirement) → requirement-record 0 false bs ≡ taken q → FieldsFine q
+unfolding requirement-record
+record-fine bs q e =
+    let n = requirement-in bs .number in
+    let direction = leb (number-at 1 3 bs) 1 in
+    let whole = passed (leb requirement-size (length bs)) EndsEarly _ q e in
+    let fields = passed (leb 0 n && direction && requirement-fine (requirement-in bs)) RequirementField _ q (whole .1) in
+    let ends = passed (not false || eqb (length bs) requirement-size) BytesFollow _ q (fields .1) in
+    let fine = both (leb 0 n && direction) (requirement-fine (requirement-in bs)) (fields .0) in
+    rw (took (ends .1)) at (fine-fields (requirement-in bs) (fine .1))
+
+-- so past the tests it can be answered
+pub given-ready :
+    {t : Tally} (part : List ℕ) {f : RequirementFields} {ms ps ns fs : List ℤ} {qs : List ℕ} {xs ys ds : List ℤ} {a b c d e : ℕ} →
+    Tested t ms ps ns fs qs xs ys ds a b c d e → requirement-record 0 false part ≡ taken (required f) →
+    GivenReady f (t .units) (t .percent) ms ps ns fs qs xs ys ds a b c d e
+given-ready {t} part {f} {ms} {ps} {ns} {fs} {qs} {xs} {ys} {ds} h r =
+    let turn = both (in-range t) (answer-turn t) (h .turn) in
+    let begun : 1 ≤ t .records = omega (arith, leb-true (units-end t) (t .records) (turn .1)) in
+    let fields = record-fine part (required f) r in
+    record {
+      percent = settings-stay t (turn .0) begun .percent;
+      set = fields .set;
+      price = fields .price;
+      cost = fields .cost;
+      enabled = fields .enabled;
+      long = long-means _ (units-few t (h .turn)) (h .lists);
+      columns = h .columns;
+      fine = fine-any (t .units) (t .percent) ms ps ns fs [] qs xs ys ds ∙ h .fine;
+    }
+
+-- ---- the promise
+module _ {t : Tally} {part : List ℕ} {ms ps ns fs : List ℤ} {qs : List ℕ} {xs ys ds old₁ old₂ old₃ old₄ old₅ : List ℤ} where
+  pub refuses :
+      (x : Refusal) → tested-requirement t part ms ps ns fs qs xs ys ds (length old₁) (length old₂) (length old₃) (length old₄) (length old₅) ≡ refused x →
+      AnswerPromise t part ms ps ns fs qs xs ys ds old₁ old₂ old₃ old₄ old₅ (Refused x) old₁ old₂ old₃ old₄ old₅
+  refuses x r =
+      record {
+        whatever =
+            λ us.
+            let e = tested-answer t part ms ps ns fs us qs xs ys ds (length old₁) (length old₂) (length old₃) (length old₄) (length old₅) r in
+            record { reply = rw e; performances = rw e; factors = rw e; payments = rw e; used = rw e; unused = rw e };
+      }
+
+  pub gives :
+      (f : RequirementFields) {a : Answered} {new₁ new₂ new₃ new₄ new₅ : List ℤ} →
+      tested-requirement t part ms ps ns fs qs xs ys ds (length old₁) (length old₂) (length old₃) (length old₄) (length old₅) ≡ taken (required f) →
+      GivenAll f (t .units) (t .percent) ms ps ns fs qs xs ys ds old₁ old₂ old₃ old₄ old₅ a new₁ new₂ new₃ new₄ new₅ →
+      AnswerPromise t part ms ps ns fs qs xs ys ds old₁ old₂ old₃ old₄ old₅ a new₁ new₂ new₃ new₄ new₅
+  gives f r g =
+      record {
+        whatever =
+            λ us.
+            let e = tested-answer t part ms ps ns fs us qs xs ys ds (length old₁) (length old₂) (length old₃) (length old₄) (length old₅) r in
+            let w = g .whatever us in
+            record {
+              reply = rw e (w .figures);
+              performances = rw e (w .performances);
+              factors = rw e (w .factors);
+              payments = rw e (w .payments);
+              used = rw e (w .used);
+              unused = rw e (w .unused);
+            };
+      }

@@ -1,0 +1,17 @@
+pub mod BookAnswered
+pub mod CallLaws
+pub mod ChargesLaws
+pub mod GivenLaws
+pub mod LentLaws
+pub mod Lists
+pub mod MadeLaws
+pub mod PoolsLaws
+pub mod Promises
+pub mod Ranges
+pub mod RcrLaws
+pub mod ResidualLaws
+pub mod RosterLaws
+pub mod SharesLaws
+pub mod TestedLaws
+pub mod ValuesLaws
+pub mod Weights

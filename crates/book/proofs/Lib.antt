@@ -1,0 +1,5 @@
+pub mod ContentsLaws
+pub mod FrequencyLaws
+pub mod RequirementLaws
+pub mod SettingsLaws
+pub mod UnitLaws

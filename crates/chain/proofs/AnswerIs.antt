@@ -1,0 +1,304 @@
+-- THE ANSWER: what was kept of a book gives the rules' answer, for every requirement. Rows are units by their index, so a sum or a count over rows is one over
+-- the roster; the sums of the regions are those over the requirement's units, since each unit is in one region; RCR's point is the larger of two sums.
+use mathlib.Core.Path.{_≡_, refl, sym, _∙_, ap, ap₂}
+use mathlib.Core.Bool.{Bool, true, false, cond, not, _&&_, _||_, false≢true}
+use mathlib.Core.List.{List, [], _∷_, _++_, map}
+use Prim.Native.Nat.{ℕ, suc, _+_, _*_, _/_, _%_, _<_, max}
+use native.Mathlib.Omega.{arith}
+use lib.Dec.{eqb, leb}
+use lib.IntN.{ℤ, pos, negsuc, negℤ, _*ℤ_}
+use lib.ListN.{length, getD}
+use lib.Signed.{ltZ}
+use Rattle.integers.specs.Pairs.{gain, loss}
+use Rattle.integers.proofs.Pairs.{gain-negation, loss-negation}
+use Rattle.integers.specs.Sums.{sum, count, when, one}
+use Rattle.integers.proofs.Sums.{when-there, sum-ext, every-ext, largest-ext}
+use Rattle.integers.specs.Totals.{total, totalℕ, those, All}
+use Rattle.integers.proofs.Totals.{
+  total-same,
+  total-those,
+  total-negation,
+  total-classes,
+  totalℕ-same,
+  total-naturals,
+  those-those,
+  all-at,
+  indexed-total,
+  indexed-count,
+}
+use Rattle.rules.specs.declared.Direction.{Direction}
+use Rattle.rules.specs.declared.Direction.the-variants.{Raise, Lower}
+use Rattle.rules.specs.declared.Reason.the-variants.{BadUnit, NoGoodUnit}
+use Rattle.rules.specs.declared.Standing.{Standing}
+use Rattle.rules.specs.Quantities.{points, regions}
+use Rattle.rules.specs.Bytes.{listed}
+use Rattle.rules.specs.Book.{by, toward, Defaults, Unit, Requirement, covers, Book, regionOf}
+use Rattle.rules.specs.Measure.{measure-in}
+use Rattle.rules.specs.Reliability.{reliable, reliable-in}
+use Rattle.rules.specs.Deviation.{deviation, good, good-units}
+use Rattle.rules.specs.Performance.{wanted, performance, units-of, unit-performance, residual-performance}
+use Rattle.laws.proofs.PerformanceLaws.{residual-is}
+use Rattle.rules.specs.Standings.{standing, unit-standing, some-good-or-none, live-or}
+use Rattle.rules.specs.Members.{Name, unit, Member, unit-member, over-regions, each-region, residual-or, residual-member, unit-members, members}
+use Rattle.rules.specs.Rcr.{weighed-measure, response, all-reliable, few-bad, rcr}
+use Rattle.laws.proofs.RcrLaws.{response-is}
+use Rattle.rules.specs.Answer.{answered, answer}
+use Rattle.interval.specs.Lent.{series-start}
+use Rattle.chain.proofs.ChainLaws.{listed-shift}
+use Rattle.kept.specs.Kept.{
+  Kept,
+  reliable-of,
+  residual-default,
+  region-of,
+  good-of,
+  performance-of,
+  unit-default,
+  row-standing,
+  row-member,
+  some-good-or-none-of,
+  residual-of,
+  residual-value,
+  residual-row,
+  rows,
+  kept-members,
+  kept-weighed,
+  kept-response,
+  kept-reliable,
+  kept-few-bad,
+  kept-rcr,
+  kept-answer,
+}
+use Rattle.chain.specs.Keeps.{Keeps}
+
+-- ---- the images of those indexes that pass are the images of those elements that pass
+indexed-those : {A B : Type 0} (e : ℕ → ℕ) (p : ℕ → Bool) (f : ℕ → B) (q : A → Bool) (g : A → B) (xs : List A) →
+    ((j : ℕ) (z : A) → j < length xs → p (e j) ≡ q (getD xs j z)) → ((j : ℕ) (z : A) → j < length xs → f (e j) ≡ g (getD xs j z)) →
+    map f (those p (listed 0 (length xs) e)) ≡ map g (those q xs)
+unfolding those listed
+indexed-those e p f q g [] hp hf = refl
+indexed-those {A} {B} e p f q g (x ∷ xs) hp hf =
+    ap (λ (l : List ℕ). map f (cond (p (e 0)) (e 0 ∷ those p l) (those p l))) (listed-shift 0 (length xs) e)
+    ∙ go (those p (listed 0 (length xs) (λ j. e (suc j)))) (p (e 0)) (q x) (hp 0 x (omega arith)) (hf 0 x (omega arith))
+    (indexed-those (λ j. e (suc j)) p f q g xs (λ j z l. hp (suc j) z (omega arith)) (λ j z l. hf (suc j) z (omega arith)))
+  where
+    go : (is : List ℕ) (s t : Bool) → s ≡ t → f (e 0) ≡ g x → map f is ≡ map g (those q xs) →
+        map f (cond s (e 0 ∷ is) is) ≡ map g (cond t (x ∷ those q xs) (those q xs))
+    go is true true c h ih = ap₂ (λ (y : B) (ys : List B). y ∷ ys) h ih
+    go is true false c h ih = absurd (false≢true (sym c))
+    go is false true c h ih = absurd (false≢true c)
+    go is false false c h ih = ih
+
+-- ---- a place is twice the region, and 1 more where the unit is good
+place-region : (r : ℕ) (t : Bool) → (2 * r + one t) / 2 ≡ r
+place-region r true = omega arith
+place-region r false = omega arith
+
+place-good : (r : ℕ) (t : Bool) → eqb ((2 * r + one t) % 2) 1 ≡ t
+place-good r true = let e : (2 * r + 1) % 2 ≡ 1 = omega arith in ap (λ (n : ℕ). eqb n 1) e
+place-good r false = let e : (2 * r + 0) % 2 ≡ 0 = omega arith in ap (λ (n : ℕ). eqb n 1) e
+
+figure-reliable : (t : Bool) → ltZ (pos 0) (pos (one t)) ≡ t
+figure-reliable true = refl
+figure-reliable false = refl
+
+-- ---- equal parts make equal members
+live-or-same : {s s′ : Standing} {x x′ y y′ : ℤ} → s ≡ s′ → x ≡ x′ → y ≡ y′ → live-or s x y ≡ live-or s′ x′ y′
+live-or-same {s} {s′} {x} {x′} {y} {y′} hs hx hy = ap (λ (a : Standing). live-or a x y) hs ∙ ap₂ (λ (a c : ℤ). live-or s′ a c) hx hy
+
+member-same : {n n′ : Name} {s s′ : Standing} {p p′ u u′ v v′ : ℤ} → n ≡ n′ → s ≡ s′ → p ≡ p′ → u ≡ u′ → v ≡ v′ →
+    _≡_ {A = Member} (record { name = n; standing = s; payment = p; used = u; unused = v })
+    (record { name = n′; standing = s′; payment = p′; used = u′; unused = v′ })
+member-same {n} {n′} {s} {s′} {p} {p′} {u} {u′} {v} {v′} hn hs hp hu hv =
+    ap₂ (λ (a : Name) (c : Standing). record { name = a; standing = c; payment = p; used = u; unused = v }) hn hs
+    ∙ ap₂ (λ (a c : ℤ). record { name = n′; standing = s′; payment = a; used = c; unused = v }) hp hu
+    ∙ ap (λ (a : ℤ). record { name = n′; standing = s′; payment = p′; used = u′; unused = a }) hv
+
+-- ---- over the regions of a requirement
+over-same : (q : Requirement) (f g : ℕ → ℤ) → ((r : ℕ) → r < regions → f r ≡ g r) → over-regions q f ≡ over-regions q g
+over-same q f g e = sum-ext regions _ _ (λ r l. ap (λ (z : ℤ). when (covers q r) z) (e r l))
+
+each-same : (q : Requirement) (f g : ℕ → Bool) → ((r : ℕ) → r < regions → f r ≡ g r) → each-region q f ≡ each-region q g
+each-same q f g e = every-ext regions _ _ (λ r l. ap (λ (t : Bool). not (covers q r) || t) (e r l))
+
+-- ---- the two sums: of what stands above zero, and of what stands below
+above : (z : ℤ) → wanted Raise z ≡ pos (gain z)
+above (pos n) = refl
+above (negsuc n) = refl
+
+below : (z : ℤ) → wanted Lower z ≡ negℤ (pos (loss z))
+below (pos n) = refl
+below (negsuc n) = refl
+
+gains : {A : Type 0} (f : A → ℤ) (xs : List A) → gain (total (λ x. wanted Raise (f x)) xs) ≡ totalℕ (λ x. gain (f x)) xs
+gains f xs = ap gain (total-same _ (λ x. pos (gain (f x))) (λ x. above (f x)) xs ∙ total-naturals (λ x. gain (f x)) xs)
+
+losses : {A : Type 0} (f : A → ℤ) (xs : List A) → loss (total (λ x. wanted Lower (f x)) xs) ≡ totalℕ (λ x. loss (f x)) xs
+losses f xs =
+    ap loss (total-same _ (λ x. negℤ (pos (loss (f x)))) (λ x. below (f x)) xs ∙ total-negation (λ x. pos (loss (f x))) xs
+    ∙ ap negℤ (total-naturals (λ x. loss (f x)) xs))
+    ∙ loss-negation (pos (totalℕ (λ x. loss (f x)) xs))
+
+-- the larger of them is RCR's point, in both directions
+larger : (d : Direction) (us : List Unit) (t : ℕ) → max (totalℕ (λ u. gain (deviation u t)) (good-units us))
+    (totalℕ (λ u. loss (deviation u t)) (good-units us)) ≡ response d us t
+larger Raise us t = sym (response-is Raise us t)
+larger Lower us t =
+    max-swap _ _
+    ∙ sym (response-is Lower us t ∙ ap₂ max (totalℕ-same _ _ (λ u. gain-negation (deviation u t)) (good-units us))
+    (totalℕ-same _ _ (λ u. loss-negation (deviation u t)) (good-units us)))
+  where
+    max-swap : (m n : ℕ) → max m n ≡ max n m
+    max-swap m n = omega arith
+
+module _ (k : Kept) (b : Book) (h : Keeps k b) (inside : All (λ u. u .region < regions) (b .roster)) where
+  -- ---- a row is its unit
+  inside-at : (j : ℕ) (z : Unit) → j < length (b .roster) → getD (b .roster) j z .region < regions
+  inside-at j z l = all-at (λ u. u .region < regions) (b .roster) inside j z l
+
+  region-is : (j : ℕ) (z : Unit) → j < length (b .roster) → region-of k j ≡ getD (b .roster) j z .region
+  region-is j z l = ap (λ (n : ℕ). n / 2) (h .places j z l) ∙ place-region (getD (b .roster) j z .region) (good (getD (b .roster) j z))
+
+  good-is : (j : ℕ) (z : Unit) → j < length (b .roster) → good-of k j ≡ good (getD (b .roster) j z)
+  good-is j z l = ap (λ (n : ℕ). eqb (n % 2) 1) (h .places j z l) ∙ place-good (getD (b .roster) j z .region) (good (getD (b .roster) j z))
+
+  performance-is : (d : Direction) (j : ℕ) (z : Unit) → j < length (b .roster) → performance-of k d j ≡ unit-performance b d (getD (b .roster) j z)
+  performance-is Raise j z l = h .raise j z l
+  performance-is Lower j z l = h .lower j z l
+
+  unit-defaults-are : (d : Direction) (j : ℕ) (z : Unit) → j < length (b .roster) →
+      (unit-default k d 0 j ≡ by d (getD (b .roster) j z .defaults) .payment) × (unit-default k d 1 j ≡ by d (getD (b .roster) j z .defaults) .used) ×
+      (unit-default k d 2 j ≡ by d (getD (b .roster) j z .defaults) .unused)
+  unit-defaults-are Raise j z l = (h .defaults j 0 z l (omega arith), h .defaults j 1 z l (omega arith), h .defaults j 2 z l (omega arith))
+  unit-defaults-are Lower j z l = (h .defaults j 3 z l (omega arith), h .defaults j 4 z l (omega arith), h .defaults j 5 z l (omega arith))
+
+  -- ---- figures are their region's
+  reliable-at : (d : Direction) (r : ℕ) → r < regions → reliable-of k d r ≡ reliable-in b d r
+  unfolding reliable-in
+  reliable-at Raise r l = ap (λ (x : ℤ). ltZ (pos 0) x) (h .figures r 1 l (omega arith)) ∙ figure-reliable (reliable (b .settings) (regionOf b r) Raise)
+  reliable-at Lower r l = ap (λ (x : ℤ). ltZ (pos 0) x) (h .figures r 2 l (omega arith)) ∙ figure-reliable (reliable (b .settings) (regionOf b r) Lower)
+
+  residual-defaults-are : (d : Direction) (r : ℕ) → r < regions → (residual-default k d 0 r ≡ by d (regionOf b r .defaults) .payment) ×
+      (residual-default k d 1 r ≡ by d (regionOf b r .defaults) .used) × (residual-default k d 2 r ≡ by d (regionOf b r .defaults) .unused)
+  residual-defaults-are Raise r l = (h .figures r 3 l (omega arith), h .figures r 4 l (omega arith), h .figures r 5 l (omega arith))
+  residual-defaults-are Lower r l = (h .figures r 6 l (omega arith), h .figures r 7 l (omega arith), h .figures r 8 l (omega arith))
+
+  -- ---- a row's member
+  standing-is : (d : Direction) (j : ℕ) (z : Unit) → j < length (b .roster) → row-standing k d j ≡ unit-standing b d (getD (b .roster) j z)
+  standing-is d j z l =
+      ap₂ (λ (s t : Bool). standing s t BadUnit) (ap (λ (r : ℕ). reliable-of k d r) (region-is j z l)
+      ∙ reliable-at d (getD (b .roster) j z .region) (inside-at j z l)) (good-is j z l)
+
+  row-is : (d : Direction) (j : ℕ) (z : Unit) → j < length (b .roster) → row-member k d j ≡ unit-member b d (getD (b .roster) j z)
+  unfolding unit-member
+  row-is d j z l =
+      let s = standing-is d j z l in
+      let p = performance-is d j z l in
+      let f = unit-defaults-are d j z l in
+      member-same (ap (λ (n : ℕ). unit n) (h .numbers j z l)) s (live-or-same s p (f .0)) (live-or-same s p (f .1)) (f .2)
+
+  rows-are : (q : Requirement) → map (row-member k (q .direction)) (rows k q) ≡ map (unit-member b (q .direction)) (unit-members b q)
+  rows-are q =
+      ap (λ (n : ℕ). map (row-member k (q .direction)) (those (λ i. covers q (region-of k i)) (listed 0 n (λ i. i)))) (h .units)
+      ∙ indexed-those (λ i. i) (λ i. covers q (region-of k i)) (row-member k (q .direction)) (λ u. covers q (u .region)) (unit-member b (q .direction))
+      (b .roster) (λ j z l. ap (λ (r : ℕ). covers q r) (region-is j z l)) (λ j z l. row-is (q .direction) j z l)
+
+  -- ---- the residual
+  -- as many rows pass a test as units do
+  counted : (p : ℕ → Bool) (t : Unit → Bool) → ((j : ℕ) (z : Unit) → j < length (b .roster) → p j ≡ t (getD (b .roster) j z)) →
+      count (k .units) p ≡ length (those t (b .roster))
+  counted p t e = ap (λ (n : ℕ). count n p) (h .units) ∙ indexed-count p t (b .roster) e
+
+  some-good-is : (r : ℕ) → some-good-or-none-of k r ≡ some-good-or-none b r
+  unfolding some-good-or-none
+  some-good-is r =
+      ap₂ (λ (g n : ℕ). leb 1 g || eqb n 0)
+      (counted (λ i. eqb r (region-of k i) && good-of k i) (λ u. eqb r (u .region) && good u)
+      (λ j z l. ap₂ (λ (s : ℕ) (t : Bool). eqb r s && t) (region-is j z l) (good-is j z l))
+      ∙ ap length (sym (those-those good (λ u. eqb r (u .region)) (b .roster))))
+      (counted (λ i. eqb r (region-of k i)) (λ u. eqb r (u .region)) (λ j z l. ap (λ (s : ℕ). eqb r s) (region-is j z l)))
+
+  residual-at : (d : Direction) (r : ℕ) → residual-of k d r ≡ residual-performance b d r
+  unfolding residual-performance unit-performance
+  residual-at d r =
+      ap negℤ (ap (λ (n : ℕ). sum n (λ i. when (eqb r (region-of k i)) (when (good-of k i) (performance-of k d i)))) (h .units)
+      ∙ indexed-total (λ i. when (eqb r (region-of k i)) (when (good-of k i) (performance-of k d i))) (λ u. when (eqb r (u .region)) (when (good u) (at r u)))
+      (b .roster) each
+      ∙ sym (total-those (λ u. eqb r (u .region)) (λ u. when (good u) (at r u)) (b .roster))
+      ∙ sym (total-those good (at r) (units-of b r)))
+      ∙ sym (residual-is d (measure-in b r) (units-of b r))
+    where
+      at : ℕ → Unit → ℤ
+      at s u = performance d (measure-in b s) (deviation u)
+
+      each : (j : ℕ) (z : Unit) → j < length (b .roster) → when (eqb r (region-of k j)) (when (good-of k j) (performance-of k d j)) ≡
+          when (eqb r (getD (b .roster) j z .region)) (when (good (getD (b .roster) j z)) (at r (getD (b .roster) j z)))
+      each j z l =
+          ap₂ (λ (s : ℕ) (t : Bool). when (eqb r s) (when t (performance-of k d j))) (region-is j z l) (good-is j z l)
+          ∙ ap (λ (x : ℤ). when (eqb r (getD (b .roster) j z .region)) (when (good (getD (b .roster) j z)) x)) (performance-is d j z l)
+          ∙ when-there (λ s. when (good (getD (b .roster) j z)) (at s (getD (b .roster) j z))) r (getD (b .roster) j z .region)
+
+  value-is : (d : Direction) (field : ℕ) (pick : Defaults → ℤ) (r : ℕ) → r < regions → residual-default k d field r ≡ pick (by d (regionOf b r .defaults)) →
+      residual-value k d field r ≡ residual-or b d pick r
+  value-is d field pick r l e =
+      live-or-same (ap₂ (λ (s t : Bool). standing s t NoGoodUnit) (reliable-at d r l) (some-good-is r)) (residual-at d r) e
+
+  residual-row-is : (q : Requirement) → residual-row k q ≡ residual-member b q
+  unfolding residual-member
+  residual-row-is q =
+      let d = q .direction in
+      member-same refl (ap₂ (λ (s t : Bool). standing s t NoGoodUnit) (each-same q _ _ (reliable-at d)) (each-same q _ _ (λ r l. some-good-is r)))
+      (over-same q _ _ (λ r l. value-is d 0 (λ f. f .payment) r l (residual-defaults-are d r l .0)))
+      (over-same q _ _ (λ r l. value-is d 1 (λ f. f .used) r l (residual-defaults-are d r l .1)))
+      (over-same q _ _ (λ r l. residual-defaults-are d r l .2))
+
+  pub members-are : (q : Requirement) → kept-members k q ≡ members b q
+  unfolding kept-members members
+  members-are q = ap₂ (λ (ms : List Member) (m : Member). ms ++ (m ∷ [])) (rows-are q) (residual-row-is q)
+
+  -- ---- RCR
+  pub reliable-is : (q : Requirement) → kept-reliable k q ≡ all-reliable b q
+  unfolding all-reliable
+  reliable-is q = each-same q _ _ (reliable-at (q .direction))
+
+  few-bad-is : (q : Requirement) → kept-few-bad k q ≡ few-bad (b .settings .percent) (unit-members b q)
+  few-bad-is q =
+      ap₂ (λ (m n : ℕ). leb (100 * m) n)
+      (counted (λ i. covers q (region-of k i) && not (good-of k i)) (λ u. covers q (u .region) && not (good u))
+      (λ j z l. ap₂ (λ (s : ℕ) (t : Bool). covers q s && not t) (region-is j z l) (good-is j z l))
+      ∙ ap length (sym (those-those (λ u. not (good u)) (λ u. covers q (u .region)) (b .roster))))
+      (ap₂ _*_ (h .percent) (counted (λ i. covers q (region-of k i)) (λ u. covers q (u .region)) (λ j z l. ap (λ (s : ℕ). covers q s) (region-is j z l))))
+
+  weighed-is : (q : Requirement) (t : ℕ) → t < points → kept-weighed k q t ≡ weighed-measure b q t
+  unfolding weighed-measure
+  weighed-is q t l = over-same q _ _ (λ r m. ap₂ _*ℤ_ (h .figures r 0 m (omega arith)) (h .measures r t m l))
+
+  -- the sums of its regions are the sums over its units
+  sums-are : (d : Direction) (q : Requirement) (t : ℕ) (f : ℕ → ℤ) → ((r : ℕ) → r < regions →
+      f r ≡ total (λ u. wanted d (deviation u t)) (good-units (units-of b r))) →
+      over-regions q f ≡ total (λ u. wanted d (deviation u t)) (good-units (unit-members b q))
+  sums-are d q t f e =
+      over-same q f (λ r. total (λ u. when (good u) (wanted d (deviation u t))) (units-of b r))
+      (λ r l. e r l ∙ total-those good (λ u. wanted d (deviation u t)) (units-of b r))
+      ∙ total-classes regions (λ r. covers q r) (λ u. u .region) (λ u. when (good u) (wanted d (deviation u t))) (b .roster) inside
+      ∙ sym (total-those good (λ u. wanted d (deviation u t)) (unit-members b q))
+
+  response-at : (q : Requirement) (t : ℕ) → t < points → kept-response k q t ≡ response (q .direction) (unit-members b q) t
+  response-at q t l =
+      ap₂ (λ (x y : ℤ). max (gain x) (loss y)) (sums-are Raise q t (λ r. getD (k .positive) (series-start r + t) (pos 0)) (λ r m. h .positive r t m l))
+      (sums-are Lower q t (λ r. getD (k .negative) (series-start r + t) (pos 0)) (λ r m. h .negative r t m l))
+      ∙ ap₂ max (gains (λ u. deviation u t) (good-units (unit-members b q))) (losses (λ u. deviation u t) (good-units (unit-members b q)))
+      ∙ larger (q .direction) (unit-members b q) t
+
+  pub rcr-is : (q : Requirement) → kept-rcr k q ≡ rcr b q
+  unfolding kept-rcr rcr
+  rcr-is q =
+      ap₂ (λ (s : Bool) (n : ℕ). cond s n 0) (ap₂ _&&_ (reliable-is q) (few-bad-is q))
+      (largest-ext points _ _ (λ t l. ap₂ (λ (s : Bool) (n : ℕ). cond s n 0) (ap (λ (z : ℤ). ltZ (pos 0) (toward (q .direction) z)) (weighed-is q t l))
+      (response-at q t l)))
+
+  -- ---- the answer
+  pub answer-is : (q : Requirement) → kept-answer k q ≡ answer b q
+  unfolding kept-answer answer
+  answer-is q =
+      ap₂ (λ (n : ℕ) (s : Bool). answered q n s (kept-members k q)) (rcr-is q) (reliable-is q)
+      ∙ ap (λ (ms : List Member). answered q (rcr b q) (all-reliable b q) ms) (members-are q)

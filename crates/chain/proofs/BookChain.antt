@@ -1,0 +1,180 @@
+-- THE BOOK OF THE RECORDS TAKEN: once a chain has all units in, what it has kept is what the rules say of the book whose settings, regions and roster are the
+-- records that it took, whatever its requirements.
+use mathlib.Core.Path.{_≡_, refl, sym, _∙_, ap, ap₂}
+use mathlib.Core.Bool.{true}
+use mathlib.Core.List.{List, []}
+use Prim.Native.Nat.{ℕ, zero, suc, _+_, _*_, _≤_, _<_}
+use native.Mathlib.Omega.{arith}
+use lib.Dec.{eqb}
+use lib.IntN.{ℤ}
+use lib.ListN.{length, getD, drop}
+use Rattle.integers.specs.Totals.{total, All}
+use Rattle.rules.specs.declared.Direction.{Direction}
+use Rattle.rules.specs.declared.Direction.the-variants.{Raise, Lower}
+use Rattle.rules.specs.Quantities.{regions}
+use Rattle.rules.specs.Bytes.{listed}
+use Rattle.laws.proofs.BytesLaws.{listed-from-zero}
+use Rattle.rules.specs.Refusals.{taken}
+use Rattle.rules.specs.Contents.{frequency-start, unit-start, requirement-start, requirement-size}
+use Rattle.rules.specs.FrequencyRecord.{region-in}
+use Rattle.rules.specs.UnitRecord.{unit-in}
+use Rattle.rules.specs.RequirementRecord.{requirement-in}
+use Rattle.rules.specs.WholeBook.{book}
+use Rattle.rules.specs.Book.{Settings, Region, Unit, Requirement, Book, regionOf, no-region}
+use Rattle.laws.proofs.Limits.{UnitFits, BookFits}
+use Rattle.laws.proofs.LimitsLaws.{settings-fit, region-fits}
+use Rattle.rules.specs.Measure.{measure}
+use Rattle.rules.specs.Deviation.{deviation, good-units, units-in}
+use Rattle.rules.specs.Performance.{wanted, performance, unit-performance}
+use Rattle.rules.specs.Answer.{answer}
+use Rattle.interval.specs.declared.Tally.{Tally}
+use Rattle.interval.specs.Tally.{before-units}
+use Rattle.interval.specs.Lent.{figures-of, place-of, six}
+use Rattle.kept.specs.Kept.{kept-answer}
+use Rattle.kept.specs.Range.{kept-fine}
+use Rattle.chain.proofs.ChainLaws.{listed-ext, listed-length, listed-shift}
+use Rattle.chain.specs.Taken.{counts-in}
+use Rattle.chain.proofs.Taken.{contents-is, settings-is}
+use Rattle.chain.specs.Chain.{Lent, Chain, Means, regions-among, units-among, the-settings, region, unit}
+use Rattle.chain.proofs.ChainTheorem.{chain}
+use Rattle.chain.proofs.ChainValues.{measures-are, positive-are, negative-are, figures-are, numbers-are, places-are, raise-are, lower-are, defaults-are}
+use Rattle.chain.proofs.Honest.{unit-within}
+use Rattle.chain.specs.BookRecords.{part-of, Read}
+use Rattle.chain.proofs.BookRecords.{settings-part, frequency-place, unit-place, book-read, frequencies-each, units-each, requirements-each}
+use Rattle.chain.specs.Keeps.{kept-of, Keeps}
+use Rattle.chain.proofs.Fine.{kept-in-range}
+use Rattle.chain.proofs.AnswerIs.{answer-is}
+use Rattle.chain.specs.BookChain.{book-of}
+
+all-listed : {A : Type 0} (P : A → Type 0) (n : ℕ) (f : ℕ → A) → ((i : ℕ) → i < n → P (f i)) → All P (listed 0 n f)
+unfolding All listed
+all-listed P zero f h = tt
+all-listed {A} P (suc n) f h = (h 0 (omega arith), rw (listed-shift 0 n f) (all-listed P n (λ i. f (suc i)) (λ i b. h (suc i) (omega arith))))
+
+module _
+    {head : List ℕ} {part : ℕ → List ℕ} {l₀ : Lent} {n : ℕ} {t : Tally} {l : Lent} (d : Chain head part l₀ n t l)
+    (all : before-units + counts-in head .units ≤ n) (qs : List Requirement) where
+  abbrev many : ℕ
+  many = counts-in head .units
+
+  abbrev b : Book
+  b = book-of many part qs
+
+  m : Means head part l₀ n t l
+  m = chain head part l₀ d
+
+  region-there : (r : ℕ) → r < regions → r < regions-among n
+  region-there r h = go (counts-in head .units) all
+    where
+      go : (u : ℕ) → before-units + u ≤ n → r < regions-among n
+      go u a = omega arith
+
+  units-there : units-among many n ≡ many
+  units-there = go many all
+    where
+      go : (u : ℕ) → before-units + u ≤ n → units-among u n ≡ u
+      go u a = omega arith
+
+  unit-there : (j : ℕ) → j < length (b .roster) → j < units-among many n
+  unit-there j h = rw units-there (rw (listed-length 0 many (unit part)) at h)
+
+  -- the book's records are those that the chain read
+  region-is : (r : ℕ) → r < regions → region part r ≡ regionOf b r
+  region-is r h = sym (listed-from-zero regions (region part) r no-region h)
+
+  unit-is : (j : ℕ) (z : Unit) → j < length (b .roster) → unit part j ≡ getD (b .roster) j z
+  unit-is j z h = sym (listed-from-zero many (unit part) j z (rw (listed-length 0 many (unit part)) at h))
+
+  unit-fine : (i : ℕ) → i < many → UnitFits (unit part i)
+  unit-fine i h = unit-within head part l₀ d i (rw units-there h)
+
+  performed :
+      (e : Direction) (j : ℕ) (z : Unit) → j < length (b .roster) →
+      performance e (measure (the-settings part) (region part (unit part j .region))) (deviation (unit part j)) ≡ unit-performance b e (getD (b .roster) j z)
+  unfolding unit-performance
+  performed e j z h =
+      let inside = unit-fine j (rw (listed-length 0 many (unit part)) at h) .region in
+      ap (λ (x : Region). performance e (measure (the-settings part) x) (deviation (unit part j))) (region-is (unit part j .region) inside)
+      ∙ ap (unit-performance b e) (unit-is j z h)
+
+  pub chain-keeps : Keeps (kept-of t l) b
+  chain-keeps =
+      record {
+        percent = ap (λ (s : Settings). s .percent) (m .kept (omega arith));
+        units = m .units ∙ sym (listed-length 0 many (unit part));
+        measures =
+            λ r i h k. measures-are head part l₀ d r (region-there r h) i k ∙ ap (λ (x : Region). measure (the-settings part) x i) (region-is r h);
+        positive = λ r i h k. positive-are head part l₀ d r (region-there r h) i k ∙ ap (summed Raise r i) units-there;
+        negative = λ r i h k. negative-are head part l₀ d r (region-there r h) i k ∙ ap (summed Lower r i) units-there;
+        figures = λ r i h k. figures-are head part l₀ d r (region-there r h) i k ∙ ap (λ (x : Region). figures-of (the-settings part) x i) (region-is r h);
+        numbers = λ j z h. numbers-are head part l₀ d j (unit-there j h) ∙ ap (λ (u : Unit). u .number) (unit-is j z h);
+        places = λ j z h. places-are head part l₀ d j (unit-there j h) ∙ ap place-of (unit-is j z h);
+        raise = λ j z h. raise-are head part l₀ d j (unit-there j h) ∙ performed Raise j z h;
+        lower = λ j z h. lower-are head part l₀ d j (unit-there j h) ∙ performed Lower j z h;
+        defaults = λ j i z h k. defaults-are head part l₀ d j (unit-there j h) i k ∙ ap (λ (u : Unit). six (u .defaults) i) (unit-is j z h);
+      }
+    where
+      summed : Direction → ℕ → ℕ → ℕ → ℤ
+      summed e r i u = total (λ u. wanted e (deviation u i)) (good-units (units-in (eqb r) (listed 0 u (unit part))))
+
+  -- so it gives the rules' answer to any requirement
+  pub chain-answers : (q : Requirement) → kept-answer (kept-of t l) q ≡ answer b q
+  chain-answers = answer-is (kept-of t l) b chain-keeps (all-listed (λ u. u .region < regions) many (unit part) (λ i h. unit-fine i h .region))
+
+-- and it is in range, which the requirements have no part in
+module _
+    {head : List ℕ} {part : ℕ → List ℕ} {l₀ : Lent} {n : ℕ} {t : Tally} {l : Lent} (d : Chain head part l₀ n t l)
+    (all : before-units + counts-in head .units ≤ n) where
+  taken-fits : BookFits (book-of (counts-in head .units) part [])
+  unfolding All
+  taken-fits =
+      let m = chain head part l₀ d in
+      record {
+        settings = settings-fit (part 0) _ (m .taken-each 0 (omega arith) .as-settings refl);
+        region =
+            λ r h.
+            rw (← region-is d all [] r h) (region-fits _ (part (suc r)) _ (m .taken-each (suc r) (omega arith) .as-frequency (omega arith) (omega arith)));
+        roster = all-listed UnitFits _ (unit part) (unit-fine d all []);
+        few = omega (arith, listed-length 0 (counts-in head .units) (unit part), contents-is head (counts-in head) (m .table) .1 .units);
+        requirements = tt;
+      }
+
+  pub chain-fine : kept-fine (kept-of t l) ≡ true
+  chain-fine = kept-in-range (kept-of t l) _ (chain-keeps d all []) taken-fits
+
+-- ---- a book that the format takes is the book of its parts
+module _ (bs : List ℕ) (b : Book) (e : book bs ≡ taken b) where
+  w : Read bs b
+  w = book-read bs b e
+
+  abbrev many-units : ℕ
+  many-units = counts-in bs .units
+
+  settings-same : b .settings ≡ the-settings (part-of bs)
+  settings-same = sym (rw (settings-part bs) (settings-is _ _ (w .settings) .0))
+
+  regions-same : b .regions ≡ listed 0 regions (region (part-of bs))
+  regions-same =
+      frequencies-each regions 0 (drop frequency-start bs) (b .regions) (w .regions) .0
+      ∙ listed-ext 0 regions _ _ (λ r h. ap region-in (sym (frequency-place bs (suc r) r refl (omega arith))))
+
+  roster-same : b .roster ≡ listed 0 many-units (unit (part-of bs))
+  roster-same =
+      units-each many-units 0 (drop unit-start bs) (b .roster) (w .roster) .0
+      ∙ listed-ext 0 many-units _ _ (λ j h. ap unit-in (sym (unit-place bs (before-units + j) j refl (omega arith))))
+
+  pub book-records : b ≡ book-of many-units (part-of bs) (b .requirements)
+  book-records =
+      ap₂ (λ (s : Settings) (rs : List Region). record { settings = s; regions = rs; roster = b .roster; requirements = b .requirements })
+      settings-same regions-same
+      ∙ ap (λ (us : List Unit). book-with us) roster-same
+    where
+      book-with : List Unit → Book
+      book-with us =
+          record { settings = the-settings (part-of bs); regions = listed 0 regions (region (part-of bs)); roster = us; requirements = b .requirements }
+
+  pub requirements-many : length (b .requirements) ≡ counts-in bs .requirements
+  requirements-many =
+      let body = drop (requirement-start many-units) bs in
+      ap length (requirements-each (counts-in bs .requirements) 0 body (b .requirements) (w .requirements) .0)
+      ∙ listed-length 0 (counts-in bs .requirements) (λ i. requirement-in (drop (requirement-size * i) body))

@@ -1,0 +1,16 @@
+pub mod Alike
+pub mod AnswerIs
+pub mod BookChain
+pub mod BookRecords
+pub mod BookRefused
+pub mod BookWay
+pub mod ChainLaws
+pub mod ChainSteps
+pub mod ChainTheorem
+pub mod ChainValues
+pub mod Fine
+pub mod Honest
+pub mod Ready
+pub mod Spelled
+pub mod Taken
+pub mod Way

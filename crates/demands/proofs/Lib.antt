@@ -1,0 +1,10 @@
+pub mod Demand1
+pub mod Demand2
+pub mod Demand3
+pub mod SharedLists
+pub mod WeekDefaults
+pub mod WordsAnswered
+pub mod WordsBook
+pub mod WordsCalls
+pub mod WordsLaws
+pub mod WordsTheorem

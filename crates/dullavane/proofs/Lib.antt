@@ -1,0 +1,6 @@
+pub mod Answers
+pub mod AskedLaws
+pub mod Called
+pub mod Promises
+pub mod WeeklyLaws
+pub mod WordsLaws

@@ -1,0 +1,2 @@
+pub mod FrequencyFacts
+pub mod FrequencyLaws

@@ -1,0 +1,13 @@
+pub mod Bounds
+pub mod Casts
+pub mod Division
+pub mod Fills
+pub mod Fitting
+pub mod Nearest
+pub mod Order
+pub mod Pairs
+pub mod Polynomials
+pub mod Ranks
+pub mod Sums
+pub mod Tests
+pub mod Totals

@@ -1,0 +1,99 @@
+-- Laws of lent lists: numbers that are placed in one part of a list, and what stays of the others.
+use mathlib.Core.Path.{_≡_, refl, sym, _∙_, ap}
+use mathlib.Core.Bool.{Bool, true, false}
+use mathlib.Core.List.{List, [], _∷_, _++_, append-nil}
+use Prim.Native.Nat.{ℕ, zero, suc, _+_, _-_, _≤_, _<_}
+use native.Mathlib.Numerals.{add-one}
+use native.Mathlib.Nat.{zero-add, add-zero, suc-add}
+use native.Mathlib.Omega.{arith}
+use lib.Dec.{ltb}
+use lib.ListN.{length, getD, set, take, drop, length-drop, drop-of-length-le}
+use lib.Seq.{take-all}
+use borrow.Rule.Slice.PartMut.{putMid}
+use borrow.Author.Tests.{ltb-true, ltb-false}
+use Rattle.integers.proofs.Sums.{none-below}
+use Rattle.integers.specs.Fills.{filled}
+use Rattle.integers.proofs.Fills.{filled-none, filled-more, filled-length, filled-at, filled-past, filled-ext}
+use Rattle.rules.specs.Quantities.{points}
+use Rattle.interval.specs.Lent.{placed, series-start}
+
+module _ {A : Type 0} where
+  filled-empty : (n : ℕ) (g : ℕ → A) → filled n g [] ≡ []
+  filled-empty n g = none (filled n g []) (filled-length n g [])
+    where
+      none : (xs : List A) → length xs ≡ 0 → xs ≡ []
+      none [] e = refl
+      none (x ∷ xs) e = absurd (omega arith)
+
+  pub placed-none : (start : ℕ) (g : ℕ → A) (xs : List A) → placed start 0 g xs ≡ xs
+  placed-none zero g xs = filled-none g xs
+  placed-none (suc start) g [] = filled-none g []
+  placed-none (suc start) g (x ∷ xs) = ap (λ (ys : List A). x ∷ ys) (placed-none start g xs)
+
+  pub placed-length : (start n : ℕ) (g : ℕ → A) (xs : List A) → length (placed start n g xs) ≡ length xs
+  placed-length zero n g xs = filled-length n g xs
+  placed-length (suc start) n g [] = filled-length n g []
+  placed-length (suc start) n g (x ∷ xs) = ap suc (placed-length start n g xs)
+
+  -- what is placed stands there
+  pub placed-at : (start n : ℕ) (g : ℕ → A) (xs : List A) (i : ℕ) (d : A) → i < n → start + i < length xs → getD (placed start n g xs) (start + i) d ≡ g i
+  placed-at zero n g xs i d h l = rw (zero-add i) (filled-at n g xs i d h (omega arith))
+  placed-at (suc start) n g [] i d h l = none-below (suc start + i) l
+  placed-at (suc start) n g (x ∷ xs) i d h l = rw (suc-add start i) (placed-at start n g xs i d h (omega arith))
+
+  -- what stands before it and after it stays
+  pub placed-before : (start n : ℕ) (g : ℕ → A) (xs : List A) (i : ℕ) (d : A) → i < start → getD (placed start n g xs) i d ≡ getD xs i d
+  placed-before zero n g xs i d h = none-below i h
+  placed-before (suc start) n g [] i d h = rw (filled-empty n g)
+  placed-before (suc start) n g (x ∷ xs) zero d h = refl
+  placed-before (suc start) n g (x ∷ xs) (suc i) d h = placed-before start n g xs i d (omega arith)
+
+  pub placed-past : (start n : ℕ) (g : ℕ → A) (xs : List A) (i : ℕ) (d : A) → start + n ≤ i → getD (placed start n g xs) i d ≡ getD xs i d
+  placed-past zero n g xs i d h = filled-past n g xs i d (omega arith)
+  placed-past (suc start) n g [] i d h = rw (filled-empty n g)
+  placed-past (suc start) n g (x ∷ xs) zero d h = refl
+  placed-past (suc start) n g (x ∷ xs) (suc i) d h = placed-past start n g xs i d (omega arith)
+
+  pub placed-ext : (start n : ℕ) (f g : ℕ → A) (xs : List A) → ((i : ℕ) → i < n → f i ≡ g i) → placed start n f xs ≡ placed start n g xs
+  placed-ext start n f g xs e = ap (λ (ys : List A). take start xs ++ ys) (filled-ext n f g (drop start xs) e)
+
+  -- one more
+  placed-more : (start n : ℕ) (g : ℕ → A) (xs : List A) → set (placed start n g xs) (start + n) (g n) ≡ placed start (n + 1) g xs
+  placed-more zero n g xs = rw (zero-add n) (filled-more n g xs)
+  placed-more (suc start) n g [] = rw (filled-empty n g, filled-empty (n + 1) g)
+  placed-more (suc start) n g (x ∷ xs) = rw (suc-add start n) (ap (λ (ys : List A). x ∷ ys) (placed-more start n g xs))
+
+  pub placed-store : (start n : ℕ) (g : ℕ → A) (xs ys : List A) (place : ℕ) (z : A) → ys ≡ placed start n g xs → place ≡ start + n → z ≡ g n →
+      set ys place z ≡ placed start (n + 1) g xs
+  placed-store start n g xs ys place z e at is = rw (e, at, is) (placed-more start n g xs)
+
+  -- numbers that are placed right after others
+  pub placed-further : (start m n : ℕ) (g : ℕ → A) (xs : List A) → placed (start + m) n (λ i. g (m + i)) (placed start m g xs) ≡ placed start (m + n) g xs
+  placed-further start m zero g xs = placed-none (start + m) (λ i. g (m + i)) (placed start m g xs) ∙ ap (λ (k : ℕ). placed start k g xs) (sym (add-zero m))
+  placed-further start m (suc n) g xs =
+      let more = placed-store (start + m) n (λ i. g (m + i)) (placed start m g xs) (placed start (m + n) g xs) (start + (m + n)) (g (m + n))
+      (sym (placed-further start m n g xs)) (omega arith) refl in
+      let all = placed-store start (m + n) g xs (placed start (m + n) g xs) (start + (m + n)) (g (m + n)) refl refl refl in
+      let one-more : n + 1 ≡ suc n = add-one n in
+      rw (← one-more) (sym more ∙ all ∙ ap (λ (k : ℕ). placed start k g xs) (omega arith))
+
+-- a region's numbers are placed without touching another's
+pub placed-apart : {A : Type 0} (r s : ℕ) (g : ℕ → A) (xs : List A) (i : ℕ) (d : A) → (r ≡ s → ⊥) → i < points →
+    getD (placed (series-start r) points g xs) (series-start s + i) d ≡ getD xs (series-start s + i) d
+placed-apart {A} r s g xs i d apart h = go (ltb r s) refl (ltb s r) refl
+  where
+    go : (less : Bool) → ltb r s ≡ less → (more : Bool) → ltb s r ≡ more →
+        getD (placed (series-start r) points g xs) (series-start s + i) d ≡ getD xs (series-start s + i) d
+    go true e more f = placed-past (series-start r) points g xs (series-start s + i) d (omega (arith, ltb-true r s e))
+    go false e true f = placed-before (series-start r) points g xs (series-start s + i) d (omega (arith, ltb-true s r f))
+    go false e false f = absurd (apart (omega (arith, ltb-false r s e, ltb-false s r f)))
+
+-- ---- a part that is lent from a place to the end: what it holds, and the whole once it is back
+module _ {A : Type 0} where
+  pub part-is : (start : ℕ) (xs : List A) → take (length xs - start) (drop start xs) ≡ drop start xs
+  part-is start xs = take-all (length xs - start) (drop start xs) (simp length-drop (omega arith))
+
+  pub part-back : (start : ℕ) (xs ys : List A) → putMid start (length xs - start) xs ys ≡ take start xs ++ ys
+  part-back start xs ys =
+      let rest : length (drop start xs) ≤ length xs - start = simp length-drop (omega arith) in
+      ap (λ (zs : List A). take start xs ++ zs) (ap (λ (zs : List A). ys ++ zs) (drop-of-length-le (drop start xs) rest) ∙ append-nil ys)

@@ -1,0 +1,4 @@
+pub mod Calls
+pub mod LentLaws
+pub mod Promises
+pub mod TallyLaws

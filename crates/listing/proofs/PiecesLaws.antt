@@ -1,0 +1,161 @@
+-- Laws of the definitions in specs/Pieces.antt.
+use mathlib.Core.Path.{_≡_, refl, sym, _∙_, ap}
+use mathlib.Core.Bool.{Bool, true, false}
+use mathlib.Core.List.{List, [], _∷_, _++_, append-assoc}
+use Prim.Native.Nat.{ℕ, zero, suc, _+_, _-_, _/_, _%_, _≤_, _<_, _^_}
+use native.Mathlib.Omega.{arith}
+use native.Mathlib.Nat.{pow-suc, div-lt-iff-lt-mul}
+use borrow.Author.Tests.{lt-ltb, le-ltb}
+use lib.Dec.{ltb, lit≤}
+use lib.IntN.{ℤ, pos, negsuc, natAbs}
+use lib.ListN.{length, take, drop, set, length-append, length-drop, length-set}
+use lib.Seq.{drop-cons, getD-set-same, drop-set-lt, paste, length-paste, take-length, length-take-le, drop-at}
+use lib.Signed.{_≤ℤ_, _<ℤ_}
+use Rattle.integers.specs.Pairs.{loss}
+use Rattle.integers.proofs.Pairs.{lt-in}
+use Rattle.rules.specs.declared.Direction.{Direction}
+use Rattle.rules.specs.declared.Direction.the-variants.{Raise, Lower}
+use Rattle.rules.specs.Text.{text, digits, natural, integer}
+use Rattle.listing.specs.Pieces.{Put, Room, after-space, direction-piece}
+
+pub room-less : {j k at : ℕ} {line : List ℕ} → j ≤ k → Room k at line → Room j at line
+room-less h r = record { free = omega (arith, r .free); inside = r .inside }
+
+pub room-after : {k j at r : ℕ} {piece old new : List ℕ} → Room (j + k) at old → length piece ≤ j → Put piece at old r new → Room k r new
+room-after m h p = record { free = omega (arith, m .free, p .place); inside = omega (arith, m .inside, p .place, p .size) }
+
+pub put-inside : {k at r : ℕ} {piece old new : List ℕ} → Room k at old → Put piece at old r new → r ≤ length new
+put-inside m p = omega (arith, m .inside, p .place, p .size)
+
+pub direction-most : (direction : Direction) → length (direction-piece direction) ≤ 6
+unfolding direction-piece text
+direction-most Raise = lit≤ tt
+direction-most Lower = lit≤ tt
+
+-- one piece before another
+pub put-before : {first second : List ℕ} {at r r′ : ℕ} {old mid new : List ℕ} → Put second at old r mid → Put first r mid r′ new →
+    Put (first ++ second) at old r′ new
+put-before {first} {second} {at} {old} p q =
+    record {
+      place = omega (arith, length-append first second, p .place, q .place);
+      bytes = q .bytes ∙ ap (λ (l : List ℕ). first ++ l) (p .bytes) ∙ sym (append-assoc first second (drop at old));
+      size = q .size ∙ p .size;
+    }
+
+-- a word that is copied before what stands
+pub put-word : (word old : List ℕ) (at : ℕ) {new : List ℕ} → Room (length word) at old → new ≡ paste old (at - length word) word (length word) →
+    Put word at old (at - length word) new
+put-word word old at m copied =
+    let from = at - length word in
+    let e : from + length word ≡ at = omega (arith, m .free) in
+    record {
+      place = e;
+      bytes =
+          ap (drop from) (copied ∙ append-assoc (take from old) (take (length word) word) (drop (from + length word) old))
+          ∙ drop-at (take from old) (take (length word) word ++ drop (from + length word) old) from (length-take-le from old (omega (arith, m .inside)))
+          ∙ rw (take-length word, e);
+      size = ap length copied ∙ length-paste old from word (length word) (omega (arith, m .inside)) (omega arith);
+    }
+
+-- what stands from a piece on
+pub put-onto : {at r : ℕ} {piece old new tail : List ℕ} → Put piece at old r new → drop at old ≡ tail → drop r new ≡ piece ++ tail
+put-onto {piece} p e = p .bytes ∙ ap (λ (l : List ℕ). piece ++ l) e
+
+-- one byte more
+pub put-byte : (old : List ℕ) (at b : ℕ) → 0 < at → at ≤ length old → drop (at - 1) (set old (at - 1) b) ≡ b ∷ drop at old
+put-byte old at b h l =
+    let i = at - 1 in
+    let e : suc i ≡ at = omega arith in
+    let inside : i < length (set old i b) = omega (arith, length-set old i b) in
+    drop-cons (set old i b) i 0 inside
+    ∙ rw (getD-set-same old i b 0 (omega arith), drop-set-lt (suc i) old i b (omega arith), e)
+
+-- ---- digits
+-- no more digits than the number may have
+pub digits-most : (most n : ℕ) → length (digits most n) ≤ most
+unfolding digits
+digits-most zero n = omega arith
+digits-most (suc most) n = go (ltb n 10) (digits-most most (n / 10))
+  where
+    go : (t : Bool) → length (digits most (n / 10)) ≤ most → length {A = ℕ}
+        (elim t [ true ↦ (48 + n) ∷ [] | false ↦ digits most (n / 10) ++ ((48 + n % 10) ∷ []) ]) ≤ suc most
+    go true h = omega arith
+    go false h = omega (arith, length-append (digits most (n / 10)) ((48 + n % 10) ∷ []))
+
+digits-last : (most n : ℕ) → n < 10 → digits (suc most) n ≡ (48 + n) ∷ []
+unfolding digits
+digits-last most n h = rw (digits, lt-ltb n 10 h)
+
+digits-more : (most n : ℕ) → 10 ≤ n → digits (suc most) n ≡ digits most (n / 10) ++ ((48 + n % 10) ∷ [])
+unfolding digits
+digits-more most n h = rw (digits, le-ltb n 10 h)
+
+-- what is spelt of a number: `rest` is to be spelt before `to`, in at most `most` digits and one
+pub record Spelt (n at : ℕ) (old : List ℕ) (rest to : ℕ) (line : List ℕ) : Type 0 where
+  pub most : ℕ
+  pub place : to + 19 ≡ at + most
+  pub below : to ≤ at
+  pub small : rest < 10 ^ suc most
+  pub bytes : digits (suc most) rest ++ drop to line ≡ natural n ++ drop at old
+  pub size : length line ≡ length old
+
+pub spelt-none : (n at : ℕ) (old : List ℕ) → n < 10 ^ 20 → Spelt n at old n at old
+spelt-none n at old h = record { most = 19; place = refl; below = omega arith; small = h; bytes = refl; size = refl }
+
+module _ {n at rest to : ℕ} {old line : List ℕ} (m : Room 20 at old) (s : Spelt n at old rest to line) where
+  -- one digit more
+  pub spelt-more : 10 ≤ rest → Spelt n at old (rest / 10) (to - 1) (set line (to - 1) (48 + rest % 10))
+  spelt-more ten = go (s .most) (s .place) (s .small) (s .bytes)
+    where
+      b : ℕ
+      b = 48 + rest % 10
+
+      go : (most : ℕ) → to + 19 ≡ at + most → rest < 10 ^ suc most → digits (suc most) rest ++ drop to line ≡ natural n ++ drop at old →
+          Spelt n at old (rest / 10) (to - 1) (set line (to - 1) b)
+      go zero place small bytes = absurd (omega arith)
+      go (suc k) place small bytes =
+          record {
+            most = k;
+            place = omega (arith, m .free);
+            below = omega (arith, s .below);
+            small = div-lt-iff-lt-mul {k = 10} {x = rest} {y = 10 ^ suc k} (omega arith) .1 (rw (pow-suc 10 (suc k)) at small);
+            bytes =
+                rw (put-byte line to b (omega (arith, m .free)) (omega (arith, s .below, s .size, m .inside)))
+                (sym (append-assoc (digits (suc k) (rest / 10)) (b ∷ []) (drop to line)) ∙ rw (digits-more (suc k) rest ten) at bytes);
+            size = length-set line (to - 1) b ∙ s .size;
+          }
+
+  -- the first digit
+  pub spelt-all : rest < 10 → Put (natural n) at old (to - 1) (set line (to - 1) (48 + rest))
+  spelt-all ten =
+      let b = 48 + rest in
+      let e = put-byte line to b (omega (arith, s .place, m .free)) (omega (arith, s .below, s .size, m .inside)) in
+      let all = rw (digits-last (s .most) rest ten) at (s .bytes) in
+      let long = simp (length-append, length-drop) at (ap length all) in
+      record { place = omega (arith, long, s .place, s .below, s .size, m .free, m .inside); bytes = e ∙ all; size = length-set line (to - 1) b ∙ s .size }
+
+-- what the longest numbers take, with the space before them
+pub natural-most : (n : ℕ) → length (after-space (natural n)) ≤ 21
+unfolding text
+natural-most n = omega (arith, digits-most 20 n)
+
+pub integer-most : (x : ℤ) → length (after-space (integer x)) ≤ 22
+unfolding text
+integer-most (pos n) = omega (arith, digits-most 20 n)
+integer-most (negsuc n) = omega (arith, digits-most 20 (suc n))
+
+-- ---- a number's sign
+not-below : (n : ℕ) → pos n <ℤ pos 0 → ⊥
+not-below n h = omega (arith, lt-in h)
+
+pub size-below : (x : ℤ) → x <ℤ pos 0 → natAbs x ≡ loss x
+size-below (pos n) h = absurd (not-below n h)
+size-below (negsuc n) h = refl
+
+pub integer-below : (x : ℤ) → x <ℤ pos 0 → integer x ≡ text "-" ++ natural (natAbs x)
+integer-below (pos n) h = absurd (not-below n h)
+integer-below (negsuc n) h = refl
+
+pub integer-above : (x : ℤ) → pos 0 ≤ℤ x → integer x ≡ natural (natAbs x)
+integer-above (pos n) h = refl
+integer-above (negsuc n) h = absurd (h .le)
