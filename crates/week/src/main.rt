@@ -22,10 +22,6 @@ use interval::DEFAULTS_LENGTH;
 use interval::FIGURES_LENGTH;
 use interval::SERIES_LENGTH;
 use performances::ROWS;
-use replay::DEFAULTS_LENGTH;
-use replay::FIGURES_LENGTH;
-use replay::SERIES_LENGTH;
-use replay::UNIT;
 use running::MEMBERS;
 use running::WEEKS;
 
