@@ -1,4 +1,4 @@
--- RCR from what is kept: what its parts promise each other, and the laws that join them to the definition.
+-- RCR from what is kept: what its parts promise each other.
 use mathlib.Core.Path.{_≡_}
 use mathlib.Core.Bool.{Bool, cond, not, _&&_, _||_}
 use mathlib.Core.List.{List}

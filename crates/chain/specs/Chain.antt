@@ -1,6 +1,6 @@
 -- A chain of calls: the table of contents, and then records, each with the tally and the lent lists as the call before left them. A refused call may
 -- stand anywhere in it. Over what the calls promise, not over their code. `Means` is what a chain leaves: the definitions of the rules over the
--- records taken, each counted once and in its place (specs/ChainTheorem.antt has the theorem).
+-- records taken, each counted once and in its place (proofs/ChainTheorem.antt has the theorem).
 use mathlib.Core.Path.{_≡_}
 use mathlib.Core.Bool.{cond, _||_}
 use mathlib.Core.List.{List}

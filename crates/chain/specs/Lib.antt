@@ -1,4 +1,4 @@
--- What a chain of calls leaves, from the table of contents to the end of a book, and that it gives the rules' answer
+-- A chain of calls, what it leaves from the table of contents to the end of a book, and what the theorems in proofs/ speak of
 pub mod ChainLaws
 pub mod Taken
 pub mod Chain

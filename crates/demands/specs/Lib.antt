@@ -1,14 +1,14 @@
 -- A chain of C calls
 pub mod WordsChain
 pub mod SharedChain
--- It is a chain of the calls below
+-- What the proof speaks of that it is a chain of the calls below
 pub mod WordsLaws
 pub mod WordsCalls
 pub mod SharedLists
 -- The rules' answer over words, from a chain and from a book's bytes
 pub mod WordsAnswer
 pub mod WordsBook
--- Demand by demand, as a caller meets it
+-- What the demands' theorems speak of
 pub mod Demand1
 pub mod WeekDefaults
 pub mod Demand3

@@ -101,7 +101,6 @@ abbrev pub week-after : Added → List ℕ → List ℕ
 week-after (added.Next w) ws = with-week w ws
 week-after (added.Refused r) ws = ws
 
--- ---- laws
 -- words that hold a running week
 pub record WeekHeld (ws : List ℕ) : Type 0 where
   pub long : week-words ≤ length ws

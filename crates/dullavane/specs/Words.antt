@@ -71,7 +71,6 @@ words-left (k.the-variants.Refused r) t ws = ws
 abbrev pub words-after : Step → List ℕ → List ℕ
 words-after s ws = words-left (s .taking) (s .tally) ws
 
--- ---- laws
 pub record Narrow (ws : List ℕ) : Type 0 where
   pub units : getD ws 0 0 < 65_536
   pub requirements : getD ws 1 0 < 65_536

@@ -1,10 +1,9 @@
--- The laws of whole numbers. Each file needs only those above it.
--- Integers: pairs of naturals, order and ring, equations of polynomials
+-- What the laws of whole numbers speak of. Each file needs only those above it.
+-- Integers: pairs of naturals
 pub mod Pairs
--- Sizes: bounds, and an expression whose every step fits its width
+-- Sizes: bounds
 pub mod Bounds
--- What code does with signed numbers: tests, casts
--- Sums and counts over indexes, totals over lists, ranks
+-- Sums and counts over indexes, totals over lists
 pub mod Sums
 pub mod Totals
 -- Lists that a loop writes or adds to

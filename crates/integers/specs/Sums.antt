@@ -1,4 +1,4 @@
--- Sums, counts and largest values over the indexes 0 to n - 1, and their laws. The terms are a function of the index, so no law speaks of lengths.
+-- Sums, counts and largest values over the indexes 0 to n - 1. The terms are a function of the index, so no law speaks of lengths.
 use mathlib.Core.Path.{_≡_, refl}
 use mathlib.Core.Bool.{Bool, true, false, cond, _&&_, false≢true}
 use Prim.Native.Nat.{ℕ, zero, suc, _+_, max}

@@ -1,4 +1,4 @@
--- A line is put together from its end: a piece goes before what stands. Its laws, and those of a number's digits.
+-- A line is put together from its end: a piece goes before what stands.
 use mathlib.Core.Path.{_≡_}
 use mathlib.Core.List.{List, _++_}
 use Prim.Native.Nat.{ℕ, _+_, _≤_}

@@ -1,4 +1,4 @@
--- What each call promises, whole: the reply, and every lent number, on refusals too. Beside each, that any two outcomes which it allows are equal.
+-- What each call promises, whole: the reply, and every lent number, on refusals too.
 use mathlib.Core.Path.{_≡_}
 use mathlib.Core.Bool.{Bool}
 use mathlib.Core.List.{List}

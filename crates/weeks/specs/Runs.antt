@@ -1,4 +1,4 @@
--- Records that a run of calls leaves: no more live than seen, and a total that so many live ones can reach; one interval more keeps it so.
+-- Records that a run of calls leaves: no more live than seen, and a total that so many live ones can reach.
 use Prim.Native.Nat.{ℕ, _*_, _≤_, _<_}
 use Rattle.rules.specs.declared.Refusal.the-variants.{WrongWeek}
 use Rattle.rules.specs.declared.RunningWeek.{RunningWeek}
