@@ -6,8 +6,8 @@ use native.Mathlib.Omega.{arith}
 use Rattle.answer.proofs.Lists.{headed-length}
 use Rattle.answer.proofs.GivenLaws.{rcr-ready, rcr-small, numbers-fine, Rooms, rooms, members-ready, cost-ready, given-is}
 use borrow.Author.Needs.{needs}
-use Rattle.answer.proofs.given.given.Statement.{statement}
-use Rattle.answer.proofs.given.given.Tie as tie
+use Rattle.answer.proofs.worked.work_out.Statement.{statement}
+use Rattle.answer.proofs.worked.work_out.Tie as tie
 
 abbrev found : tie.After-residual-member → tie.After-rcr
 found c = c .before

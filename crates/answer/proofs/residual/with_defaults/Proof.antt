@@ -8,8 +8,8 @@ use lib.ListN.{getD}
 use mir.Facts.{toZ-ofZ}
 use Rattle.answer.specs.Made.{defaults-at}
 use Rattle.answer.proofs.MadeLaws.{defaults-at-≤, made-same}
-use Rattle.answer.proofs.made.member_at.Statement.{statement}
-use Rattle.answer.proofs.made.member_at.Tie as tie
+use Rattle.answer.proofs.residual.with_defaults.Statement.{statement}
+use Rattle.answer.proofs.residual.with_defaults.Tie as tie
 
 place : (c : tie.After-defaults-place) → c .defaults-place .result ≤ 3
 place c = rw (c .defaults-place .ensures) (defaults-at-≤ (c .before .args .direction))

@@ -12,8 +12,8 @@ use mir.Val.{toZ, ofZ}
 use mir.Facts.{toZ-ofZ}
 use Rattle.integers.proofs.Tests.{leZ-not}
 use Rattle.answer.specs.Made.{reliable-at}
-use Rattle.answer.proofs.roster.place_in_range.Statement.{statement}
-use Rattle.answer.proofs.roster.place_in_range.Tie as tie
+use Rattle.answer.proofs.roster.home_in_range.Statement.{statement}
+use Rattle.answer.proofs.roster.home_in_range.Tie as tie
 
 abbrev figure : tie.After-figure-of → ℤ
 figure c = let a = c .before .before .args in getD (a .figures .now) (9 * (a .place / 2) + reliable-at (a .direction)) (pos 0)

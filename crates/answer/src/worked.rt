@@ -1,7 +1,9 @@
 // A requirement's answer, once every test has been passed.
 ghost use mathlib.Core.Path.{_≡_};
-ghost use lib.ListN.{length};
-ghost use Rattle.answer.specs.Given.{gathered-answer, GivenReady, GivenAll};
+ghost use Rattle.interval.specs.Lent.{Lent, lent-answer};
+ghost use Rattle.answer.specs.Asked.{lent};
+ghost use Rattle.answer.specs.Promises.{columns};
+ghost use Rattle.answer.specs.Worked.{gathered-answer, Passed, WorkedOut};
 use super::Answer;
 use super::Answered;
 use super::Charge;
@@ -14,6 +16,7 @@ use super::residual::residual_member;
 use super::shares::Paying;
 use super::shares::pay;
 use book::RequirementFields;
+use interval::Tally;
 use share::Shared;
 
 // The figures, from what the parts have found, or the first refusal that a share replied.
@@ -38,6 +41,7 @@ fn gathered(
                 Paying::Made(paid) => Answered::Given(Answer {
                     number: fields.number,
                     direction: direction,
+                    set: fields.set,
                     members: paid.members,
                     residual: standing,
                     rcr: found.rcr,
@@ -60,55 +64,49 @@ fn gathered(
 }
 
 // The cost is charged first, so that the column of performances ends with those of payment.
-pub(crate) fn given(
+pub(crate) fn work_out(
+    tally: Tally,
     fields: RequirementFields,
-    units: usize,
-    percent: u8,
     measures: &[i32],
-    positive: &[i64],
-    negative: &[i64],
+    sums: &[i64],
     figures: &[i64],
-    places: &[u8],
-    raise: &[i64],
-    lower: &[i64],
-    defaults: &[i64],
+    homes: &[u8],
+    rows: &[i64],
     performances: &mut [i64],
     factors: &mut [i64],
     payments: &mut [i64],
     used: &mut [i64],
     unused: &mut [i64],
 ) -> Answered
-    requires { ⌜ GivenReady fields units percent (now measures) (now positive) (now negative) (now figures) (now places) (now raise) (now lower)
-        (now defaults) (length (now performances)) (length (now factors)) (length (now payments)) (length (now used)) (length (now unused)) ⌝ }
-    ensures { λ r. ⌜ GivenAll fields units percent (now (measures .entry)) (now (positive .entry)) (now (negative .entry)) (now (figures .entry))
-        (now (places .entry)) (now (raise .entry)) (now (lower .entry)) (now (defaults .entry)) (now (performances .entry)) (now (factors .entry))
-        (now (payments .entry)) (now (used .entry)) (now (unused .entry)) r (now (performances .exit)) (now (factors .exit)) (now (payments .exit))
-        (now (used .exit)) (now (unused .exit)) ⌝ }
+    requires { ⌜ Passed tally fields (lent (now measures) (now sums) (now figures) (now homes) (now rows))
+        (columns (now performances) (now factors) (now payments) (now used) (now unused)) ⌝ }
+    ensures { λ r. ⌜ ((rest : Lent) → WorkedOut tally fields
+        (lent-answer rest (now (measures .entry)) (now (sums .entry)) (now (figures .entry)) (now (homes .entry)) (now (rows .entry)))
+        (columns (now (performances .entry)) (now (factors .entry)) (now (payments .entry)) (now (used .entry)) (now (unused .entry))) r
+        (columns (now (performances .exit)) (now (factors .exit)) (now (payments .exit)) (now (used .exit)) (now (unused .exit)))) ⌝ }
 {
     let direction = fields.direction;
     let set = fields.set;
+    let units = tally.units as usize;
     let found = rcr(
         units,
-        percent,
+        tally.percent,
         direction,
         set,
         measures,
-        positive,
-        negative,
+        sums,
         figures,
-        places,
+        homes,
     );
-    let residual = residual_member(direction, set, units, figures, places, raise, lower);
+    let residual = residual_member(direction, set, units, figures, homes, rows);
     let charges = charge_cost(
         fields,
         found.reliable,
         units,
         residual,
         figures,
-        places,
-        raise,
-        lower,
-        defaults,
+        homes,
+        rows,
         performances,
         used,
         unused,
@@ -121,10 +119,8 @@ pub(crate) fn given(
         set,
         residual,
         figures,
-        places,
-        raise,
-        lower,
-        defaults,
+        homes,
+        rows,
         performances,
         factors,
         payments,

@@ -1,7 +1,7 @@
 -- By the replies of the shares, in the order in which they are asked.
 use borrow.Author.Needs.{needs}
-use Rattle.answer.proofs.given.gathered.Statement.{statement}
-use Rattle.answer.proofs.given.gathered.Tie as tie
+use Rattle.answer.proofs.worked.gathered.Statement.{statement}
+use Rattle.answer.proofs.worked.gathered.Tie as tie
 
 enum-known-used-reply : tie.Need-enum-known-used-reply
 enum-known-used-reply c = search needs
