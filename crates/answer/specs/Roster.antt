@@ -21,7 +21,7 @@ use Rattle.interval.specs.Tally.{in-range, answer-turn}
 use Rattle.interval.specs.Lent.{Lent, figures-length, of-interval}
 use Rattle.kept.specs.Kept.{figure, reliable-of, region-of, row-standing}
 use Rattle.kept.specs.Range.{from-0}
-use Rattle.answer.specs.Asked.{tally-of, lent-members}
+use Rattle.answer.specs.Asked.{lent-members}
 use Rattle.answer.specs.declared.Row.{Row}
 use Rattle.answer.specs.declared.Row.the-variants.{Unit, Other, Refused}
 use Rattle.answer.specs.Made.{reliable-at}
@@ -34,7 +34,7 @@ member-long n l = leb figures-length (length (l .figures)) && (leb n (length (l 
 abbrev pub home-fine : Direction → ℕ → List ℤ → Bool
 home-fine d home figures =
     let l = lent-members figures [] [] in
-    ltb home (2 * regions) && from-0 (tally-of 0 0 0) l 1 (figure l (home / 2) (reliable-at d))
+    ltb home (2 * regions) && from-0 1 (figure l (home / 2) (reliable-at d))
 
 -- who stands in row i: a unit of the set's regions, or of another
 abbrev pub row-says : Lent → Direction → ℕ → ℕ → Row

@@ -4,9 +4,8 @@ ghost use mathlib.Core.Path.{_≡_};
 ghost use mathlib.Core.List.{[]};
 ghost use Prim.Native.Nat.{_≤_, _<_};
 ghost use lib.ListN.{length};
-ghost use Rattle.kept.specs.Range.{figures-fine};
+ghost use Rattle.kept.specs.Range.{region-fine, figures-fine};
 ghost use Rattle.answer.specs.Asked.{tally-of, lent-members};
-ghost use Rattle.answer.specs.Ranges.{region-fine};
 use super::DEFAULTS;
 use super::GENERATION;
 use super::LOWER_RELIABLE;
@@ -23,7 +22,7 @@ const LEAST_DEFAULT: i64 = -50_000_000_000_000_000;
 
 fn region_within(region: usize, figures: &[i64]) -> bool
     requires { ⌜ (region < 5) × (50 ≤ length (now figures)) ⌝ }
-    ensures { λ r. ⌜ r ≡ region-fine (now (figures .entry)) region ⌝ }
+    ensures { λ r. ⌜ r ≡ region-fine (lent-members (now (figures .entry)) [] []) region ⌝ }
 {
     let start = FIGURES_EACH * region;
     if !within_bounds(0, AMOUNT_LIMIT, figures[start + GENERATION]) {

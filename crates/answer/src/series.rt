@@ -5,9 +5,9 @@ ghost use mathlib.Core.List.{[]};
 ghost use Prim.Native.Nat.{_<_, _≤_, _^_};
 ghost use lib.ListN.{length};
 ghost use Rattle.rules.specs.declared.Direction.the-variants.{Raise, Lower};
-ghost use Rattle.kept.specs.Range.{measures-fine, series-fine};
+ghost use Rattle.kept.specs.Range.{measures-fine, sums-fine, series-fine};
 ghost use Rattle.answer.specs.Asked.{tally-of, lent};
-ghost use Rattle.answer.specs.Ranges.{sums-at-most, sums-in-range};
+ghost use Rattle.answer.specs.Ranges.{sums-at-most};
 use super::sizes::size;
 use super::sizes::within_bounds;
 use book::POINTS;
@@ -22,7 +22,7 @@ const MOST_MEASURE: i64 = 5_000_000;
 // The five regions' measures at one point.
 fn measures_within(t: usize, measures: &[i32]) -> bool
     requires { ⌜ (t < 75) × (375 ≤ length (now measures)) ⌝ }
-    ensures { λ r. ⌜ r ≡ measures-fine (tally-of 0 0 0) (lent (now (measures .entry)) [] [] [] []) t ⌝ }
+    ensures { λ r. ⌜ r ≡ measures-fine (lent (now (measures .entry)) [] [] [] []) t ⌝ }
 {
     let mut region: usize = 0;
     while region < REGIONS {
@@ -56,8 +56,8 @@ fn sums_within(most: u64, at: usize, sums: &[i64]) -> bool
 
 fn point_within(most: u64, t: usize, measures: &[i32], sums: &[i64]) -> bool
     requires { ⌜ (most < 2 ^ 40) × (t < 75) × (375 ≤ length (now measures)) × (750 ≤ length (now sums)) ⌝ }
-    ensures { λ r. ⌜ r ≡ (measures-fine (tally-of 0 0 0) (lent (now (measures .entry)) [] [] [] []) t
-        && (sums-in-range most (now (sums .entry)) Raise t && sums-in-range most (now (sums .entry)) Lower t)) ⌝ }
+    ensures { λ r. ⌜ r ≡ (measures-fine (lent (now (measures .entry)) [] [] [] []) t
+        && (sums-fine most (lent [] (now (sums .entry)) [] [] []) Raise t && sums-fine most (lent [] (now (sums .entry)) [] [] []) Lower t)) ⌝ }
 {
     if !measures_within(t, measures) {
         return false;
