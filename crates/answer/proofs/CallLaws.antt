@@ -89,17 +89,17 @@ past-tests {t} part {f} h r =
     }
 
 -- ---- the promise, whatever else is lent
-module _ {t : Tally} {part : List ℕ} {l : Lent} {old : Columns} (rest : Lent) where
-  abbrev whole : Lent
-  whole = lent-answer rest (l .measures) (l .sums) (l .figures) (l .homes) (l .rows)
+abbrev with-rest : Lent → Lent → Lent
+with-rest rest l = lent-answer rest (l .measures) (l .sums) (l .figures) (l .homes) (l .rows)
 
-  told : {y : Reply Requirement} → tested-requirement t part l (columns-long (t .units) old) ≡ y → answer-reply t part whole old ≡ y
+module _ (t : Tally) (part : List ℕ) (l : Lent) (old : Columns) (rest : Lent) where
+  told : {y : Reply Requirement} → tested-requirement t part l (columns-long (t .units) old) ≡ y → answer-reply t part (with-rest rest l) old ≡ y
   told e = tested-reply t part rest l old ∙ e
 
-  pub refuses : (x : Refusal) → tested-requirement t part l (columns-long (t .units) old) ≡ refused x → AnswerPromise t part whole old (Refused x) old
+  pub refuses : (x : Refusal) → tested-requirement t part l (columns-long (t .units) old) ≡ refused x → AnswerPromise t part (with-rest rest l) old (Refused x) old
   refuses x e = record { reply = rw (told e); written = rw (told e) }
 
   pub gives :
       (f : RequirementFields) {a : Answered} {new : Columns} → tested-requirement t part l (columns-long (t .units) old) ≡ taken (required f) →
-      WorkedOut t f whole old a new → AnswerPromise t part whole old a new
+      WorkedOut t f (with-rest rest l) old a new → AnswerPromise t part (with-rest rest l) old a new
   gives f e w = record { reply = rw (told e) (w .reply); written = rw (told e) (w .written) }

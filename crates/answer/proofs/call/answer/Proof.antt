@@ -85,13 +85,13 @@ returns c =
     let g = c .before .before .before .before .before in
     let r = g .before .before .before .before .before .before .before in
     let s = start (r .before .before) in
-    λ rest. gives {l = lists s} {old = old s} rest (r .read .given .0 .0) (read r) (g .work-out .ensures rest)
+    λ rest. gives (s .args .tally) (s .args .part .now) (lists s) (old s) rest (r .read .given .0 .0) (read r) (g .work-out .ensures rest)
 
 returns-2 : tie.Need-returns-2
 returns-2 c =
     let r = c .before in
     let s = start (r .before .before) in
-    λ rest. refuses {l = lists s} {old = old s} rest (r .read2 .given .0 .0) (not-taken r)
+    λ rest. refuses (s .args .tally) (s .args .part .now) (lists s) (old s) rest (r .read2 .given .0 .0) (not-taken r)
 
 pub answer-spec : {M : Type 1} → statement M
 answer-spec =
