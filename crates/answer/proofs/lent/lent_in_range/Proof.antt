@@ -6,7 +6,7 @@ use Rattle.answer.proofs.lent.lent_in_range.Statement.{statement}
 use Rattle.answer.proofs.lent.lent_in_range.Tie as tie
 
 series-in-range-requires : tie.Need-series-in-range-requires
-series-in-range-requires c κs = let h = c .before .pre in (h .measures, h .positive, h .negative)
+series-in-range-requires c κs = let h = c .before .pre in (h .measures, h .sums)
 
 returns : tie.Need-returns
 unfolding series-fine
@@ -22,12 +22,12 @@ returns-2 c =
     rw (sym (e .before .series-in-range .ensures) ∙ not-false _ (e .if1 .left), sym (c .before .figures-in-range .ensures) ∙ not-true _ (c .if2 .taken))
 
 rows-in-range-requires : tie.Need-rows-in-range-requires
-rows-in-range-requires c κs = let h = c .before .before .before .before .before .pre in (h .few, h .places, h .raise, h .lower, h .defaults)
+rows-in-range-requires c κs = let h = c .before .before .before .before .before .before .pre in (h .few, h .homes, h .rows)
 
 returns-3 : tie.Need-returns-3
 unfolding series-fine figures-fine rows-fine
 returns-3 c =
-    let f = c .before in
+    let f = c .before .before in
     let e = f .before .before in
     rw (sym (e .before .series-in-range .ensures) ∙ not-false _ (e .if1 .left), sym (f .before .figures-in-range .ensures) ∙ not-false _ (f .if2 .left))
     (c .rows-in-range .ensures)
