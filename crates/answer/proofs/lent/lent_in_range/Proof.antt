@@ -1,5 +1,6 @@
 -- The series, the figures, the rows.
 use mathlib.Core.Path.{sym, _∙_}
+use borrow.Author.Needs.{needs}
 use borrow.Author.Tests.{not-true, not-false}
 use Rattle.kept.specs.Range.{series-fine, figures-fine, rows-fine}
 use Rattle.answer.proofs.lent.lent_in_range.Statement.{statement}
@@ -21,6 +22,9 @@ returns-2 c =
     let e = c .before .before in
     rw (sym (e .before .series-in-range .ensures) ∙ not-false _ (e .if1 .left), sym (c .before .figures-in-range .ensures) ∙ not-true _ (c .if2 .taken))
 
+cast-rows-in-range : tie.Need-cast-rows-in-range
+cast-rows-in-range c = search needs
+
 rows-in-range-requires : tie.Need-rows-in-range-requires
 rows-in-range-requires c κs = let h = c .before .before .before .before .before .before .pre in (h .few, h .homes, h .rows)
 
@@ -40,5 +44,6 @@ lent-in-range-spec =
     returns
     figures-in-range-requires
     returns-2
+    cast-rows-in-range
     rows-in-range-requires
     returns-3)
