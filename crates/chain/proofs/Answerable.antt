@@ -1,5 +1,5 @@
--- ANSWERABLE: once a chain has all units in, all is there for the answers, and stays so: the tally is in range, the lent lists are long enough and in range, and
--- what is kept gives the rules' answer to any requirement.
+-- ANSWERABLE: once a chain has all units in, all is there for the answers, and stays so: the tally is in range, the lent lists are long enough and in range,
+-- and what is kept gives the rules' answer to any requirement.
 use mathlib.Core.Path.{_≡_, sym, _∙_, ap, subst}
 use mathlib.Core.Bool.{Bool, true, false, not, _&&_, _||_}
 use mathlib.Core.List.{List}
@@ -28,7 +28,6 @@ use Rattle.chain.specs.Chain.{Chain, units-among}
 use Rattle.chain.proofs.ChainSteps.{still-long}
 use Rattle.chain.proofs.ChainTheorem.{chain}
 use Rattle.chain.proofs.Judged.{chain-in-range}
-use Rattle.chain.specs.BookRecords.{part-of}
 use Rattle.chain.proofs.BookRecords.{requirement-sized, part-bytes, requirement-place, requirements-each, book-read}
 use Rattle.chain.proofs.Alike.{requirement-same}
 use Rattle.chain.specs.BookWay.{records-in, Hands}

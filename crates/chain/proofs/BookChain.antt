@@ -6,10 +6,8 @@ use mathlib.Core.List.{List, []}
 use Prim.Native.Nat.{ℕ, zero, suc, _+_, _*_, _≤_, _<_}
 use native.Mathlib.Omega.{arith}
 use lib.Dec.{eqb}
-use lib.IntN.{ℤ}
 use lib.ListN.{length, getD, drop}
 use Rattle.integers.specs.Totals.{total, All}
-use Rattle.rules.specs.declared.Direction.{Direction}
 use Rattle.rules.specs.Quantities.{regions}
 use Rattle.rules.specs.Bytes.{listed}
 use Rattle.laws.proofs.BytesLaws.{listed-from-zero}
@@ -28,7 +26,7 @@ use Rattle.rules.specs.Performance.{wanted}
 use Rattle.rules.specs.Answer.{answer}
 use Rattle.interval.specs.declared.Tally.{Tally}
 use Rattle.interval.specs.Tally.{before-units}
-use Rattle.interval.specs.Lent.{Lent, figures-of, home-of, row-each, row-of}
+use Rattle.interval.specs.Lent.{Lent, figures-of, home-of, row-of}
 use Rattle.kept.specs.Kept.{kept-answer}
 use Rattle.kept.specs.Range.{kept-fine}
 use Rattle.chain.proofs.ChainLaws.{listed-ext, listed-length, listed-shift}

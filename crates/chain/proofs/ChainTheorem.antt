@@ -7,7 +7,6 @@ use native.Mathlib.Numerals.{add-one}
 use native.Mathlib.Decide.{decLt}
 use native.Mathlib.Omega.{arith}
 use lib.Dec.{eqb, ltb}
-use lib.IntN.{ℤ}
 use borrow.Author.Tests.{lt-ltb, le-ltb, ne-eqb}
 use Rattle.integers.proofs.Sums.{none-below}
 use Rattle.integers.proofs.Fills.{filled-none}
@@ -67,7 +66,8 @@ use Rattle.chain.specs.Chain.{
 use Rattle.chain.proofs.ChainSteps.{was-long, region-leaves, unit-leaves}
 
 -- ---- refused calls leave everything as it came
-pub frequency-stays : {t : Tally} {p : List ℕ} {l l′ : Lent} {r : Step} {why : Refusal} → FrequencyPromise t p l r l′ → Refused r why → (r .tally ≡ t) × (l′ ≡ l)
+pub frequency-stays : {t : Tally} {p : List ℕ} {l l′ : Lent} {r : Step} {why : Refusal} → FrequencyPromise t p l r l′ → Refused r why →
+    (r .tally ≡ t) × (l′ ≡ l)
 frequency-stays {t} {p} {l} c h =
     let w = step-refused _ t (frequency-reply t p l) (c .reply) h in
     (w .1, c .lent ∙ ap (λ (x : Reply Region). left (region-kept t) x l) (w .0))

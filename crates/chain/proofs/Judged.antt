@@ -26,9 +26,8 @@ use Rattle.laws.proofs.Limits.{UnitFits}
 use Rattle.laws.proofs.LimitsLaws.{settings-fit, region-fits, unit-fits}
 use Rattle.rules.specs.Measure.{measure}
 use Rattle.laws.proofs.MeasureLaws.{measure-within}
-use Rattle.rules.specs.Deviation.{deviation, good}
+use Rattle.rules.specs.Deviation.{good}
 use Rattle.laws.proofs.DeviationLaws.{deviation-within}
-use Rattle.rules.specs.Performance.{wanted}
 use Rattle.laws.proofs.PerformanceLaws.{wanted-within}
 use Rattle.interval.specs.declared.Tally.{Tally}
 use Rattle.interval.specs.Tally.{before-units, units-end, book-end, units-taken, in-range, settings-kept}

@@ -24,7 +24,7 @@ use Rattle.rules.specs.Fields.{default-fine, sized}
 use Rattle.rules.specs.UnitRecord.{unit-in}
 use Rattle.laws.proofs.Limits.{DefaultFits, DefaultsFit, UnitFits, BookFits}
 use Rattle.rules.specs.Reliability.{reliable}
-use Rattle.rules.specs.Deviation.{deviation, good, good-units}
+use Rattle.rules.specs.Deviation.{deviation, good}
 use Rattle.laws.proofs.DeviationLaws.{deviation-within}
 use Rattle.rules.specs.Measure.{measure-in}
 use Rattle.rules.specs.Performance.{wanted, units-of}
@@ -123,7 +123,7 @@ module _ (t : Tally) (l : Lent) (b : Book) (h : Keeps t l b) (f : BookFits b) wh
     rw (h .figures r 1 i (omega arith)) (natural-fine t l amount-limit (regionOf b r .generation) (f .region r i .generation)),
     rw (h .figures r 2 i (omega arith)) (natural-fine t l 1 _ (one-≤ (reliable (b .settings) (regionOf b r) Raise))),
     rw (h .figures r 3 i (omega arith)) (natural-fine t l 1 _ (one-≤ (reliable (b .settings) (regionOf b r) Lower))),
-    every-all 6 _ (λ j m. rw (h .figures r (4 + j) i (omega arith) ∙ past j) (six-fine residual-default-limit (regionOf b r .defaults) (f .region r i .defaults) j m)),
+    every-all 6 _ (λ j m. rw (h .figures r (4 + j) i (omega arith) ∙ past j) (six-fine residual-default-limit _ (f .region r i .defaults) j m)),
   )
     where
       -- after the first four figures come the defaults

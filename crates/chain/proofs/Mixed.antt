@@ -6,15 +6,16 @@ use mathlib.Core.List.{List}
 use Prim.Native.Nat.{ℕ, _+_, _<_}
 use native.Mathlib.Omega.{arith}
 use lib.IntN.{pos}
-use Rattle.rules.specs.declared.Refusal.the-variants.{OutOfTurn, TooShort}
+use Rattle.rules.specs.declared.Refusal.the-variants.{OutOfTurn}
 use Rattle.rules.specs.Refusals.{Reply, refused, unless}
 use Rattle.rules.specs.Book.{Settings, Unit}
-use Rattle.rules.specs.UnitRecord.{unit-record}
 use Rattle.interval.specs.declared.Tally.{Tally}
+use Rattle.interval.specs.declared.Step.{Step}
 use Rattle.interval.specs.Tally.{in-range, unit-turn, units-taken}
 use Rattle.interval.specs.Lent.{Lent, of-interval}
-use Rattle.interval.specs.Calls.{unit-long, unit-reply}
-use Rattle.kept.specs.Range.{figures-fine, series-fine, rows-fine, kept-fine}
+use Rattle.interval.specs.Calls.{refused-step, stepped, left, unit-long, unit-reply, unit-counted}
+use Rattle.interval.specs.Promises.{UnitPromise, unit-kept}
+use Rattle.kept.specs.Range.{series-fine, figures-fine, kept-fine}
 use Rattle.chain.specs.Chain.{Chain}
 use Rattle.chain.specs.Mixed.{Told}
 use Rattle.chain.proofs.ChainLaws.{of-interval-none}
@@ -48,3 +49,11 @@ pub mixed-told :
 mixed-told {l = l} d begun other differs =
     let own = figures-are d 0 (omega arith) 0 (omega arith) ∙ ap (λ (s : Settings). pos (s .interval)) (sym (chain d .kept (omega arith))) in
     told other l (of-interval-none (other .interval) (l .figures) 0 _ (omega arith) own differs)
+
+-- so the call for a unit refuses it and leaves all as it came
+pub told-unit :
+    {t : Tally} {p : List ℕ} {l l′ : Lent} {r : Step} → Told t l → unit-long (units-taken t + 1) l ≡ true → UnitPromise t p l r l′ →
+    (r ≡ refused-step t OutOfTurn) × (l′ ≡ l)
+told-unit {t} {p} {l} w long c =
+    let e = w .unit p long in
+    (c .reply ∙ ap (λ (x : Reply Unit). stepped (unit-counted t) x t) e, c .lent ∙ ap (λ (x : Reply Unit). left (unit-kept t) x l) e)
