@@ -145,17 +145,17 @@ settings-passed t p s e =
 pub frequency-passed : (t : Tally) (p : List ℕ) (l : Lent) (x : Region) → frequency-reply t p l ≡ taken x → FrequencyTaken t p l x
 unfolding frequency-reply
 frequency-passed t p l x e =
-    let ready = passed (in-range t && frequency-turn t) OutOfTurn _ x e in
-    let turn = both (leb 1 (t .records)) (ltb (t .records) before-units) (both (in-range t) (frequency-turn t) (ready .0) .1) in
-    let long = passed (regions-long l) TooShort _ x (ready .1) in
+    let in-turn = passed (in-range t && frequency-turn t) OutOfTurn _ x e in
+    let turn = both (leb 1 (t .records)) (ltb (t .records) before-units) (both (in-range t) (frequency-turn t) (in-turn .0) .1) in
+    let long = passed (regions-long l) TooShort _ x (in-turn .1) in
     record { first = leb-true _ _ (turn .0); last = ltb-true _ _ (turn .1); long = passes-regions (long .0); record-taken = long .1 }
 
 pub unit-passed : (t : Tally) (p : List ℕ) (l : Lent) (u : Unit) → unit-reply t p l ≡ taken u → UnitTaken t p l u
 unfolding unit-reply
 unit-passed t p l u e =
-    let ready = passed (in-range t && unit-turn t) OutOfTurn _ u e in
-    let turn = both (leb before-units (t .records)) (ltb (t .records) (units-end t)) (both (in-range t) (unit-turn t) (ready .0) .1) in
-    let long = passed (unit-long (units-taken t + 1) l) TooShort _ u (ready .1) in
+    let in-turn = passed (in-range t && unit-turn t) OutOfTurn _ u e in
+    let turn = both (leb before-units (t .records)) (ltb (t .records) (units-end t)) (both (in-range t) (unit-turn t) (in-turn .0) .1) in
+    let long = passed (unit-long (units-taken t + 1) l) TooShort _ u (in-turn .1) in
     let lent = passed (of-interval (t .interval) (l .figures) && series-in-range (named-region p) (units-taken t) l) OutOfTurn _ u (long .1) in
     record { first = leb-true _ _ (turn .0); last = ltb-true _ _ (turn .1); long = passes-long (long .0); record-taken = lent .1 }
 
@@ -163,6 +163,6 @@ pub requirement-passed : (t : Tally) (p : List ℕ) (q : Requirement) → requir
     (units-end t ≤ t .records) × (t .records < book-end t) × (requirement-record (t .least) (eqb (t .records + 1) (book-end t)) p ≡ taken q)
 unfolding requirement-reply
 requirement-passed t p q e =
-    let ready = passed (in-range t && requirement-turn t) OutOfTurn _ q e in
-    let turn = both (leb (units-end t) (t .records)) (ltb (t .records) (book-end t)) (both (in-range t) (requirement-turn t) (ready .0) .1) in
-    (leb-true _ _ (turn .0), ltb-true _ _ (turn .1), ready .1)
+    let in-turn = passed (in-range t && requirement-turn t) OutOfTurn _ q e in
+    let turn = both (leb (units-end t) (t .records)) (ltb (t .records) (book-end t)) (both (in-range t) (requirement-turn t) (in-turn .0) .1) in
+    (leb-true _ _ (turn .0), ltb-true _ _ (turn .1), in-turn .1)

@@ -11,8 +11,8 @@ use Rattle.interval.specs.Lent.{Lent, of-interval}
 use Rattle.interval.specs.Calls.{unit-long, unit-reply}
 use Rattle.kept.specs.Range.{kept-fine}
 
--- the lists are seen to be another book's: where unit, answer and member look at the figures; so every unit is refused with 11 (with 12 where the lists are too
--- short for it), and what an answer reads is out of range
+-- the lists are seen to be another book's where unit, answer and member look at the figures. So a unit is refused with 11 wherever the lists are long enough for
+-- one more, and what an answer reads is out of range
 pub record Told (t : Tally) (l : Lent) : Type 0 where
   pub figures : of-interval (t .interval) (l .figures) ≡ false
   pub unit : (p : List ℕ) → unit-long (units-taken t + 1) l ≡ true → unit-reply t p l ≡ refused OutOfTurn
