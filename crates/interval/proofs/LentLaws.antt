@@ -14,8 +14,7 @@ use borrow.Author.Tests.{ltb-true, ltb-false}
 use Rattle.integers.proofs.Sums.{none-below}
 use Rattle.integers.specs.Fills.{filled}
 use Rattle.integers.proofs.Fills.{filled-none, filled-more, filled-length, filled-at, filled-past, filled-ext}
-use Rattle.rules.specs.Quantities.{points}
-use Rattle.interval.specs.Lent.{placed, series-start}
+use Rattle.interval.specs.Lent.{placed}
 
 module _ {A : Type 0} where
   filled-empty : (n : ℕ) (g : ℕ → A) → filled n g [] ≡ []
@@ -76,17 +75,6 @@ module _ {A : Type 0} where
       let all = placed-store start (m + n) g xs (placed start (m + n) g xs) (start + (m + n)) (g (m + n)) refl refl refl in
       let one-more : n + 1 ≡ suc n = add-one n in
       rw (← one-more) (sym more ∙ all ∙ ap (λ (k : ℕ). placed start k g xs) (omega arith))
-
--- a region's numbers are placed without touching another's
-pub placed-apart : {A : Type 0} (r s : ℕ) (g : ℕ → A) (xs : List A) (i : ℕ) (d : A) → (r ≡ s → ⊥) → i < points →
-    getD (placed (series-start r) points g xs) (series-start s + i) d ≡ getD xs (series-start s + i) d
-placed-apart {A} r s g xs i d apart h = go (ltb r s) refl (ltb s r) refl
-  where
-    go : (less : Bool) → ltb r s ≡ less → (more : Bool) → ltb s r ≡ more →
-        getD (placed (series-start r) points g xs) (series-start s + i) d ≡ getD xs (series-start s + i) d
-    go true e more f = placed-past (series-start r) points g xs (series-start s + i) d (omega (arith, ltb-true r s e))
-    go false e true f = placed-before (series-start r) points g xs (series-start s + i) d (omega (arith, ltb-true s r f))
-    go false e false f = absurd (apart (omega (arith, ltb-false r s e, ltb-false s r f)))
 
 -- ---- a part that is lent from a place to the end: what it holds, and the whole once it is back
 module _ {A : Type 0} where
