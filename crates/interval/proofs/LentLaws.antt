@@ -1,20 +1,22 @@
 -- Laws of lent lists: numbers that are placed in one part of a list, and what stays of the others.
 use mathlib.Core.Path.{_≡_, refl, sym, _∙_, ap}
-use mathlib.Core.Bool.{Bool, true, false}
+use mathlib.Core.Bool.{Bool, true, false, false≢true}
 use mathlib.Core.List.{List, [], _∷_, _++_, append-nil}
 use Prim.Native.Nat.{ℕ, zero, suc, _+_, _-_, _≤_, _<_}
 use native.Mathlib.Numerals.{add-one}
 use native.Mathlib.Nat.{zero-add, add-zero, suc-add}
 use native.Mathlib.Omega.{arith}
-use lib.Dec.{ltb}
+use lib.Dec.{eqb, leb, ltb}
+use lib.IntN.{ℤ, pos, negsuc}
 use lib.ListN.{length, getD, set, take, drop, length-drop, drop-of-length-le}
 use lib.Seq.{take-all}
 use borrow.Rule.Slice.PartMut.{putMid}
-use borrow.Author.Tests.{ltb-true, ltb-false}
+use borrow.Author.Tests.{ltb-true, ltb-false, eqb-true, eqb-false, ne-eqb, le-leb, lt-leb}
 use Rattle.integers.proofs.Sums.{none-below}
 use Rattle.integers.specs.Fills.{filled}
 use Rattle.integers.proofs.Fills.{filled-none, filled-more, filled-length, filled-at, filled-past, filled-ext}
-use Rattle.interval.specs.Lent.{placed}
+use lib.Signed.{ltZ, leZ}
+use Rattle.interval.specs.Lent.{placed, is-number}
 
 module _ {A : Type 0} where
   filled-empty : (n : ℕ) (g : ℕ → A) → filled n g [] ≡ []
@@ -85,3 +87,20 @@ module _ {A : Type 0} where
   part-back start xs ys =
       let rest : length (drop start xs) ≤ length xs - start = simp length-drop (omega arith) in
       ap (λ (zs : List A). take start xs ++ zs) (ap (λ (zs : List A). ys ++ zs) (drop-of-length-le (drop start xs) rest) ∙ append-nil ys)
+
+-- ---- a number is it, by two signed tests
+pub number-below : (n : ℕ) (x : ℤ) → ltZ x (pos n) ≡ true → is-number n x ≡ false
+number-below n (pos a) h = ne-eqb a n (λ e. omega (arith, ltb-true a n h))
+number-below n (negsuc a) h = refl
+
+pub number-above : (n : ℕ) (x : ℤ) → ltZ x (pos n) ≡ false → leZ x (pos n) ≡ is-number n x
+number-above n (pos a) h = go (eqb a n) refl
+  where
+    go : (same : Bool) → eqb a n ≡ same → leb a n ≡ same
+    go true e = le-leb a n (omega (arith, eqb-true a n e))
+    go false e = lt-leb a n (above (ltb n a) refl)
+      where
+        above : (more : Bool) → ltb n a ≡ more → n < a
+        above true f = ltb-true n a f
+        above false f = absurd (eqb-false a n e (omega (arith, ltb-false a n h, ltb-false n a f)))
+number-above n (negsuc a) h = absurd (false≢true (sym h))

@@ -3,12 +3,15 @@ use mathlib.Core.Path.{_≡_, sym, _∙_}
 use mathlib.Core.Bool.{Bool, _&&_}
 use mathlib.Core.List.{List}
 use Prim.Native.Nat.{ℕ}
+use lib.Dec.{leb}
+use lib.IntN.{ℤ}
+use lib.ListN.{length}
 use Rattle.rules.specs.declared.Refusal.{Refusal}
 use Rattle.interval.specs.declared.Tally.{Tally}
 use Rattle.interval.specs.declared.Opened.{Opened}
 use Rattle.interval.specs.declared.Step.{Step}
 use Rattle.interval.specs.Tally.{in-range, frequency-turn, unit-turn, answer-turn}
-use Rattle.interval.specs.Lent.{Lent}
+use Rattle.interval.specs.Lent.{Lent, figures-length, of-interval}
 use Rattle.interval.specs.Calls.{refused-step, count-step, least-after}
 use Rattle.interval.specs.Promises.{ContentsPromise, FrequencyPromise, RequirementPromise, SettingsPromise, UnitPromise}
 
@@ -46,3 +49,8 @@ refuse-only a b = a ∙ sym b
 
 pub count-only : (least : ℕ) (t : Tally) {r r′ : Step} → r ≡ count-step least t → r′ ≡ count-step least t → r ≡ r′
 count-only least t a b = a ∙ sym b
+
+pub of-interval-only :
+    (n : ℕ) (figures : List ℤ) {r r′ : Bool} → r ≡ (leb figures-length (length figures) && of-interval n figures) →
+    r′ ≡ (leb figures-length (length figures) && of-interval n figures) → r ≡ r′
+of-interval-only n figures a b = a ∙ sym b

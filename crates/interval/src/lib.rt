@@ -22,6 +22,7 @@ pub const ROWS_LENGTH: usize = 4096;
 pub const DEVIATION_LIMIT: u64 = 15_000_000;
 
 pub mod contents;
+pub mod lent;
 pub mod requirement;
 pub mod settings;
 pub mod steps;
