@@ -8,24 +8,24 @@ use lib.Dec.{eqb}
 use mir.Facts.{toZ-ofZ}
 use Rattle.integers.specs.Sums.{every}
 use Rattle.integers.proofs.Sums.{every-more, every-none}
-use Rattle.rules.specs.Quantities.{points, measure-limit}
 use Rattle.rules.specs.Fields.{sized}
+use Rattle.interval.specs.Lent.{each-sized, sums-each}
 use Rattle.book.proofs.UnitLaws.{none-of-both}
 use Rattle.units.specs.Points.{at}
-use Rattle.units.proofs.range.each_within.Statement.{statement}
-use Rattle.units.proofs.range.each_within.Tie as tie
+use Rattle.units.proofs.range.each_sum_within.Statement.{statement}
+use Rattle.units.proofs.range.each_sum_within.Tie as tie
 
 abbrev Inv-loop : tie.InvT-loop
-Inv-loop limit start numbers many₀ t₀ many t = (t ≤ 75) × (many ≤ 2 * t) × (eqb many 0 ≡ every t (λ i. sized limit (at start numbers i)))
+Inv-loop limit start sums many₀ t₀ many t = (t ≤ 150) × (many ≤ 2 * t) × (eqb many 0 ≡ every t (λ i. sized limit (at start sums i)))
 
 abbrev μ-loop : tie.MeasureT-loop
-μ-loop limit start numbers many₀ t₀ many t = 75 - t
+μ-loop limit start sums many₀ t₀ many t = 150 - t
 
 abbrev L : tie.After-outside Inv-loop μ-loop → tie.At-loop Inv-loop μ-loop
 L c = c .before .before .before
 
 abbrev tests : tie.After-outside Inv-loop μ-loop → ℕ → Bool
-tests c i = let a = L c .before .args in sized (a .limit) (at (a .start) (a .numbers .now) i)
+tests c i = let a = L c .before .args in sized (a .limit) (at (a .start) (a .sums .now) i)
 
 told : (c : tie.After-outside Inv-loop μ-loop) → eqb (c .outside .result) 0 ≡ tests c (L c .loop .t)
 told c = rw (toZ-ofZ (sfits-of (c .before .outside-arg .given))) at (c .outside .ensures .1)
@@ -67,10 +67,11 @@ loop-again c =
     )
 
 returns : tie.Need-returns Inv-loop μ-loop
-returns c = let e : c .before .loop .t ≡ points = omega arith in rw e at (c .before .loop .inv .2)
+unfolding each-sized
+returns c = let e : c .before .loop .t ≡ sums-each = omega arith in rw e at (c .before .loop .inv .2)
 
-pub each-within-spec : {M : Type 1} → statement M
-each-within-spec =
+pub each-sum-within-spec : {M : Type 1} → statement M
+each-sum-within-spec =
     tie.close
     (tie.spec
     Inv-loop
