@@ -1,13 +1,8 @@
-// Standard input, a record at a time, however few bytes each reading brings.
+// Standard input, a record at a time. What comes is the world's: the promise says only that it is within the place.
 ghost use Prim.Native.Nat.{_+_, _≤_};
 ghost use lib.ListN.{length};
+use super::Filled;
 use libc::STDIN_FILENO;
-
-// How many bytes came, 0 where the input has ended; or the reading failed.
-pub(crate) struct Filled {
-    pub(crate) count: usize,
-    pub(crate) failed: bool,
-}
 
 // One reading into what is left of the place.
 fn read_on(place: &mut [u8], done: usize) -> Filled
@@ -28,7 +23,7 @@ fn read_on(place: &mut [u8], done: usize) -> Filled
 }
 
 // Reads until the place is full or the input ends.
-fn fill(place: &mut [u8]) -> Filled
+pub fn fill(place: &mut [u8]) -> Filled
     ensures { λ r. ⌜ r .count ≤ length (now (place .exit)) ⌝ }
 {
     let mut done: usize = 0;
@@ -50,12 +45,4 @@ fn fill(place: &mut [u8]) -> Filled
         count: done,
         failed: false,
     }
-}
-
-// Reads a record into its place among the bytes.
-pub(crate) fn read_record(bytes: &mut [u8], start: usize, end: usize) -> Filled
-    requires { ⌜ (start ≤ end) × (end ≤ length (now bytes)) ⌝ }
-    ensures { λ r. ⌜ start + r .count ≤ length (now (bytes .entry)) ⌝ }
-{
-    fill(&mut bytes[start..end])
 }

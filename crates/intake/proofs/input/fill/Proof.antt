@@ -3,9 +3,8 @@ use mathlib.Core.Path.{_≡_, refl}
 use Prim.Native.Nat.{_-_, _≤_}
 use native.Mathlib.Omega.{arith}
 use lib.ListN.{length}
-use borrow.Author.Needs.{needs}
-use Rattle.settle.proofs.input.fill.Statement.{statement}
-use Rattle.settle.proofs.input.fill.Tie as tie
+use Rattle.intake.proofs.input.fill.Statement.{statement}
+use Rattle.intake.proofs.input.fill.Tie as tie
 
 abbrev Inv-loop : tie.InvT-loop
 Inv-loop place₀ done₀ place done = (done ≤ length place) × (length place ≡ length place₀)
