@@ -63,8 +63,8 @@ pub passes-both : (s t : Bool) → s ≡ true → t ≡ true → s && t ≡ true
 passes-both true t e f = f
 passes-both false t e f = absurd (false≢true e)
 
-natural-fine : (t : Tally) (l : Lent) (limit n : ℕ) → n ≤ limit → from-0 t l limit (pos n) ≡ true
-natural-fine t l limit n h = passes-both (leb 0 n) (leb n limit) (le-leb 0 n (omega arith)) (le-leb n limit h)
+natural-fine : (limit n : ℕ) → n ≤ limit → from-0 limit (pos n) ≡ true
+natural-fine limit n h = passes-both (leb 0 n) (leb n limit) (le-leb 0 n (omega arith)) (le-leb n limit h)
 
 default-passes : {limit : ℕ} {x : ℤ} → DefaultFits limit x → default-fine limit x ≡ true
 default-passes f = rw (le-leZ (within-low (f .size)), le-leZ (f .sign))
@@ -80,10 +80,10 @@ six-fine limit f h (suc (suc (suc (suc (suc (suc i)))))) l = absurd (omega arith
 
 module _ (t : Tally) (l : Lent) (b : Book) (h : Keeps t l b) (f : BookFits b) where
   -- ---- at a point
-  measures-pass : (p : ℕ) → p < points → measures-fine t l p ≡ true
+  measures-pass : (p : ℕ) → p < points → measures-fine l p ≡ true
   measures-pass p m = every-all regions _ (λ r i. rw (h .measures r p i m) (le-leb _ measure-limit (measure-in-within b f r i p m .size)))
 
-  sums-pass : (d : Direction) (p : ℕ) → p < points → sums-fine t l d p ≡ true
+  sums-pass : (d : Direction) (p : ℕ) → p < points → sums-fine (deviation-limit * t .units) l d p ≡ true
   sums-pass d p m =
       le-leb (sumℕ regions (λ r. natAbs (getD (l .sums) (sum-place d r p) (pos 0)))) (deviation-limit * t .units)
       (omega (
@@ -117,12 +117,12 @@ module _ (t : Tally) (l : Lent) (b : Book) (h : Keeps t l b) (f : BookFits b) wh
       ∙ h .figures r 0 i (omega arith)
       ∙ ap (λ (s : Settings). pos (s .interval)) (sym (h .settings)))
 
-  region-passes : (r : ℕ) → r < regions → (from-0 t l amount-limit (figure l r 1) ≡ true) × (from-0 t l 1 (figure l r 2) ≡ true) ×
-      (from-0 t l 1 (figure l r 3) ≡ true) × (every 6 (λ i. default-fine residual-default-limit (figure l r (4 + i))) ≡ true)
+  region-passes : (r : ℕ) → r < regions → (from-0 amount-limit (figure l r 1) ≡ true) × (from-0 1 (figure l r 2) ≡ true) ×
+      (from-0 1 (figure l r 3) ≡ true) × (every 6 (λ i. default-fine residual-default-limit (figure l r (4 + i))) ≡ true)
   region-passes r i = (
-    rw (h .figures r 1 i (omega arith)) (natural-fine t l amount-limit (regionOf b r .generation) (f .region r i .generation)),
-    rw (h .figures r 2 i (omega arith)) (natural-fine t l 1 _ (one-≤ (reliable (b .settings) (regionOf b r) Raise))),
-    rw (h .figures r 3 i (omega arith)) (natural-fine t l 1 _ (one-≤ (reliable (b .settings) (regionOf b r) Lower))),
+    rw (h .figures r 1 i (omega arith)) (natural-fine amount-limit (regionOf b r .generation) (f .region r i .generation)),
+    rw (h .figures r 2 i (omega arith)) (natural-fine 1 _ (one-≤ (reliable (b .settings) (regionOf b r) Raise))),
+    rw (h .figures r 3 i (omega arith)) (natural-fine 1 _ (one-≤ (reliable (b .settings) (regionOf b r) Lower))),
     every-all 6 _ (λ j m. rw (h .figures r (4 + j) i (omega arith) ∙ past j) (six-fine residual-default-limit _ (f .region r i .defaults) j m)),
   )
     where
