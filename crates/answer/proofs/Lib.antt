@@ -1,3 +1,4 @@
+pub mod BookAnswered
 pub mod CallLaws
 pub mod ChargesLaws
 pub mod WorkedLaws

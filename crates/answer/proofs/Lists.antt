@@ -11,6 +11,7 @@ use Rattle.integers.proofs.Sums.{none-below}
 use Rattle.integers.specs.Totals.{those}
 use Rattle.integers.proofs.Totals.{those-++}
 use Rattle.rules.specs.Bytes.{listed}
+use Rattle.chain.proofs.ChainLaws.{listed-more}
 use Rattle.answer.specs.Lists.{gathered, headed}
 
 -- ---- a list at the front of a column; numbers past it stay
@@ -40,13 +41,6 @@ module _ {A : Type 0} where
   headed-take [] (y ∷ ys) h = refl
   headed-take (x ∷ xs) [] h = none-below (length xs) h
   headed-take (x ∷ xs) (y ∷ ys) h = ap (λ (l : List A). x ∷ l) (headed-take xs ys (omega arith))
-
--- ---- a list of values by index
-module _ {A : Type 0} where
-  listed-more : (i n : ℕ) (f : ℕ → A) → listed i (suc n) f ≡ listed i n f ++ (f (i + n) ∷ [])
-  unfolding listed
-  listed-more i zero f = ap (λ (k : ℕ). f k ∷ []) (omega arith)
-  listed-more i (suc n) f = ap (λ (l : List A). f i ∷ l) (listed-more (suc i) n f ∙ ap (λ (k : ℕ). listed (suc i) n f ++ (f k ∷ [])) (omega arith))
 
 module _ {A : Type 0} (p : ℕ → Bool) (g : ℕ → A) where
   pub gathered-none : gathered p g 0 ≡ []

@@ -14,3 +14,4 @@ pub mod Shares
 pub mod Tested
 pub mod Charges
 pub mod Worked
+pub mod BookAnswered
