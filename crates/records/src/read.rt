@@ -91,21 +91,11 @@ fn unit_fields(u: UnitFields) {
     say::flag(u.good);
 }
 
-fn all_signed(xs: &[i32]) {
-    let mut i: usize = 0;
-    while i < xs.len() {
-        say::signed(wide(xs[i]));
-        i += 1;
-    }
-    say::end();
-}
-
 pub(crate) fn unit(bytes: &[u8], least: u32) {
-    let mut readings = [0i32; 75];
-    match book::unit::read_unit(bytes, least, &mut readings) {
+    match book::unit::read_unit(bytes, least) {
         UnitRead::Taken(u) => {
             unit_fields(u);
-            all_signed(&readings);
+            say::end();
         }
         UnitRead::Refused(r) => say::refused(r),
     }
