@@ -11,16 +11,17 @@ use borrow.Author.Tests.{le-leb}
 use Rattle.rules.specs.declared.Direction.{Direction}
 use Rattle.rules.specs.declared.Refusal.the-variants.{OutOfTurn, TooShort}
 use Rattle.rules.specs.Refusals.{Reply, taken, refused, unless, number}
-use Rattle.rules.specs.Book.{Requirement, Unit as Roster-unit}
+use Rattle.rules.specs.Book.{Requirement}
 use Rattle.rules.specs.RequirementRecord.{set-fine}
 use Rattle.interval.specs.declared.Tally.{Tally}
 use Rattle.interval.specs.declared.Step.{Step}
 use Rattle.interval.specs.Tally.{in-range, answer-turn, units-taken}
 use Rattle.interval.specs.Lent.{Lent, regions-long, rows-long}
-use Rattle.interval.specs.Calls.{left, stepped, unit-counted, unit-long}
-use Rattle.interval.specs.Promises.{UnitPromise, unit-kept}
+use Rattle.interval.specs.Calls.{left, unit-long}
+use Rattle.interval.specs.Promises.{UnitPromise}
 use Rattle.kept.specs.Kept.{kept-answer}
 use Rattle.chain.specs.Mixed.{Told}
+use Rattle.chain.proofs.Mixed.{told-unit}
 use Rattle.answer.specs.declared.Answered.{Answered}
 use Rattle.answer.specs.declared.Row.{Row}
 use Rattle.answer.specs.Promises.{Columns, AnswerPromise, answer-reply, columns-long, replied, with-lines}
@@ -90,10 +91,7 @@ module _ (stored : List ℕ) (t : Tally) (l : Lent) (h : held stored ≡ taken t
       unit {p} {l′ = l′} long c = eleven told words-after _ _ (l′ ≡ l) (inr h) refuses (λ same. same) (c .answer)
         where
           refuses : (s : Step) → UnitPromise t p l s l′ → (told s ≡ number OutOfTurn) × (words-after s stored ≡ stored) × (l′ ≡ l)
-          refuses s w =
-              let no = apart .unit p long in
-              let e = w .reply ∙ ap (λ (y : Reply Roster-unit). stepped (unit-counted t) y t) no in
-              (ap told e, ap (λ (x : Step). words-after x stored) e, w .lent ∙ ap (λ (y : Reply Roster-unit). left (unit-kept t) y l) no)
+          refuses s w = let e = told-unit apart long w in (ap told (e .0), ap (λ (x : Step). words-after x stored) (e .0), e .1)
 
       answer :
           {p reply reply′ : List ℕ} {old new : Columns} {r : ℕ} → ((regions-long l && rows-long (t .units) l) && columns-long (t .units) old) ≡ true →
