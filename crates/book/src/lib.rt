@@ -64,7 +64,7 @@ pub struct Three {
     pub unused: i64,
 }
 
-// A frequency record without its points, which go to a lent slice.
+// A frequency record without its points, which are read where they stand.
 pub struct FrequencyFields {
     pub separation: bool,
     pub before: i32,

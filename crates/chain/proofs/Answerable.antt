@@ -1,5 +1,5 @@
--- READY: once a chain has all units in, all is there for the answers, and stays so: the tally is in range, the lent lists are long enough and in range, and
--- what is kept gives the rules' answer to any requirement.
+-- ANSWERABLE: once a chain has all units in, all is there for the answers, and stays so: the tally is in range, the lent lists are long enough and in range,
+-- and what is kept gives the rules' answer to any requirement.
 use mathlib.Core.Path.{_≡_, sym, _∙_, ap, subst}
 use mathlib.Core.Bool.{Bool, true, false, not, _&&_, _||_}
 use mathlib.Core.List.{List}
@@ -9,7 +9,6 @@ use lib.Dec.{eqb, leb}
 use lib.ListN.{length, getD, drop}
 use borrow.Author.Tests.{le-leb}
 use Rattle.integers.specs.Sums.{both}
-use Rattle.integers.proofs.Fills.{filled-length}
 use Rattle.rules.specs.declared.Refusal.the-variants.{EndsEarly, BytesFollow, RequirementField}
 use Rattle.rules.specs.Bytes.{number-at}
 use Rattle.laws.proofs.BytesLaws.{listed-from-zero}
@@ -21,78 +20,68 @@ use Rattle.rules.specs.WholeBook.{requirement-body, book}
 use Rattle.laws.proofs.LimitsLaws.{passed}
 use Rattle.interval.specs.declared.Tally.{Tally}
 use Rattle.interval.specs.Tally.{before-units, in-range}
+use Rattle.interval.specs.Lent.{Lent}
+use Rattle.chain.specs.Long.{Long}
 use Rattle.chain.proofs.ChainLaws.{listed-length}
 use Rattle.chain.specs.Taken.{counts-in}
-use Rattle.chain.specs.Chain.{Lent, Chain, regions-among, units-among}
+use Rattle.chain.specs.Chain.{Chain, units-among}
+use Rattle.chain.proofs.ChainSteps.{still-long}
 use Rattle.chain.proofs.ChainTheorem.{chain}
-use Rattle.chain.proofs.Honest.{chain-in-range}
-use Rattle.chain.specs.BookRecords.{part-of}
+use Rattle.chain.proofs.Judged.{chain-in-range}
 use Rattle.chain.proofs.BookRecords.{requirement-sized, part-bytes, requirement-place, requirements-each, book-read}
 use Rattle.chain.proofs.Alike.{requirement-same}
 use Rattle.chain.specs.BookWay.{records-in, Hands}
 use Rattle.chain.proofs.BookWay.{hands-counts, hands-chain}
-use Rattle.chain.specs.Keeps.{kept-of}
-use Rattle.chain.proofs.Fine.{passes-both}
+use Rattle.chain.proofs.KeptInRange.{passes-both}
 use Rattle.chain.proofs.Spelled.{spelled-hands, chain-book}
 use Rattle.chain.specs.BookChain.{book-of}
-use Rattle.chain.proofs.BookChain.{chain-answers, chain-fine, book-records, requirements-many}
-use Rattle.chain.specs.Ready.{KeptRoom, Ready}
+use Rattle.chain.proofs.BookChain.{chain-answers, chain-kept-in-range, book-records, requirements-many}
+use Rattle.chain.specs.Answerable.{Answerable}
 
 -- ---- of any chain that has all units in, for the book of the records that it took
 module _
     {head : List ℕ} {part : ℕ → List ℕ} {l₀ : Lent} {n : ℕ} {t : Tally} {l : Lent} (d : Chain head part l₀ n t l)
     (all : before-units + counts-in head .units ≤ n) where
-  chain-room : KeptRoom (kept-of t l)
-  chain-room =
-      let w = chain head part l₀ d in
-      let x = w .lent in
-      let r = w .room in
-      let series = r .series (some (counts-in head .units) all) in
-      let each = every (counts-in head .units) all in
-      record {
-        measures = rw (ap length (x .measures) ∙ filled-length _ _ _) (series .0);
-        positive = rw (ap length (x .positive) ∙ filled-length _ _ _) (series .1);
-        negative = rw (ap length (x .negative) ∙ filled-length _ _ _) (series .2);
-        figures = rw (ap length (x .figures) ∙ filled-length _ _ _) (series .3);
-        numbers = rw (w .units, ap length (x .numbers) ∙ filled-length _ _ _) (rw each at (r .numbers));
-        places = rw (w .units, ap length (x .places) ∙ filled-length _ _ _) (rw each at (r .places));
-        raise = rw (w .units, ap length (x .raise) ∙ filled-length _ _ _) (rw each at (r .raise));
-        lower = rw (w .units, ap length (x .lower) ∙ filled-length _ _ _) (rw each at (r .lower));
-        defaults = rw (w .units, ap length (x .defaults) ∙ filled-length _ _ _) (rw each at (r .defaults));
-      }
+  chain-long : Long l (t .units)
+  chain-long =
+      let w = chain d in
+      rw (w .units) (still-long (w .lent) (rw (every (counts-in head .units) all) at (w .long (omega arith))))
     where
-      some : (u : ℕ) → before-units + u ≤ n → 0 < regions-among n
-      some u h = omega arith
-
       every : (u : ℕ) → before-units + u ≤ n → units-among u n ≡ u
       every u h = omega arith
 
-  ready-in-range : in-range t ≡ true → (qs : List Requirement) → Ready (book-of (counts-in head .units) part qs) t l
-  ready-in-range tally qs =
-      let w = chain head part l₀ d in
-      record { tally = tally; turn = omega (arith, w .records, w .units); room = chain-room; fine = chain-fine d all; answers = chain-answers d all qs }
+  answerable-in-range : in-range t ≡ true → (qs : List Requirement) → Answerable (book-of (counts-in head .units) part qs) t l
+  answerable-in-range tally qs =
+      let w = chain d in
+      record {
+        tally = tally;
+        turn = omega (arith, w .records, w .units);
+        long = chain-long;
+        lent = chain-kept-in-range d all;
+        answers = chain-answers d all qs;
+      }
 
-  pub chain-ready : ((m i : ℕ) → m < n → getD (part m) i 0 < 256) → (qs : List Requirement) → Ready (book-of (counts-in head .units) part qs) t l
-  chain-ready bytes = ready-in-range (chain-in-range head part l₀ d bytes)
+  pub chain-answerable : ((m i : ℕ) → m < n → getD (part m) i 0 < 256) → (qs : List Requirement) → Answerable (book-of (counts-in head .units) part qs) t l
+  chain-answerable bytes = answerable-in-range (chain-in-range d bytes)
 
 -- ---- of a book that the format takes, handed on whole or cut
 module _
     {bs head : List ℕ} {part : ℕ → List ℕ} (hands : Hands bs head part) (b : Book) (e : book bs ≡ taken b)
     {l₀ : Lent} {n : ℕ} {t : Tally} {l : Lent} (d : Chain head part l₀ n t l) (all : before-units + counts-in head .units ≤ n) where
-  handed-ready : in-range t ≡ true → Ready b t l
-  handed-ready tally =
+  handed-answerable : in-range t ≡ true → Answerable b t l
+  handed-answerable tally =
       let all′ = subst (λ (c : Counts). before-units + c .units ≤ n) (hands-counts hands) all in
-      subst (λ (b : Book). Ready b t l) (sym (book-records bs b e)) (ready-in-range (hands-chain hands d) all′ tally (b .requirements))
+      subst (λ (b : Book). Answerable b t l) (sym (book-records bs b e)) (answerable-in-range (hands-chain hands d) all′ tally (b .requirements))
 
-  pub units-ready : ((i : ℕ) → getD bs i 0 < 256) → Ready b t l
-  units-ready bytes = handed-ready (chain-in-range bs (part-of bs) l₀ (hands-chain hands d) (λ m i _. part-bytes bs bytes m i))
+  pub units-answerable : ((i : ℕ) → getD bs i 0 < 256) → Answerable b t l
+  units-answerable bytes = handed-answerable (chain-in-range (hands-chain hands d) (λ m i _. part-bytes bs bytes m i))
 
 -- ---- of the book that the parts of a chain have spelled, where it has ended
-pub ended-ready :
+pub ended-answerable :
     {head : List ℕ} {part : ℕ → List ℕ} {l₀ : Lent} {t : Tally} {l : Lent} (d : Chain head part l₀ (records-in head) t l) →
-    ((m i : ℕ) → m < records-in head → getD (part m) i 0 < 256) → Ready (chain-book d .0) t l
-ended-ready {head} {part} {l₀} d bytes =
-    handed-ready (spelled-hands d) (chain-book d .0) (chain-book d .1) d (omega arith) (chain-in-range head part l₀ d bytes)
+    ((m i : ℕ) → m < records-in head → getD (part m) i 0 < 256) → Answerable (chain-book d .0) t l
+ended-answerable d bytes =
+    handed-answerable (spelled-hands d) (chain-book d .0) (chain-book d .1) d (omega arith) (chain-in-range d bytes)
 
 -- ---- a requirement's record, read again
 -- one that was taken is taken again whatever its number and whatever follows
