@@ -78,7 +78,7 @@ pub enum FrequencyRead {
     Refused(Refusal),
 }
 
-// A unit record without its readings, which go to a lent slice; `good` says that none of them is bad.
+// A unit record without its readings; `good` says that none of them is bad.
 pub struct UnitFields {
     pub number: u16,
     pub region: u8,

@@ -21,6 +21,7 @@ use rules::Refusal;
 use rules::refusal_number;
 use units::unit::unit;
 use weekly::DEFAULT_NUMBERS;
+use weekly::as_group;
 use weekly::tell_default;
 use weekly::tell_week;
 use weekly::week_in;
@@ -283,7 +284,7 @@ pub extern "C" fn dullavane_week_add(
     if refusal != 0 {
         return refusal;
     }
-    let added = add(whose_of(whose), live != 0, performance, week_in(week));
+    let added = add(as_group(whose), live != 0, performance, week_in(week));
     tell_week(added, week)
 }
 

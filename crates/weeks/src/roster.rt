@@ -5,6 +5,7 @@ use super::Written;
 use super::list::bytes_for;
 use super::list::week;
 use super::whose::is_fine;
+use super::whose::units_of;
 use rules::Refusal;
 use rules::WeekDefault;
 use rules::Whose;
@@ -72,7 +73,7 @@ fn all_fine(whose: &[u16]) -> bool
 {
     let mut j: usize = 0;
     while j < whose.len() {
-        if !is_fine(whose_of(whose[j])) {
+        if !is_fine(units_of(whose_of(whose[j]))) {
             return false;
         }
         j += 1;

@@ -12,7 +12,7 @@ use Rattle.listing.proofs.lines.put_amounts.Tie as tie
 abbrev S : tie.After-put-integer → tie.Start
 S c = c .before .before .before .before
 
-unused-put : (c : tie.After-put-integer) → Put (after-space (integer (S c .args .amounts .unused))) 164 (S c .args .line .now) (c .put-integer .result)
+unused-put : (c : tie.After-put-integer) → Put (after-space (integer (S c .args .amounts .unused))) (S c .args .last) (S c .args .line .now) (c .put-integer .result)
     (c .put-integer .last .1 .1 .0)
 unused-put c = rw (toZ-ofZ (sfits-of (c .before .struct-told .given .1 .1 .1 .1 .0 .1))) at (c .put-integer .ensures)
 

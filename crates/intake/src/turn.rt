@@ -1,0 +1,92 @@
+// The record whose turn it is, by the tally: its size, and the call that takes it. Each call tests its own turn, so a tally out of range or at the book's end
+// is refused with 11.
+ghost use mathlib.Core.Path.{_≡_};
+ghost use Prim.Native.Nat.{_≤_};
+ghost use Rattle.chain.specs.BookRecords.{record-size};
+ghost use Rattle.intake.specs.Turns.{TakePromise};
+use book::FREQUENCY;
+use book::REQUIREMENT;
+use book::SETTINGS;
+use book::UNIT;
+use frequencies::frequency::frequency;
+use interval::Step;
+use interval::Tally;
+use interval::requirement::requirement;
+use interval::settings::settings;
+use interval::turns::BEFORE_UNITS;
+use units::unit::unit;
+
+// The bytes of the record that comes next; behind the book's end those of a requirement.
+pub fn size(tally: Tally) -> usize
+    ensures { λ r. ⌜ r ≡ record-size (tally .units) (tally .records) ⌝ }
+    ensures { λ r. ⌜ r ≤ 372 ⌝ }
+{
+    if tally.records < 1 {
+        return SETTINGS;
+    }
+    if tally.records < BEFORE_UNITS {
+        return FREQUENCY;
+    }
+    if tally.records - BEFORE_UNITS < tally.units {
+        return UNIT;
+    }
+    REQUIREMENT
+}
+
+// Hands the part to the call whose turn it is. Refuses what that call refuses.
+pub fn take(
+    tally: Tally,
+    part: &[u8],
+    measures: &mut [i32],
+    positive: &mut [i64],
+    negative: &mut [i64],
+    figures: &mut [i64],
+    numbers: &mut [u16],
+    places: &mut [u8],
+    raise: &mut [i64],
+    lower: &mut [i64],
+    defaults: &mut [i64],
+    frequencies: &mut [u32],
+    readings: &mut [i32],
+    deviations: &mut [i64],
+) -> Step
+    ensures { λ r. ⌜
+        TakePromise tally (now (part .entry)) (now (measures .entry)) (now (positive .entry)) (now (negative .entry)) (now (figures .entry))
+        (now (numbers .entry)) (now (places .entry)) (now (raise .entry)) (now (lower .entry)) (now (defaults .entry)) (now (frequencies .entry))
+        (now (readings .entry)) (now (deviations .entry)) r (now (measures .exit)) (now (positive .exit)) (now (negative .exit))
+        (now (figures .exit)) (now (numbers .exit)) (now (places .exit)) (now (raise .exit)) (now (lower .exit)) (now (defaults .exit))
+        (now (frequencies .exit)) (now (readings .exit)) (now (deviations .exit))
+        ⌝ }
+{
+    if tally.records < 1 {
+        return settings(tally, part);
+    }
+    if tally.records < BEFORE_UNITS {
+        return frequency(
+            tally,
+            part,
+            frequencies,
+            measures,
+            positive,
+            negative,
+            figures,
+        );
+    }
+    if tally.records - BEFORE_UNITS < tally.units {
+        return unit(
+            tally,
+            part,
+            readings,
+            deviations,
+            measures,
+            positive,
+            negative,
+            numbers,
+            places,
+            raise,
+            lower,
+            defaults,
+        );
+    }
+    requirement(tally, part)
+}
