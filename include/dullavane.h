@@ -68,7 +68,7 @@
    and for the answers
        performances, factors, payments, used, unused    N + 1 int64_t each                           20,520
        reply          DULLAVANE_REPLY_WORDS uint64_t
-   None of them is scratch: each is needed as long as the book is.
+   None of them is scratch: what is kept of a book is needed as long as the book is, and columns and reply hold the answer given last.
 
    DEFAULTS FROM SEVEN DAYS OF RECORD (the Procedure, 6.4.1) are worked out by four calls of their own, which need no tally: the sum of
    min(0, performance) over the live intervals of a week, divided by their number, to the nearest whole number, halves away from zero; 0 where
