@@ -8,8 +8,8 @@ use borrow.Author.Needs.{needs}
 use borrow.Author.Tests.{le-leb, lt-leb, not-true, not-false}
 use Rattle.dullavane.specs.Words.{tally-words, reply-number}
 use Rattle.dullavane.proofs.WordsLaws.{held-by}
-use Rattle.dullavane.proofs.words.unheld.Statement.{statement}
-use Rattle.dullavane.proofs.words.unheld.Tie as tie
+use Rattle.dullavane.proofs.words.words_refusal.Statement.{statement}
+use Rattle.dullavane.proofs.words.words_refusal.Tie as tie
 
 abbrev start : tie.After-narrow → tie.Start
 start c = c .before .before .before
@@ -39,8 +39,8 @@ returns-2 c =
 returns-3 : tie.Need-returns-3
 returns-3 c = let n = c .before in sym (ap reply-number (held-by _ (long n) (sym (n .narrow .ensures) ∙ not-false _ (c .if2 .left))))
 
-pub unheld-spec : {M : Type 1} → statement M
-unheld-spec =
+pub words-refusal-spec : {M : Type 1} → statement M
+words-refusal-spec =
     tie.close
     (tie.spec
     refusal-number-requires

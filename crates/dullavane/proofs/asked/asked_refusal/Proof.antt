@@ -7,27 +7,27 @@ use Rattle.rules.specs.declared.Refusal.the-variants.{OutOfTurn, TooShort}
 use Rattle.rules.specs.Refusals.{taken, unless}
 use Rattle.dullavane.specs.Words.{reply-number}
 use Rattle.dullavane.proofs.WordsLaws.{held-means}
-use Rattle.dullavane.specs.Asked.{ready}
-use Rattle.dullavane.proofs.AskedLaws.{ready-number, unready-held}
-use Rattle.dullavane.proofs.asked.unready.Statement.{statement}
-use Rattle.dullavane.proofs.asked.unready.Tie as tie
+use Rattle.dullavane.specs.Asked.{asked-tally}
+use Rattle.dullavane.proofs.AskedLaws.{asked-number, refused-words}
+use Rattle.dullavane.proofs.asked.asked_refusal.Statement.{statement}
+use Rattle.dullavane.proofs.asked.asked_refusal.Tie as tie
 
 abbrev start : tie.After-answer-turn → tie.Start
 start c = c .before .before .before .before .before
 
-tested : (c : tie.After-answer-turn) {x f m : Bool} → let a = start c .args in c .answer-turn .result ≡ x → a .fine ≡ f → a .room ≡ m →
+tested : (c : tie.After-answer-turn) {x f m : Bool} → let a = start c .args in c .answer-turn .result ≡ x → a .narrow ≡ f → a .long ≡ m →
     reply-number (unless x OutOfTurn (unless f OutOfTurn (unless m TooShort (taken (c .before .tally-in .result))))) ≡
-    reply-number (ready (a .words .now) (a .fine) (a .room))
-tested c e = ready-number _ _ _ (c .before .tally-in .ensures) (sym (c .answer-turn .ensures) ∙ e)
+    reply-number (asked-tally (a .words .now) (a .narrow) (a .long))
+tested c e = asked-number _ _ _ (c .before .tally-in .ensures) (sym (c .answer-turn .ensures) ∙ e)
 
-unheld-requires : tie.Need-unheld-requires
-unheld-requires c κs = search needs
+words-refusal-requires : tie.Need-words-refusal-requires
+words-refusal-requires c κs = search needs
 
 returns : tie.Need-returns
-returns c = let u = c .before in u .unheld .ensures ∙ unready-held _ _ _ (λ e. c .if1 .taken (u .unheld .ensures ∙ e))
+returns c = let u = c .before in u .words-refusal .ensures ∙ refused-words _ _ _ (λ e. c .if1 .taken (u .words-refusal .ensures ∙ e))
 
 tally-in-requires : tie.Need-tally-in-requires
-tally-in-requires c κs = held-means _ (c .before .unheld .ensures) (c .if1 .left)
+tally-in-requires c κs = held-means _ (c .before .words-refusal .ensures) (c .if1 .left)
 
 answer-turn-requires : tie.Need-answer-turn-requires
 answer-turn-requires c κs = search needs
@@ -61,11 +61,11 @@ returns-5 c =
     let e = f .before in
     tested (e .before) (not-false _ (e .if2 .left)) (not-false _ (f .if3 .left)) (not-false _ (c .if4 .left))
 
-pub unready-spec : {M : Type 1} → statement M
-unready-spec =
+pub asked-refusal-spec : {M : Type 1} → statement M
+asked-refusal-spec =
     tie.close
     (tie.spec
-    unheld-requires
+    words-refusal-requires
     returns
     tally-in-requires
     answer-turn-requires
