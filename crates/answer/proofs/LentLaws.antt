@@ -1,13 +1,13 @@
 -- Laws of the definitions in specs/Lent.antt.
 use mathlib.Core.Path.{_≡_}
 use mathlib.Core.Bool.{true, _&&_}
-use Prim.Native.Nat.{ℕ, _*_, _≤_}
+use Prim.Native.Nat.{ℕ, _≤_}
 use lib.Dec.{leb}
 use lib.ListN.{length}
 use borrow.Author.Tests.{leb-true}
 use Rattle.integers.specs.Sums.{both}
 use Rattle.rules.specs.Quantities.{most-units}
-use Rattle.interval.specs.Lent.{Lent, series-length, sums-length, figures-length, regions-long, rows-long}
+use Rattle.interval.specs.Lent.{Lent, series-length, sums-length, regions-long, rows-long}
 use Rattle.answer.specs.Lent.{Long}
 
 pub long-means : (units : ℕ) (l : Lent) → units ≤ most-units → (regions-long l && rows-long units l) ≡ true → Long units l

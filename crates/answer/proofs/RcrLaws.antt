@@ -22,7 +22,7 @@ use Rattle.rules.specs.Fields.{sized}
 use Rattle.laws.proofs.LimitsLaws.{size-fits}
 use Rattle.interval.specs.declared.Tally.{Tally}
 use Rattle.interval.specs.Lent.{Lent, series-start, sum-place, of-interval}
-use Rattle.kept.specs.Kept.{figure, generation-of, kept-rcr, kept-reliable, kept-few-bad}
+use Rattle.kept.specs.Kept.{figure, generation-of, kept-rcr, kept-reliable}
 use Rattle.kept.specs.Range.{measures-fine, sums-fine, from-0, row-fine, series-fine, figures-fine, rows-fine, kept-fine}
 use Rattle.answer.specs.Asked.{lent, lent-members, asked}
 use Rattle.answer.specs.Lent.{Long}

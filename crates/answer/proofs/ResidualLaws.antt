@@ -22,7 +22,6 @@ use Rattle.rules.specs.declared.Standing.{Standing}
 use Rattle.rules.specs.declared.Standing.the-variants.{Live, Default}
 use Rattle.rules.specs.Standings.{standing, live-or}
 use Rattle.rules.specs.Bytes.{bit}
-use Rattle.interval.specs.declared.Tally.{Tally}
 use Rattle.interval.specs.Lent.{Lent}
 use Rattle.kept.specs.Kept.{reliable-of, region-of, good-of, in-row, residual-default, units-in-region, some-good-or-none-of, residual-of}
 use Rattle.answer.specs.Asked.{tally-of, lent-members}

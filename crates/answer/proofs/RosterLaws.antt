@@ -17,7 +17,7 @@ use Rattle.rules.specs.declared.Refusal.the-variants.{OutOfTurn}
 use Rattle.rules.specs.declared.Standing.{Standing}
 use Rattle.rules.specs.Quantities.{regions, amount-limit, residual-default-limit}
 use Rattle.rules.specs.Fields.{default-fine}
-use Rattle.rules.specs.Refusals.{Reply, taken, unless}
+use Rattle.rules.specs.Refusals.{taken, unless}
 use Rattle.rules.specs.Bytes.{bit}
 use Rattle.rules.specs.Book.{Requirement, covers}
 use Rattle.rules.specs.RequirementRecord.{set-fine}

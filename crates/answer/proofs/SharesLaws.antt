@@ -20,7 +20,6 @@ use Rattle.rules.specs.Share.{weight-sum, weight-at, share-of, unplaced-of, sha
 use Rattle.laws.proofs.ShareLaws.{never-left-overs}
 use Rattle.interval.specs.Lent.{Lent}
 use Rattle.share.specs.declared.Shared.{Shared}
-use Rattle.share.specs.declared.Shared.the-variants.{Placed}
 use Rattle.share.specs.declared.SharedSigns.{SharedSigns}
 use Rattle.share.specs.declared.SharedSigns.the-variants as ss
 use Rattle.share.specs.Promises.{debit, answered, where-taken, SharedOut}

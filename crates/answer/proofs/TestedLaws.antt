@@ -6,7 +6,7 @@ use Prim.Native.Nat.{ℕ, _≤_}
 use Rattle.integers.specs.Sums.{both}
 use Rattle.rules.specs.declared.Refusal.the-variants.{OutOfTurn, TooShort}
 use Rattle.rules.specs.Quantities.{most-units}
-use Rattle.rules.specs.Refusals.{Reply, taken}
+use Rattle.rules.specs.Refusals.{taken}
 use Rattle.rules.specs.Book.{Requirement}
 use Rattle.rules.specs.RequirementRecord.{requirement-record}
 use Rattle.laws.proofs.LimitsLaws.{passed}

@@ -15,7 +15,6 @@ use Rattle.rules.specs.declared.Standing.the-variants.{Live, Default}
 use Rattle.rules.specs.Quantities.{regions, most-units, performance-limit, residual-default-limit}
 use Rattle.rules.specs.Bytes.{bit}
 use Rattle.rules.specs.Standings.{standing}
-use Rattle.interval.specs.declared.Tally.{Tally}
 use Rattle.interval.specs.Lent.{Lent, figures-length, row-each}
 use Rattle.kept.specs.Kept.{
   figure,

@@ -1,5 +1,5 @@
 -- RCR is told by reliability, bad units and the points.
-use mathlib.Core.Path.{_≡_, sym, _∙_}
+use mathlib.Core.Path.{sym, _∙_}
 use borrow.Author.Tests.{not-true, not-false}
 use mathlib.Core.List.{[]}
 use Rattle.answer.specs.Asked.{lent}

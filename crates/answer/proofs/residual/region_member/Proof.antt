@@ -1,5 +1,5 @@
 -- The standing by what the rows hold; minus the sum, which is far from the ends of 64 bits; the direction's three defaults.
-use mathlib.Core.Path.{_≡_, refl, _∙_, ap, ap₂}
+use mathlib.Core.Path.{refl, _∙_, ap, ap₂}
 use mathlib.Core.Bool.{Bool, _||_}
 use mathlib.Core.List.{[]}
 use Prim.Native.Nat.{ℕ}

@@ -1,6 +1,6 @@
 -- What was listed is within the limits of both shares; the factors' unplaced tell the pool.
 use mathlib.Core.Path.{sym, _∙_}
-use Prim.Native.Nat.{ℕ, _≤_}
+use Prim.Native.Nat.{_≤_}
 use lib.Dec.{eqb}
 use native.Mathlib.Omega.{arith}
 use Rattle.integers.specs.Pairs.{gain, loss}
