@@ -32,7 +32,21 @@ record Same (l l₂ : Lent) : Type 0 where
   deviations : l .deviations ≡ l₂ .deviations
 
 same : {l l₂ : Lent} → Same l l₂ → l ≡ l₂
-same s = rw (s .measures, s .positive, s .negative, s .figures, s .numbers, s .places, s .raise, s .lower, s .defaults, s .frequencies, s .readings, s .deviations)
+same s =
+    rw (
+      s .measures,
+      s .positive,
+      s .negative,
+      s .figures,
+      s .numbers,
+      s .places,
+      s .raise,
+      s .lower,
+      s .defaults,
+      s .frequencies,
+      s .readings,
+      s .deviations,
+    )
 
 module _ {t : Tally} {p : List ℕ} {l : Lent} {r r₂ : Step} {l′ l₂ : Lent} where
   frequency-alike : FrequencyCall t p l r l′ → FrequencyCall t p l r₂ l₂ → (r ≡ r₂) × (l′ ≡ l₂)

@@ -2,7 +2,6 @@
 // count of live intervals and the default that they give, for raise and for lower. A refused book ends it with one line. How far it is, and what goes
 // wrong with reading or writing, is told on standard error.
 mod books;
-mod input;
 mod output;
 mod performances;
 mod replay;
@@ -11,12 +10,13 @@ mod running;
 // The buffers, in bytes, each array once:
 //   a book's series: measures 1,500, positive 3,000, negative 3,000; figures 360
 //   its units: numbers 1,024, places 512, raise 4,096, lower 4,096, defaults 24,576
-//   bytes of a record 372; points of a record (books.rt): frequencies 300, readings 300, deviations 600
+//   bytes of a record 372, and one to see that the books end; points of a record: frequencies 300, readings 300, deviations 600
 //   an answer's columns (performances.rt): performances, factors, payments, used, unused 4,104 each, and its requirement 24
-//   a direction's performances by row: 4,096, and whether they are live 512
+//   a book's performances (replay.rt) 8,272, and whether they are live 1,034
 //   the weeks: names 1,024, lives 2,068, highs 2,068, lows 8,272
 //   the library's own, while a line is written: 4,096
-// Together 86,416, within 131,072.
+// Together 91,115, within 131,072.
+use book::POINTS;
 use book::UNIT;
 use interval::DEFAULTS_LENGTH;
 use interval::FIGURES_LENGTH;
@@ -36,6 +36,9 @@ fn main() {
     let mut raise = [0i64; ROWS];
     let mut lower = [0i64; ROWS];
     let mut defaults = [0i64; DEFAULTS_LENGTH];
+    let mut frequencies = [0u32; POINTS];
+    let mut readings = [0i32; POINTS];
+    let mut deviations = [0i64; POINTS];
     let mut names = [0u16; MEMBERS];
     let mut lives = [0u16; WEEKS];
     let mut highs = [0u16; WEEKS];
@@ -51,6 +54,9 @@ fn main() {
         &mut raise,
         &mut lower,
         &mut defaults,
+        &mut frequencies,
+        &mut readings,
+        &mut deviations,
         &mut names,
         &mut lives,
         &mut highs,

@@ -32,7 +32,20 @@ same-length-5 c = search needs
 
 returns-2 : tie.Need-returns-2
 returns-2 c =
-    record { at-its-turn = TurnPromise.as-frequency (omega arith) (omega arith) (record { promise = c .before .before .before .before .before .before .frequency .ensures; readings = refl; deviations = refl; numbers = refl; places = refl; raise = refl; lower = refl; defaults = refl }) }
+    record {
+      at-its-turn =
+          TurnPromise.as-frequency (omega arith) (omega arith)
+          record {
+            promise = c .before .before .before .before .before .before .frequency .ensures;
+            readings = refl;
+            deviations = refl;
+            numbers = refl;
+            places = refl;
+            raise = refl;
+            lower = refl;
+            defaults = refl;
+          };
+    }
 
 unit-requires : tie.Need-unit-requires
 unit-requires c κs = search needs
@@ -69,7 +82,16 @@ same-length-15 c = search needs
 
 returns-3 : tie.Need-returns-3
 returns-3 c =
-    record { at-its-turn = TurnPromise.as-unit (omega arith) (omega arith) (record { promise = c .before .before .before .before .before .before .before .before .before .before .before .unit .ensures; frequencies = refl; measures = refl; figures = refl }) }
+    record {
+      at-its-turn =
+          TurnPromise.as-unit (omega arith) (omega arith)
+          record {
+            promise = c .before .before .before .before .before .before .before .before .before .before .before .unit .ensures;
+            frequencies = refl;
+            measures = refl;
+            figures = refl;
+          };
+    }
 
 requirement-requires : tie.Need-requirement-requires
 requirement-requires c κs = search needs

@@ -79,8 +79,10 @@ returns c =
     let i = g .before .before in
     let j = i .before .before in
     let k = j .before .before in
-    let tail = put-onto (e .put-natural5 .ensures) (put-onto (g .put-natural4 .ensures)
-    (put-onto (i .put-natural3 .ensures) (put-onto (j .put-natural2 .ensures) (put-onto (k .put-natural .ensures) (k .before .before .before .before .put-end .ensures .0))))) in
+    let last = k .before .before .before .before .put-end .ensures .0 in
+    let tail =
+    put-onto (e .put-natural5 .ensures) (put-onto (g .put-natural4 .ensures)
+    (put-onto (i .put-natural3 .ensures) (put-onto (j .put-natural2 .ensures) (put-onto (k .put-natural .ensures) last)))) in
     let w =
     put-onto (c .put .ensures)
     (put-onto (n .put-natural7 .ensures) (put-onto (d .put-direction .ensures) (put-onto (f .put-natural6 .ensures) tail))) in

@@ -34,7 +34,9 @@ unfolding text words
 returns c =
     let n = c .before .before .before in
     let a = n .before .before in
-    let w = put-onto (c .put .ensures) (put-onto (n .put-natural .ensures) (amounts-onto _ _ (a .put-amounts .ensures) (a .before .before .put-end .ensures .0))) in
+    let w =
+    put-onto (c .put .ensures) (put-onto (n .put-natural .ensures)
+    (amounts-onto _ _ (a .put-amounts .ensures) (a .before .before .put-end .ensures .0))) in
     (w, line-starts w)
 
 pub unit-line-spec : {M : Type 1} → statement M

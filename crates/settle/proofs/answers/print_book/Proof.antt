@@ -6,10 +6,14 @@ use Rattle.settle.proofs.answers.print_book.Statement.{statement}
 use Rattle.settle.proofs.answers.print_book.Tie as tie
 
 abbrev Inv-loop : tie.InvT-loop
-Inv-loop tally bytes measures positive negative figures numbers places raise lower defaults performances₀ factors₀ payments₀ used₀ unused₀ text₀ left₀ start₀ performances factors payments used unused text left start = start + 24 * left ≤ 768
+Inv-loop tally bytes measures positive negative figures numbers places raise lower defaults performances₀ factors₀ payments₀ used₀ unused₀ text₀ left₀
+    start₀ performances factors payments used unused text left start =
+    start + 24 * left ≤ 768
 
 abbrev μ-loop : tie.MeasureT-loop
-μ-loop tally bytes measures positive negative figures numbers places raise lower defaults performances₀ factors₀ payments₀ used₀ unused₀ text₀ left₀ start₀ performances factors payments used unused text left start = left
+μ-loop tally bytes measures positive negative figures numbers places raise lower defaults performances₀ factors₀ payments₀ used₀ unused₀ text₀ left₀ start₀
+    performances factors payments used unused text left start =
+    left
 
 -- a turn's end, its call for the answer, its start
 abbrev answered-in : tie.After-print-members Inv-loop μ-loop → tie.After-answer Inv-loop μ-loop

@@ -8,10 +8,14 @@ use Rattle.settle.proofs.records.take_units.Statement.{statement}
 use Rattle.settle.proofs.records.take_units.Tie as tie
 
 abbrev Inv-loop : tie.InvT-loop
-Inv-loop bytes₀ measures₀ positive₀ negative₀ figures₀ numbers₀ places₀ raise₀ lower₀ defaults₀ frequencies₀ readings₀ deviations₀ tally₀ left₀ bytes measures positive negative figures numbers places raise lower defaults frequencies readings deviations tally left = length bytes ≡ length bytes₀
+Inv-loop bytes₀ measures₀ positive₀ negative₀ figures₀ numbers₀ places₀ raise₀ lower₀ defaults₀ frequencies₀ readings₀ deviations₀ tally₀ left₀ bytes
+    measures positive negative figures numbers places raise lower defaults frequencies readings deviations tally left =
+    length bytes ≡ length bytes₀
 
 abbrev μ-loop : tie.MeasureT-loop
-μ-loop bytes₀ measures₀ positive₀ negative₀ figures₀ numbers₀ places₀ raise₀ lower₀ defaults₀ frequencies₀ readings₀ deviations₀ tally₀ left₀ bytes measures positive negative figures numbers places raise lower defaults frequencies readings deviations tally left = left
+μ-loop bytes₀ measures₀ positive₀ negative₀ figures₀ numbers₀ places₀ raise₀ lower₀ defaults₀ frequencies₀ readings₀ deviations₀ tally₀ left₀ bytes measures
+    positive negative figures numbers places raise lower defaults frequencies readings deviations tally left =
+    left
 
 -- the call's start, behind which the bytes are as the reading left them
 abbrev asked-in : tie.After-take Inv-loop μ-loop → tie.After-slice-known3 Inv-loop μ-loop
