@@ -1,5 +1,5 @@
 -- A region past the last reads nothing; else each list is tested from the region's start on.
-use mathlib.Core.Path.{_≡_, sym, _∙_}
+use mathlib.Core.Path.{sym, _∙_}
 use borrow.Author.Needs.{needs}
 use borrow.Author.Tests.{le-ltb, lt-ltb, not-true, not-false}
 use Rattle.units.proofs.lent.series_in_range.Statement.{statement}

@@ -35,7 +35,8 @@ lengths : (c : tie.Else2) → let a = start (first c) .args in RegionsLong (leng
 lengths c = let a = start (first c) .args in regions-are-long (length (a .measures .now)) (length (a .sums .now)) (length (a .figures .now)) (long c)
 
 -- with the regions' lists long, the units' settle whether all are
-all-told : (c : tie.After-units-long) → let s = start (first (c .before .before)) in unit-long (units-taken (s .args .tally) + 1) (lent s) ≡ c .units-long .result
+all-told : (c : tie.After-units-long) → let s = start (first (c .before .before)) in unit-long (units-taken (s .args .tally) + 1) (lent s) ≡
+    c .units-long .result
 all-told c =
     let n = c .before in
     let a = start (first (n .before)) .args in
