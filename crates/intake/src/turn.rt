@@ -3,7 +3,8 @@
 ghost use mathlib.Core.Path.{_≡_};
 ghost use Prim.Native.Nat.{_≤_};
 ghost use Rattle.chain.specs.BookRecords.{record-size};
-ghost use Rattle.intake.specs.Turns.{TakePromise};
+ghost use Rattle.interval.specs.Lent.{lent-unit};
+ghost use Rattle.intake.specs.Turns.{TurnPromise};
 use book::FREQUENCY;
 use book::REQUIREMENT;
 use book::SETTINGS;
@@ -38,55 +39,26 @@ pub fn take(
     tally: Tally,
     part: &[u8],
     measures: &mut [i32],
-    positive: &mut [i64],
-    negative: &mut [i64],
+    sums: &mut [i64],
     figures: &mut [i64],
     numbers: &mut [u16],
-    places: &mut [u8],
-    raise: &mut [i64],
-    lower: &mut [i64],
-    defaults: &mut [i64],
-    frequencies: &mut [u32],
-    readings: &mut [i32],
-    deviations: &mut [i64],
+    homes: &mut [u8],
+    rows: &mut [i64],
 ) -> Step
     ensures { λ r. ⌜
-        TakePromise tally (now (part .entry)) (now (measures .entry)) (now (positive .entry)) (now (negative .entry)) (now (figures .entry))
-        (now (numbers .entry)) (now (places .entry)) (now (raise .entry)) (now (lower .entry)) (now (defaults .entry)) (now (frequencies .entry))
-        (now (readings .entry)) (now (deviations .entry)) r (now (measures .exit)) (now (positive .exit)) (now (negative .exit))
-        (now (figures .exit)) (now (numbers .exit)) (now (places .exit)) (now (raise .exit)) (now (lower .exit)) (now (defaults .exit))
-        (now (frequencies .exit)) (now (readings .exit)) (now (deviations .exit))
+        TurnPromise tally (now (part .entry))
+        (lent-unit (now (measures .entry)) (now (sums .entry)) (now (figures .entry)) (now (numbers .entry)) (now (homes .entry)) (now (rows .entry))) r
+        (lent-unit (now (measures .exit)) (now (sums .exit)) (now (figures .exit)) (now (numbers .exit)) (now (homes .exit)) (now (rows .exit)))
         ⌝ }
 {
     if tally.records < 1 {
         return settings(tally, part);
     }
     if tally.records < BEFORE_UNITS {
-        return frequency(
-            tally,
-            part,
-            frequencies,
-            measures,
-            positive,
-            negative,
-            figures,
-        );
+        return frequency(tally, part, measures, sums, figures);
     }
     if tally.records - BEFORE_UNITS < tally.units {
-        return unit(
-            tally,
-            part,
-            readings,
-            deviations,
-            measures,
-            positive,
-            negative,
-            numbers,
-            places,
-            raise,
-            lower,
-            defaults,
-        );
+        return unit(tally, part, measures, sums, figures, numbers, homes, rows);
     }
     requirement(tally, part)
 }

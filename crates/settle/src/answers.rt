@@ -11,10 +11,10 @@ use answer::Row;
 use answer::call::answer;
 use answer::roster::member;
 use book::REQUIREMENT;
-use book::SET;
-use interval::DEFAULTS_LENGTH;
 use interval::FIGURES_LENGTH;
+use interval::ROWS_LENGTH;
 use interval::SERIES_LENGTH;
+use interval::SUMS_LENGTH;
 use interval::Tally;
 use listing::Amounts;
 use listing::LINE;
@@ -49,12 +49,12 @@ fn amounts(
 
 // The units that are members, in their order.
 fn print_units(
-    units: u16,
+    tally: Tally,
     direction: Direction,
     set: u8,
     figures: &[i64; FIGURES_LENGTH],
     numbers: &[u16; UNITS],
-    places: &[u8; UNITS],
+    homes: &[u8; UNITS],
     performances: &[i64; MEMBERS],
     factors: &[i64; MEMBERS],
     payments: &[i64; MEMBERS],
@@ -64,8 +64,8 @@ fn print_units(
 ) -> Printed {
     let mut place: usize = 0;
     let mut row: u16 = 0;
-    while row < units {
-        let who = member(row, units, direction, set, figures, numbers, places);
+    while row < tally.units {
+        let who = member(tally, row, direction, set, figures, numbers, homes);
         match who {
             Row::Unit(number, standing) => {
                 if MEMBERS <= place {
@@ -119,11 +119,10 @@ fn broken_off(answered: Answered, text: &mut [u8; LINE]) -> bool {
 // A requirement's line, its units' lines and its residual's.
 fn print_members(
     answered: Answered,
-    units: u16,
-    set: u8,
+    tally: Tally,
     figures: &[i64; FIGURES_LENGTH],
     numbers: &[u16; UNITS],
-    places: &[u8; UNITS],
+    homes: &[u8; UNITS],
     performances: &[i64; MEMBERS],
     factors: &[i64; MEMBERS],
     payments: &[i64; MEMBERS],
@@ -139,12 +138,12 @@ fn print_members(
     }
     let direction = given.direction;
     let printed = print_units(
-        units,
+        tally,
         direction,
-        set,
+        given.set,
         figures,
         numbers,
-        places,
+        homes,
         performances,
         factors,
         payments,
@@ -167,14 +166,11 @@ pub(crate) fn print_book(
     tally: Tally,
     bytes: &[u8],
     measures: &[i32; SERIES_LENGTH],
-    positive: &[i64; SERIES_LENGTH],
-    negative: &[i64; SERIES_LENGTH],
+    sums: &[i64; SUMS_LENGTH],
     figures: &[i64; FIGURES_LENGTH],
     numbers: &[u16; UNITS],
-    places: &[u8; UNITS],
-    raise: &[i64; UNITS],
-    lower: &[i64; UNITS],
-    defaults: &[i64; DEFAULTS_LENGTH],
+    homes: &[u8; UNITS],
+    rows: &[i64; ROWS_LENGTH],
     performances: &mut [i64; MEMBERS],
     factors: &mut [i64; MEMBERS],
     payments: &mut [i64; MEMBERS],
@@ -196,27 +192,22 @@ pub(crate) fn print_book(
             tally,
             part,
             measures,
-            positive,
-            negative,
+            sums,
             figures,
-            places,
-            raise,
-            lower,
-            defaults,
+            homes,
+            rows,
             performances,
             factors,
             payments,
             used,
             unused,
         );
-        let set = little::u8_at(part, SET);
         if !print_members(
             answered,
-            tally.units,
-            set,
+            tally,
             figures,
             numbers,
-            places,
+            homes,
             performances,
             factors,
             payments,

@@ -4,15 +4,15 @@ ghost use lib.ListN.{length};
 use super::MEMBERS;
 use super::UNITS;
 use book::CONTENTS;
-use book::POINTS;
 use book::REQUIREMENT;
 use intake::input::fill;
 use intake::turn::size;
 use intake::turn::take;
-use interval::DEFAULTS_LENGTH;
 use interval::FIGURES_LENGTH;
 use interval::Opened;
+use interval::ROWS_LENGTH;
 use interval::SERIES_LENGTH;
+use interval::SUMS_LENGTH;
 use interval::Taking;
 use interval::Tally;
 use interval::requirement::requirement;
@@ -49,17 +49,11 @@ fn open(bytes: &mut [u8]) -> Next
 pub(crate) fn take_units(
     bytes: &mut [u8],
     measures: &mut [i32; SERIES_LENGTH],
-    positive: &mut [i64; SERIES_LENGTH],
-    negative: &mut [i64; SERIES_LENGTH],
+    sums: &mut [i64; SUMS_LENGTH],
     figures: &mut [i64; FIGURES_LENGTH],
     numbers: &mut [u16; UNITS],
-    places: &mut [u8; UNITS],
-    raise: &mut [i64; UNITS],
-    lower: &mut [i64; UNITS],
-    defaults: &mut [i64; DEFAULTS_LENGTH],
-    frequencies: &mut [u32; POINTS],
-    readings: &mut [i32; POINTS],
-    deviations: &mut [i64; MEMBERS],
+    homes: &mut [u8; UNITS],
+    rows: &mut [i64; ROWS_LENGTH],
 ) -> Next
     requires { ⌜ 769 ≤ length (now bytes) ⌝ }
 {
@@ -80,17 +74,11 @@ pub(crate) fn take_units(
             tally,
             &bytes[0..count],
             measures,
-            positive,
-            negative,
+            sums,
             figures,
             numbers,
-            places,
-            raise,
-            lower,
-            defaults,
-            frequencies,
-            readings,
-            deviations,
+            homes,
+            rows,
         );
         let taking = step.taking;
         if let Taking::Refused(refusal) = taking {

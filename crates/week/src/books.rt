@@ -4,14 +4,14 @@ ghost use Prim.Native.Nat.{_≤_};
 ghost use lib.ListN.{length};
 use super::performances::ROWS;
 use book::CONTENTS;
-use book::POINTS;
 use intake::input::fill;
 use intake::turn::size;
 use intake::turn::take;
-use interval::DEFAULTS_LENGTH;
 use interval::FIGURES_LENGTH;
 use interval::Opened;
+use interval::ROWS_LENGTH;
 use interval::SERIES_LENGTH;
+use interval::SUMS_LENGTH;
 use interval::Taking;
 use interval::Tally;
 use interval::turns::BEFORE_UNITS;
@@ -48,17 +48,11 @@ fn open(bytes: &mut [u8]) -> Next
 pub(crate) fn take_book(
     bytes: &mut [u8],
     measures: &mut [i32; SERIES_LENGTH],
-    positive: &mut [i64; SERIES_LENGTH],
-    negative: &mut [i64; SERIES_LENGTH],
+    sums: &mut [i64; SUMS_LENGTH],
     figures: &mut [i64; FIGURES_LENGTH],
     numbers: &mut [u16; ROWS],
-    places: &mut [u8; ROWS],
-    raise: &mut [i64; ROWS],
-    lower: &mut [i64; ROWS],
-    defaults: &mut [i64; DEFAULTS_LENGTH],
-    frequencies: &mut [u32; POINTS],
-    readings: &mut [i32; POINTS],
-    deviations: &mut [i64; POINTS],
+    homes: &mut [u8; ROWS],
+    rows: &mut [i64; ROWS_LENGTH],
 ) -> Next
     requires { ⌜ 372 ≤ length (now bytes) ⌝ }
 {
@@ -79,17 +73,11 @@ pub(crate) fn take_book(
             tally,
             &bytes[0..count],
             measures,
-            positive,
-            negative,
+            sums,
             figures,
             numbers,
-            places,
-            raise,
-            lower,
-            defaults,
-            frequencies,
-            readings,
-            deviations,
+            homes,
+            rows,
         );
         let taking = step.taking;
         if let Taking::Refused(refusal) = taking {

@@ -11,9 +11,10 @@ use answer::call::answer;
 use answer::roster::member;
 use book::REQUIREMENT;
 use book::SET;
-use interval::DEFAULTS_LENGTH;
 use interval::FIGURES_LENGTH;
+use interval::ROWS_LENGTH;
 use interval::SERIES_LENGTH;
+use interval::SUMS_LENGTH;
 use interval::Tally;
 use rules::Direction;
 use rules::MOST_UNITS;
@@ -82,12 +83,13 @@ pub(crate) fn within_rows(units: u16) -> u16
 
 // The rows of a region.
 fn note_rows(
+    tally: Tally,
     units: u16,
     offset: usize,
     set: u8,
     figures: &[i64; FIGURES_LENGTH],
     numbers: &[u16; ROWS],
-    places: &[u8; ROWS],
+    homes: &[u8; ROWS],
     column: &[i64; COLUMN],
     done: &mut [i64; WEEKS],
     live: &mut [u8; WEEKS],
@@ -99,7 +101,7 @@ fn note_rows(
     let mut place: usize = 0;
     let mut row: u16 = 0;
     while row < units {
-        let who = member(row, units, direction, set, figures, numbers, places);
+        let who = member(tally, row, direction, set, figures, numbers, homes);
         match who {
             Row::Unit(_, standing) => {
                 let at = 2 * (row as usize) + offset;
@@ -128,14 +130,11 @@ fn note_region(
     tally: Tally,
     each: usize,
     measures: &[i32; SERIES_LENGTH],
-    positive: &[i64; SERIES_LENGTH],
-    negative: &[i64; SERIES_LENGTH],
+    sums: &[i64; SUMS_LENGTH],
     figures: &[i64; FIGURES_LENGTH],
     numbers: &[u16; ROWS],
-    places: &[u8; ROWS],
-    raise: &[i64; ROWS],
-    lower: &[i64; ROWS],
-    defaults: &[i64; DEFAULTS_LENGTH],
+    homes: &[u8; ROWS],
+    rows: &[i64; ROWS_LENGTH],
     done: &mut [i64; WEEKS],
     live: &mut [u8; WEEKS],
 ) -> Kept
@@ -155,13 +154,10 @@ fn note_region(
         tally,
         &part,
         measures,
-        positive,
-        negative,
+        sums,
         figures,
-        places,
-        raise,
-        lower,
-        defaults,
+        homes,
+        rows,
         &mut column,
         &mut factors,
         &mut payments,
@@ -172,12 +168,13 @@ fn note_region(
     match answered {
         Answered::Given(given) => {
             let noted = note_rows(
+                tally,
                 units,
                 offset,
                 set,
                 figures,
                 numbers,
-                places,
+                homes,
                 &column,
                 done,
                 live,
@@ -196,14 +193,11 @@ fn note_region(
 pub(crate) fn note_book(
     tally: Tally,
     measures: &[i32; SERIES_LENGTH],
-    positive: &[i64; SERIES_LENGTH],
-    negative: &[i64; SERIES_LENGTH],
+    sums: &[i64; SUMS_LENGTH],
     figures: &[i64; FIGURES_LENGTH],
     numbers: &[u16; ROWS],
-    places: &[u8; ROWS],
-    raise: &[i64; ROWS],
-    lower: &[i64; ROWS],
-    defaults: &[i64; DEFAULTS_LENGTH],
+    homes: &[u8; ROWS],
+    rows: &[i64; ROWS_LENGTH],
     done: &mut [i64; WEEKS],
     live: &mut [u8; WEEKS],
 ) -> Kept {
@@ -213,14 +207,11 @@ pub(crate) fn note_book(
             tally,
             each,
             measures,
-            positive,
-            negative,
+            sums,
             figures,
             numbers,
-            places,
-            raise,
-            lower,
-            defaults,
+            homes,
+            rows,
             done,
             live,
         );

@@ -15,12 +15,12 @@ use super::running::join;
 use rules::Refusal;
 ghost use Prim.Native.Nat.{_+_, _*_, _<_, _≤_};
 ghost use lib.ListN.{length};
-use book::POINTS;
 use book::UNIT;
 use intake::input::fill;
-use interval::DEFAULTS_LENGTH;
 use interval::FIGURES_LENGTH;
+use interval::ROWS_LENGTH;
 use interval::SERIES_LENGTH;
+use interval::SUMS_LENGTH;
 
 const MOST_BOOKS: u16 = 2016;
 
@@ -219,17 +219,11 @@ fn replay_book(
     members: usize,
     bytes: &mut [u8; UNIT],
     measures: &mut [i32; SERIES_LENGTH],
-    positive: &mut [i64; SERIES_LENGTH],
-    negative: &mut [i64; SERIES_LENGTH],
+    sums: &mut [i64; SUMS_LENGTH],
     figures: &mut [i64; FIGURES_LENGTH],
     numbers: &mut [u16; ROWS],
-    places: &mut [u8; ROWS],
-    raise: &mut [i64; ROWS],
-    lower: &mut [i64; ROWS],
-    defaults: &mut [i64; DEFAULTS_LENGTH],
-    frequencies: &mut [u32; POINTS],
-    readings: &mut [i32; POINTS],
-    deviations: &mut [i64; POINTS],
+    homes: &mut [u8; ROWS],
+    rows: &mut [i64; ROWS_LENGTH],
     names: &mut [u16; MEMBERS],
     lives: &mut [u16; WEEKS],
     highs: &mut [u16; WEEKS],
@@ -239,21 +233,7 @@ fn replay_book(
     ensures { λ r. ⌜ r .members ≤ 512 ⌝ }
 {
     let place = books + 1;
-    let next = take_book(
-        bytes,
-        measures,
-        positive,
-        negative,
-        figures,
-        numbers,
-        places,
-        raise,
-        lower,
-        defaults,
-        frequencies,
-        readings,
-        deviations,
-    );
+    let next = take_book(bytes, measures, sums, figures, numbers, homes, rows);
     let Next::Taken(tally) = next else {
         return stopped(end_of(next, books, members, place));
     };
@@ -267,14 +247,11 @@ fn replay_book(
     let noted = note_book(
         tally,
         measures,
-        positive,
-        negative,
+        sums,
         figures,
         numbers,
-        places,
-        raise,
-        lower,
-        defaults,
+        homes,
+        rows,
         &mut done,
         &mut live,
     );
@@ -305,17 +282,11 @@ fn replay_book(
 pub(crate) fn replay(
     bytes: &mut [u8; UNIT],
     measures: &mut [i32; SERIES_LENGTH],
-    positive: &mut [i64; SERIES_LENGTH],
-    negative: &mut [i64; SERIES_LENGTH],
+    sums: &mut [i64; SUMS_LENGTH],
     figures: &mut [i64; FIGURES_LENGTH],
     numbers: &mut [u16; ROWS],
-    places: &mut [u8; ROWS],
-    raise: &mut [i64; ROWS],
-    lower: &mut [i64; ROWS],
-    defaults: &mut [i64; DEFAULTS_LENGTH],
-    frequencies: &mut [u32; POINTS],
-    readings: &mut [i32; POINTS],
-    deviations: &mut [i64; POINTS],
+    homes: &mut [u8; ROWS],
+    rows: &mut [i64; ROWS_LENGTH],
     names: &mut [u16; MEMBERS],
     lives: &mut [u16; WEEKS],
     highs: &mut [u16; WEEKS],
@@ -329,17 +300,11 @@ pub(crate) fn replay(
             members,
             bytes,
             measures,
-            positive,
-            negative,
+            sums,
             figures,
             numbers,
-            places,
-            raise,
-            lower,
-            defaults,
-            frequencies,
-            readings,
-            deviations,
+            homes,
+            rows,
             names,
             lives,
             highs,

@@ -1,7 +1,9 @@
--- Each branch is the turn of its call; the lists that the call is not lent are as they came.
+-- Each branch is the turn of its call; the lists that a frequency record's call is not lent are as they came.
 use mathlib.Core.Path.{refl}
+use mathlib.Core.List.{[]}
 use native.Mathlib.Omega.{arith}
 use borrow.Author.Needs.{needs}
+use Rattle.interval.specs.Lent.{lent-unit}
 use Rattle.intake.specs.Turns.{TurnPromise}
 use Rattle.intake.proofs.turn.take.Statement.{statement}
 use Rattle.intake.proofs.turn.take.Tie as tie
@@ -10,7 +12,7 @@ settings-requires : tie.Need-settings-requires
 settings-requires c κs = search needs
 
 returns : tie.Need-returns
-returns c = record { at-its-turn = TurnPromise.as-settings (omega arith) (c .settings .ensures) refl }
+returns c = TurnPromise.as-settings (omega arith) (c .settings .ensures) refl
 
 frequency-requires : tie.Need-frequency-requires
 frequency-requires c κs = search needs
@@ -24,31 +26,20 @@ same-length-2 c = search needs
 same-length-3 : tie.Need-same-length-3
 same-length-3 c = search needs
 
+returns-2 : tie.Need-returns-2
+returns-2 c =
+    let f = c .before .before .before in
+    let a = f .before .before .before .before .before .before .before .before .before .before .before .args in
+    TurnPromise.as-frequency (omega arith) (omega arith) (f .frequency .ensures (lent-unit [] [] [] (a .numbers .now) (a .homes .now) (a .rows .now)))
+
+unit-requires : tie.Need-unit-requires
+unit-requires c κs = search needs
+
 same-length-4 : tie.Need-same-length-4
 same-length-4 c = search needs
 
 same-length-5 : tie.Need-same-length-5
 same-length-5 c = search needs
-
-returns-2 : tie.Need-returns-2
-returns-2 c =
-    record {
-      at-its-turn =
-          TurnPromise.as-frequency (omega arith) (omega arith)
-          record {
-            promise = c .before .before .before .before .before .before .frequency .ensures;
-            readings = refl;
-            deviations = refl;
-            numbers = refl;
-            places = refl;
-            raise = refl;
-            lower = refl;
-            defaults = refl;
-          };
-    }
-
-unit-requires : tie.Need-unit-requires
-unit-requires c κs = search needs
 
 same-length-6 : tie.Need-same-length-6
 same-length-6 c = search needs
@@ -62,42 +53,14 @@ same-length-8 c = search needs
 same-length-9 : tie.Need-same-length-9
 same-length-9 c = search needs
 
-same-length-10 : tie.Need-same-length-10
-same-length-10 c = search needs
-
-same-length-11 : tie.Need-same-length-11
-same-length-11 c = search needs
-
-same-length-12 : tie.Need-same-length-12
-same-length-12 c = search needs
-
-same-length-13 : tie.Need-same-length-13
-same-length-13 c = search needs
-
-same-length-14 : tie.Need-same-length-14
-same-length-14 c = search needs
-
-same-length-15 : tie.Need-same-length-15
-same-length-15 c = search needs
-
 returns-3 : tie.Need-returns-3
-returns-3 c =
-    record {
-      at-its-turn =
-          TurnPromise.as-unit (omega arith) (omega arith)
-          record {
-            promise = c .before .before .before .before .before .before .before .before .before .before .before .unit .ensures;
-            frequencies = refl;
-            measures = refl;
-            figures = refl;
-          };
-    }
+returns-3 c = TurnPromise.as-unit (omega arith) (omega arith) (c .before .before .before .before .before .before .unit .ensures)
 
 requirement-requires : tie.Need-requirement-requires
 requirement-requires c κs = search needs
 
 returns-4 : tie.Need-returns-4
-returns-4 c = record { at-its-turn = TurnPromise.as-requirement (omega arith) (c .requirement .ensures) refl }
+returns-4 c = TurnPromise.as-requirement (omega arith) (c .requirement .ensures) refl
 
 pub take-spec : {M : Type 1} → statement M
 take-spec =
@@ -109,20 +72,14 @@ take-spec =
     same-length
     same-length-2
     same-length-3
-    same-length-4
-    same-length-5
     returns-2
     unit-requires
+    same-length-4
+    same-length-5
     same-length-6
     same-length-7
     same-length-8
     same-length-9
-    same-length-10
-    same-length-11
-    same-length-12
-    same-length-13
-    same-length-14
-    same-length-15
     returns-3
     requirement-requires
     returns-4)
