@@ -96,7 +96,8 @@ module _ (t : Tally) (part : List ℕ) (l : Lent) (old : Columns) (rest : Lent) 
   told : {y : Reply Requirement} → tested-requirement t part l (columns-long (t .units) old) ≡ y → answer-reply t part (with-rest rest l) old ≡ y
   told e = tested-reply t part rest l old ∙ e
 
-  pub refuses : (x : Refusal) → tested-requirement t part l (columns-long (t .units) old) ≡ refused x → AnswerPromise t part (with-rest rest l) old (Refused x) old
+  pub refuses :
+      (x : Refusal) → tested-requirement t part l (columns-long (t .units) old) ≡ refused x → AnswerPromise t part (with-rest rest l) old (Refused x) old
   refuses x e = record { reply = rw (told e); written = rw (told e) }
 
   pub gives :

@@ -358,7 +358,8 @@ module _ (t : Tally) (f : RequirementFields) (l : Lent) where
             (ap₂ (λ (z : ℕ) (ws : List ℕ). unplaced-of z ws) rest (sides t l q Unused loss))));
         written =
             columns-same
-            (settles old₁ (a .column) (b .column) (c .performances) ∙ ap (λ (xs : List ℤ). headed xs old₁) (performances-are t l q the-pool the-used the-unused))
+            (settles old₁ (a .column) (b .column) (c .performances)
+            ∙ ap (λ (xs : List ℤ). headed xs old₁) (performances-are t l q the-pool the-used the-unused))
             (c .factors ∙ factors-are t l q the-pool the-used the-unused old₂)
             (c .payments ∙ ap (λ (z : ℕ). filled (length (listed t l q Payment)) (signs-at z (listed t l q Payment)) old₃) pooled
             ∙ payments-are t l q the-pool the-used the-unused old₃)

@@ -34,11 +34,11 @@ pub(crate) fn charge_cost(
     used: &mut [i64],
     unused: &mut [i64],
 ) -> Charges
-    requires { ⌜ CostTested fields units (lent-members (now figures) (now homes) (now rows)) residual (length (now values)) (length (now used))
-        (length (now unused)) ⌝ }
+    requires { ⌜ CostTested fields units (lent-members (now figures) (now homes) (now rows)) residual
+        (length (now values)) (length (now used)) (length (now unused)) ⌝ }
     ensures { λ r. ⌜ CostCharged fields reliable units
-        (lent-members (now (figures .entry)) (now (homes .entry)) (now (rows .entry))) (now (values .entry)) (now (used .entry)) (now (unused .entry)) r (now (values .exit)) (now (used .exit)) (now (unused .exit))
-        ⌝ }
+        (lent-members (now (figures .entry)) (now (homes .entry)) (now (rows .entry)))
+        (now (values .entry)) (now (used .entry)) (now (unused .entry)) r (now (values .exit)) (now (used .exit)) (now (unused .exit)) ⌝ }
 {
     let direction = fields.direction;
     let set = fields.set;

@@ -52,7 +52,8 @@ pub(crate) fn charge_members(
     requires { ⌜ (pool ≤ 1_000_000_000_000) × (units < length (now amounts))
         × MembersThere units direction set (lent-members (now figures) (now homes) (now rows)) residual (length (now values)) ⌝ }
     ensures { λ r. ⌜ MembersCharged field pool units direction set
-        (lent-members (now (figures .entry)) (now (homes .entry)) (now (rows .entry))) (now (values .entry)) (now (amounts .entry)) r (now (values .exit)) (now (amounts .exit)) ⌝ }
+        (lent-members (now (figures .entry)) (now (homes .entry)) (now (rows .entry)))
+        (now (values .entry)) (now (amounts .entry)) r (now (values .exit)) (now (amounts .exit)) ⌝ }
 {
     let n = put_members(
         field,
@@ -114,8 +115,9 @@ pub(crate) fn pay(
     requires { ⌜ (price ≤ 10_000_000) × (rcr ≤ 7_680_000_000) × (units < length (now factors)) × (units < length (now payments))
         × MembersThere units direction set (lent-members (now figures) (now homes) (now rows)) residual (length (now performances)) ⌝ }
     ensures { λ r. ⌜ MembersPaid price rcr units direction set
-        (lent-members (now (figures .entry)) (now (homes .entry)) (now (rows .entry))) (now (performances .entry)) (now (factors .entry)) (now (payments .entry)) r (now (performances .exit)) (now (factors .exit))
-        (now (payments .exit)) ⌝ }
+        (lent-members (now (figures .entry)) (now (homes .entry)) (now (rows .entry)))
+        (now (performances .entry)) (now (factors .entry)) (now (payments .entry)) r
+        (now (performances .exit)) (now (factors .exit)) (now (payments .exit)) ⌝ }
 {
     let n = put_members(
         Field::Payment,

@@ -37,7 +37,8 @@ returns-3 c =
     let a = e .before .before .before .args in
     found-points (a .units) (a .percent) (a .direction) (a .set)
     (lent (a .measures .now) (a .sums .now) (a .figures .now) (a .homes .now) [])
-    (c .largest-response .ensures) (sym (e .before .all-reliable .ensures) ∙ not-false _ (e .if1 .left)) (sym (f .before .few-bad .ensures) ∙ not-false _ (f .if2 .left))
+    (c .largest-response .ensures) (sym (e .before .all-reliable .ensures) ∙ not-false _ (e .if1 .left))
+    (sym (f .before .few-bad .ensures) ∙ not-false _ (f .if2 .left))
 
 pub rcr-spec : {M : Type 1} → statement M
 rcr-spec =

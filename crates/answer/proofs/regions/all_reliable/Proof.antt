@@ -15,7 +15,8 @@ use Rattle.answer.proofs.regions.all_reliable.Statement.{statement}
 use Rattle.answer.proofs.regions.all_reliable.Tie as tie
 
 abbrev Inv-loop : tie.InvT-loop
-Inv-loop direction set figures region₀ region = (region ≤ 5) × (every region (λ r. not (bit r set) || reliable-of (lent-members figures [] []) direction r) ≡ true)
+Inv-loop direction set figures region₀ region =
+    (region ≤ 5) × (every region (λ r. not (bit r set) || reliable-of (lent-members figures [] []) direction r) ≡ true)
 
 abbrev μ-loop : tie.MeasureT-loop
 μ-loop direction set figures region₀ region = 5 - region

@@ -27,7 +27,9 @@ few c = let s = start c in few-held (s .pre .1) (omega (arith, s .pre .0 .few))
 abbrev met : tie.Else2 → tie.Else1
 met c = c .before .before .before
 
-joins : (c : tie.Else2) → let a = start (met c .before) .args in Fitting (a .held .sum) (in-row (lent-members [] (a .homes .now) (a .rows .now)) (a .row) (a .at))
+joins :
+    (c : tie.Else2) → let a = start (met c .before) .args in
+    Fitting (a .held .sum) (in-row (lent-members [] (a .homes .now) (a .rows .now)) (a .row) (a .at))
 joins c =
     let s = start (met c .before) in
     row-joins (s .pre .0) (s .pre .1) (eq-eqb _ _ (met c .if1 .left)) (sym (c .before .is-good .ensures) ∙ not-false _ (c .if2 .left))

@@ -13,7 +13,8 @@ charge-requires : tie.Need-charge-requires
 charge-requires c κs =
     let g = c .before .before .before in
     let s = g .before .before .before in
-    (front (s .pre .2) (g .put-members .ensures) .0, front-shareable (s .pre .2) (g .put-members .ensures) (s .args .pool) loss loss-≤ (s .pre .0) _ (s .pre .1))
+    let l = g .put-members .ensures in
+    (front (s .pre .2) l .0, front-shareable (s .pre .2) l (s .args .pool) loss loss-≤ (s .pre .0) _ (s .pre .1))
 
 same-length : tie.Need-same-length
 same-length c = search needs

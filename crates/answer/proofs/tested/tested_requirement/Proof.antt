@@ -1,10 +1,11 @@
 -- The tests in their order, each settled by the call that made it; past them the record's reader answers.
 use mathlib.Core.Path.{_≡_, sym, _∙_}
-use mathlib.Core.Bool.{true, _&&_}
+use mathlib.Core.Bool.{Bool, true, _&&_}
 use borrow.Author.Needs.{needs}
 use borrow.Author.Tests.{not-true, not-false}
 use Rattle.interval.specs.Tally.{in-range, answer-turn}
 use Rattle.interval.specs.Lent.{Lent, regions-long, rows-long}
+use Rattle.kept.specs.Range.{kept-fine}
 use Rattle.answer.specs.Asked.{lent}
 use Rattle.answer.specs.Tested.{tested-requirement}
 use Rattle.answer.proofs.TestedLaws.{lent-long}
@@ -24,6 +25,17 @@ long :
     (c : tie.Else2) →
     (regions-long (all (c .before .before)) && rows-long (start (c .before .before) .args .tally .units) (all (c .before .before))) ≡ true
 long c = sym (c .before .lists-long .ensures) ∙ not-false _ (c .if2 .left)
+
+abbrev past : tie.Else3 → tie.Else1
+past c = c .before .before .before
+
+long-all : (c : tie.Else3) → start (past c) .args .columns ≡ true
+long-all c = not-false (start (past c) .args .columns) (c .if3 .left)
+
+numbers :
+    (c : tie.After-lent-in-range) (t : Bool) → c .lent-in-range .result ≡ t →
+    kept-fine (start (past (c .before)) .args .tally) (all (past (c .before))) ≡ t
+numbers c t e = sym (c .lent-in-range .ensures) ∙ e
 
 answer-turn-requires : tie.Need-answer-turn-requires
 answer-turn-requires c κs = search needs
@@ -54,8 +66,7 @@ returns-4 : tie.Need-returns-4
 unfolding tested-requirement
 returns-4 c =
     let f = c .before .before in
-    let e = f .before in
-    rw (in-turn (e .before .before), long e, not-false (start (e .before .before) .args .columns) (f .if3 .left), sym (c .before .lent-in-range .ensures) ∙ not-true _ (c .if4 .taken))
+    rw (in-turn (past f), long (f .before), long-all f, numbers (c .before) _ (not-true _ (c .if4 .taken)))
 
 read-requirement-requires : tie.Need-read-requirement-requires
 read-requirement-requires c κs = search needs
@@ -65,8 +76,7 @@ unfolding tested-requirement
 returns-5 c =
     let d = c .before in
     let f = d .before .before in
-    let e = f .before in
-    rw (in-turn (e .before .before), long e, not-false (start (e .before .before) .args .columns) (f .if3 .left), sym (d .before .lent-in-range .ensures) ∙ not-false _ (d .if4 .left))
+    rw (in-turn (past f), long (f .before), long-all f, numbers (d .before) _ (not-false _ (d .if4 .left)))
     (c .read-requirement .ensures .reply)
 
 pub tested-requirement-spec : {M : Type 1} → statement M

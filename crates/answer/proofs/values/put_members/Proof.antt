@@ -46,7 +46,8 @@ returns c =
     let w = c .before .before in
     let s = start w in
     let a = s .args in
-    with-residual (a .field) (a .units) (a .direction) (a .set) (lent-members (a .figures .now) (a .homes .now) (a .rows .now)) (a .column .now) (w .put-rows .ensures)
+    with-residual (a .field) (a .units) (a .direction) (a .set) (lent-members (a .figures .now) (a .homes .now) (a .rows .now)) (a .column .now)
+    (w .put-rows .ensures)
     (toZ-ofZ (sfits-of (c .value .ok)) ∙ c .value .ensures ∙ ap (λ (x : Member). picked (a .field) x) (s .pre .last))
 
 pub put-members-spec : {M : Type 1} → statement M
