@@ -6,21 +6,21 @@ use Rattle.settle.proofs.answers.print_book.Statement.{statement}
 use Rattle.settle.proofs.answers.print_book.Tie as tie
 
 abbrev Inv-loop : tie.InvT-loop
-Inv-loop tally bytes measures positive negative figures numbers places raise lower defaults performances₀ factors₀ payments₀ used₀ unused₀ text₀ left₀
+Inv-loop tally bytes measures sums figures numbers homes rows performances₀ factors₀ payments₀ used₀ unused₀ text₀ left₀
     start₀ performances factors payments used unused text left start =
     start + 24 * left ≤ 768
 
 abbrev μ-loop : tie.MeasureT-loop
-μ-loop tally bytes measures positive negative figures numbers places raise lower defaults performances₀ factors₀ payments₀ used₀ unused₀ text₀ left₀ start₀
+μ-loop tally bytes measures sums figures numbers homes rows performances₀ factors₀ payments₀ used₀ unused₀ text₀ left₀ start₀
     performances factors payments used unused text left start =
     left
 
 -- a turn's end, its call for the answer, its start
 abbrev answered-in : tie.After-print-members Inv-loop μ-loop → tie.After-answer Inv-loop μ-loop
-answered-in c = c .before .before .before .before .before .before .before .before
+answered-in c = c .before .before .before .before .before .before .before
 
 abbrev turn-in : tie.After-answer Inv-loop μ-loop → tie.In-loop Inv-loop μ-loop
-turn-in c = c .before .before .before .before .before .before .before .before .before .before .before .before .before .before .before
+turn-in c = c .before .before .before .before .before .before .before .before .before .before .before .before
 
 interval-requires : tie.Need-interval-requires Inv-loop μ-loop
 interval-requires c κs = search needs
@@ -48,9 +48,6 @@ part-part-end c = omega arith
 
 answer-requires : tie.Need-answer-requires Inv-loop μ-loop
 answer-requires c κs = search needs
-
-u8-at-requires : tie.Need-u8-at-requires Inv-loop μ-loop
-u8-at-requires c κs = search needs
 
 print-members-requires : tie.Need-print-members-requires Inv-loop μ-loop
 print-members-requires c κs = search needs
@@ -85,7 +82,6 @@ print-book-spec =
     part-part-start
     part-part-end
     answer-requires
-    u8-at-requires
     print-members-requires
     returns-2
     sub-left

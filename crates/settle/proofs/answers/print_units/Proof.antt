@@ -6,10 +6,10 @@ use Rattle.settle.proofs.answers.print_units.Statement.{statement}
 use Rattle.settle.proofs.answers.print_units.Tie as tie
 
 abbrev Inv-loop : tie.InvT-loop
-Inv-loop units direction set figures numbers places performances factors payments used unused text₀ place₀ row₀ text place row = row ≤ units
+Inv-loop tally direction set figures numbers homes performances factors payments used unused text₀ place₀ row₀ text place row = row ≤ tally .units
 
 abbrev μ-loop : tie.MeasureT-loop
-μ-loop units direction set figures numbers places performances factors payments used unused text₀ place₀ row₀ text place row = units - row
+μ-loop tally direction set figures numbers homes performances factors payments used unused text₀ place₀ row₀ text place row = tally .units - row
 
 loop-holds : tie.Need-loop-holds Inv-loop μ-loop
 loop-holds c = omega arith

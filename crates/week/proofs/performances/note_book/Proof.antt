@@ -6,10 +6,10 @@ use Rattle.week.proofs.performances.note_book.Statement.{statement}
 use Rattle.week.proofs.performances.note_book.Tie as tie
 
 abbrev Inv-loop : tie.InvT-loop
-Inv-loop tally measures positive negative figures numbers places raise lower defaults done₀ live₀ each₀ done live each = each ≤ 10
+Inv-loop tally measures sums figures numbers homes rows done₀ live₀ each₀ done live each = each ≤ 10
 
 abbrev μ-loop : tie.MeasureT-loop
-μ-loop tally measures positive negative figures numbers places raise lower defaults done₀ live₀ each₀ done live each = 10 - each
+μ-loop tally measures sums figures numbers homes rows done₀ live₀ each₀ done live each = 10 - each
 
 loop-holds : tie.Need-loop-holds Inv-loop μ-loop
 loop-holds c = omega arith

@@ -6,7 +6,7 @@ use Rattle.week.proofs.performances.note_region.Statement.{statement}
 use Rattle.week.proofs.performances.note_region.Tie as tie
 
 abbrev start-of : tie.After-answer → tie.Start
-start-of c = c .before .before .before .before .before .before .before .before .before .before .before .before .before .before .before .before .before .before
+start-of c = c .before .before .before .before .before .before .before .before .before .before .before .before .before .before .before
 
 abbrev answered-in : tie.After-note-rows → tie.After-answer
 answered-in c = c .before .before .before .before .before .before .before .before .before .before .before .before .before
@@ -62,11 +62,11 @@ mul-done c = omega arith
 array-copy-out-done : tie.Need-array-copy-out-done
 array-copy-out-done c = omega arith
 
-add-t72 : tie.Need-add-t72
-add-t72 c = omega (arith, start-of (answered-in (c .before)) .pre)
+add-t63 : tie.Need-add-t63
+add-t63 c = omega (arith, start-of (answered-in (c .before)) .pre)
 
-mul-t73 : tie.Need-mul-t73
-mul-t73 c = omega (arith, start-of (answered-in (c .before)) .pre)
+mul-t64 : tie.Need-mul-t64
+mul-t64 c = omega (arith, start-of (answered-in (c .before)) .pre)
 
 element-set-from-done : tie.Need-element-set-from-done
 element-set-from-done c = omega (arith, start-of (answered-in (c .before)) .pre)
@@ -110,8 +110,8 @@ note-region-spec =
     note-rows-requires
     mul-done
     array-copy-out-done
-    add-t72
-    mul-t73
+    add-t63
+    mul-t64
     element-set-from-done
     live-byte-requires
     add-live

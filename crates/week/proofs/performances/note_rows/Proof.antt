@@ -7,10 +7,10 @@ use Rattle.week.proofs.performances.note_rows.Statement.{statement}
 use Rattle.week.proofs.performances.note_rows.Tie as tie
 
 abbrev Inv-loop : tie.InvT-loop
-Inv-loop units offset set figures numbers places column done₀ live₀ direction place₀ row₀ done live place row = (row ≤ units) × (place ≤ row)
+Inv-loop tally units offset set figures numbers homes column done₀ live₀ direction place₀ row₀ done live place row = (row ≤ units) × (place ≤ row)
 
 abbrev μ-loop : tie.MeasureT-loop
-μ-loop units offset set figures numbers places column done₀ live₀ direction place₀ row₀ done live place row = units - row
+μ-loop tally units offset set figures numbers homes column done₀ live₀ direction place₀ row₀ done live place row = units - row
 
 direction-of-requires : tie.Need-direction-of-requires Inv-loop μ-loop
 direction-of-requires c κs = search needs
@@ -39,8 +39,8 @@ mul-done c = omega arith
 element-copy-out-done : tie.Need-element-copy-out-done Inv-loop μ-loop
 element-copy-out-done c = omega arith
 
-mul-t25 : tie.Need-mul-t25 Inv-loop μ-loop
-mul-t25 c = omega arith
+mul-t26 : tie.Need-mul-t26 Inv-loop μ-loop
+mul-t26 c = omega arith
 
 element-set-from-done : tie.Need-element-set-from-done Inv-loop μ-loop
 element-set-from-done c = omega arith
@@ -90,7 +90,7 @@ note-rows-spec =
     add-at
     mul-done
     element-copy-out-done
-    mul-t25
+    mul-t26
     element-set-from-done
     live-byte-requires
     element-write-live
