@@ -13,7 +13,7 @@ use Rattle.integers.proofs.Sums.{every-at}
 use Rattle.rules.specs.declared.Direction.{Direction}
 use Rattle.rules.specs.declared.Direction.the-variants.{Raise, Lower}
 use Rattle.rules.specs.declared.Reason.the-variants.{BadUnit}
-use Rattle.rules.specs.declared.Refusal.the-variants.{OutOfTurn}
+use Rattle.rules.specs.declared.Refusal.the-variants.{WrongState}
 use Rattle.rules.specs.declared.Standing.{Standing}
 use Rattle.rules.specs.Quantities.{regions, amount-limit, residual-default-limit}
 use Rattle.rules.specs.Fields.{default-fine}
@@ -59,9 +59,9 @@ standing-of-row l Lower i = refl
 pub row-told-is :
     (l : Lent) (d : Direction) (set i : ℕ) →
     row-told d set (getD (l .numbers) i 0) (getD (l .homes) i 0) (l .figures) ≡
-    unless (home-fine d (getD (l .homes) i 0) (l .figures)) OutOfTurn (taken (row-says l d set i))
+    unless (home-fine d (getD (l .homes) i 0) (l .figures)) WrongState (taken (row-says l d set i))
 row-told-is l d set i =
-    ap (λ (s : Standing). unless (home-fine d (getD (l .homes) i 0) (l .figures)) OutOfTurn
+    ap (λ (s : Standing). unless (home-fine d (getD (l .homes) i 0) (l .figures)) WrongState
     (taken (cond (bit (region-of l i) set) (Unit (getD (l .numbers) i 0) s) Other))) (standing-of-row l d i)
 
 -- ---- the rows' walk: every unit of the requirement's regions in roster order, then the residual

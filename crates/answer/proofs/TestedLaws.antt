@@ -4,7 +4,7 @@ use mathlib.Core.Bool.{Bool, true, false, _&&_}
 use mathlib.Core.List.{List}
 use Prim.Native.Nat.{ℕ, _≤_}
 use Rattle.integers.specs.Sums.{both}
-use Rattle.rules.specs.declared.Refusal.the-variants.{OutOfTurn, TooShort}
+use Rattle.rules.specs.declared.Refusal.the-variants.{WrongState, TooShort}
 use Rattle.rules.specs.Quantities.{most-units}
 use Rattle.rules.specs.Refusals.{taken}
 use Rattle.rules.specs.Book.{Requirement}
@@ -39,9 +39,9 @@ pub tests-passed :
     Tested t l long × (requirement-record 0 false part ≡ taken q)
 unfolding tested-requirement
 tests-passed t part l long {q} h =
-    let turn = passed (in-range t && answer-turn t) OutOfTurn _ q h in
+    let turn = passed (in-range t && answer-turn t) WrongState _ q h in
     let lists = passed ((regions-long l && rows-long (t .units) l) && long) TooShort _ q (turn .1) in
-    let fine = passed (kept-fine t l) OutOfTurn _ q (lists .1) in
+    let fine = passed (kept-fine t l) WrongState _ q (lists .1) in
     let each = both (regions-long l && rows-long (t .units) l) long (lists .0) in
     (record { turn = turn .0; lists = lent-long t l (turn .0) (each .0); columns = each .1; fine = fine .0 }, fine .1)
 

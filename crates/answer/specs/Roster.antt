@@ -8,7 +8,7 @@ use lib.IntN.{ℤ}
 use lib.ListN.{length, getD}
 use Rattle.rules.specs.declared.Direction.{Direction}
 use Rattle.rules.specs.declared.Reason.the-variants.{BadUnit}
-use Rattle.rules.specs.declared.Refusal.the-variants.{OutOfTurn, TooShort}
+use Rattle.rules.specs.declared.Refusal.the-variants.{WrongState, TooShort}
 use Rattle.rules.specs.declared.Standing.{Standing}
 use Rattle.rules.specs.Quantities.{regions}
 use Rattle.rules.specs.Refusals.{Reply, taken, refused, unless}
@@ -44,16 +44,16 @@ row-says l d set i = cond (bit (region-of l i) set) (Unit (getD (l .numbers) i 0
 -- number out of range
 unfoldable pub member-reply : Tally → ℕ → Direction → ℕ → Lent → Reply Row
 member-reply t i d set l =
-    unless (in-range t && answer-turn t) OutOfTurn
-    (unless (set-fine set && ltb i (t .units)) OutOfTurn
+    unless (in-range t && answer-turn t) WrongState
+    (unless (set-fine set && ltb i (t .units)) WrongState
     (unless (member-long (t .units) l) TooShort
-    (unless (of-interval (t .interval) (l .figures) && home-fine d (getD (l .homes) i 0) (l .figures)) OutOfTurn
+    (unless (of-interval (t .interval) (l .figures) && home-fine d (getD (l .homes) i 0) (l .figures)) WrongState
     (taken (row-says l d set i)))))
 
 -- by the unit's number and home
 abbrev pub row-told : Direction → ℕ → ℕ → ℕ → List ℤ → Reply Row
 row-told d set number home figures =
-    unless (home-fine d home figures) OutOfTurn
+    unless (home-fine d home figures) WrongState
     (taken (cond (bit (home / 2) set) (Unit number (standing (reliable-of (lent-members figures [] []) d (home / 2)) (eqb (home % 2) 1) BadUnit)) Other))
 
 abbrev pub row-answer : Reply Row → Row

@@ -64,7 +64,7 @@ fn unit_or_other(direction: Direction, set: u8, number: u16, home: u8, figures: 
     ensures { λ r. ⌜ r ≡ row-answer (row-told direction set number home (now (figures .entry))) ⌝ }
 {
     if !home_in_range(direction, home, figures) {
-        return Row::Refused(Refusal::OutOfTurn);
+        return Row::Refused(Refusal::WrongState);
     }
     if !in_set(set, home) {
         return Row::Other;
@@ -87,16 +87,16 @@ pub fn member(
         MemberPromise tally row direction set (lent-member rest (now (figures .entry)) (now (numbers .entry)) (now (homes .entry))) r) ⌝ }
 {
     if !answer_turn(tally) {
-        return Row::Refused(Refusal::OutOfTurn);
+        return Row::Refused(Refusal::WrongState);
     }
     if !asked_in_range(tally.units, row, set) {
-        return Row::Refused(Refusal::OutOfTurn);
+        return Row::Refused(Refusal::WrongState);
     }
     if !roster_long(tally.units as usize, figures, numbers, homes) {
         return Row::Refused(Refusal::TooShort);
     }
     if !of_interval(tally.interval, figures) {
-        return Row::Refused(Refusal::OutOfTurn);
+        return Row::Refused(Refusal::WrongState);
     }
     let at = row as usize;
     unit_or_other(direction, set, numbers[at], homes[at], figures)

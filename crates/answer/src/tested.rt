@@ -25,7 +25,7 @@ pub(crate) fn tested_requirement(
         (lent (now (measures .entry)) (now (sums .entry)) (now (figures .entry)) (now (homes .entry)) (now (rows .entry))) columns) ⌝ }
 {
     if !answer_turn(tally) {
-        return RequirementRead::Refused(Refusal::OutOfTurn);
+        return RequirementRead::Refused(Refusal::WrongState);
     }
     if !lists_long(tally.units, measures, sums, figures, homes, rows) {
         return RequirementRead::Refused(Refusal::TooShort);
@@ -34,7 +34,7 @@ pub(crate) fn tested_requirement(
         return RequirementRead::Refused(Refusal::TooShort);
     }
     if !lent_in_range(tally, measures, sums, figures, homes, rows) {
-        return RequirementRead::Refused(Refusal::OutOfTurn);
+        return RequirementRead::Refused(Refusal::WrongState);
     }
     book::requirement::read_requirement(part, 0, false)
 }

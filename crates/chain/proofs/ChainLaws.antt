@@ -32,7 +32,7 @@ use Rattle.rules.specs.Bytes.{listed}
 use Rattle.rules.specs.Book.{Unit}
 use Rattle.rules.specs.Deviation.{deviation, good}
 use Rattle.rules.specs.Performance.{wanted, performance}
-use Rattle.interval.specs.Lent.{placed, sums-each, sums-start, sums-length, side-part, summed, row-of, figures-each, is-number, of-interval}
+use Rattle.interval.specs.Lent.{put-from, sums-each, sums-start, sums-length, side-part, summed, row-of, figures-each, is-number, of-interval}
 use Rattle.chain.specs.Chain.{adds}
 
 pub or-true : (b : Bool) → b || true ≡ true
@@ -43,7 +43,7 @@ or-true false = refl
 module _ {A : Type 0} where
   -- behind what is filled
   pub placed-next : (place n : ℕ) (g G : ℕ → A) (xs : List A) → ((i : ℕ) → i < n → g i ≡ G (place + i)) →
-      placed place n g (filled place G xs) ≡ filled (place + n) G xs
+      put-from place n g (filled place G xs) ≡ filled (place + n) G xs
   unfolding filled
   placed-next zero n g G xs e = rw (filled-none G xs, zero-add n) (filled-ext n g G xs (λ i h. e i h ∙ ap G (zero-add i)))
   placed-next (suc place) n g G [] e = refl
@@ -62,7 +62,7 @@ module _ {A : Type 0} where
 
   -- the next one
   pub block-next : (n k : ℕ) (g G : ℕ → A) (xs : List A) → ((i : ℕ) → i < n → g i ≡ G (n * k + i)) →
-      placed (n * k) n g (filled (n * k) G xs) ≡ filled (n * suc k) G xs
+      put-from (n * k) n g (filled (n * k) G xs) ≡ filled (n * suc k) G xs
   block-next n k g G xs e = placed-next (n * k) n g G xs e ∙ ap (λ (m : ℕ). filled m G xs) (sym (mul-suc n k))
 
   filled-inside : (n m : ℕ) (g G H : ℕ → A) (xs : List A) → n ≤ m → ((i : ℕ) → i < n → H i ≡ g i) → ((j : ℕ) → n ≤ j → H j ≡ G j) →
@@ -78,7 +78,7 @@ module _ {A : Type 0} where
 
   -- inside what is filled
   pub placed-inside : (place n m : ℕ) (g G H : ℕ → A) (xs : List A) → place + n ≤ m → ((i : ℕ) → i < n → H (place + i) ≡ g i) →
-      ((j : ℕ) → j < place → H j ≡ G j) → ((j : ℕ) → place + n ≤ j → H j ≡ G j) → placed place n g (filled m G xs) ≡ filled m H xs
+      ((j : ℕ) → j < place → H j ≡ G j) → ((j : ℕ) → place + n ≤ j → H j ≡ G j) → put-from place n g (filled m G xs) ≡ filled m H xs
   unfolding filled
   placed-inside zero n m g G H xs l at before past =
       filled-inside n m g G H xs (omega arith) (λ i h. ap H (sym (zero-add i)) ∙ at i h) (λ j h. past j (omega arith))
@@ -110,7 +110,7 @@ summed-adds u G xs h l = go (good u)
     outside : (j : ℕ) → (j / sums-each ≡ r → ⊥) → G j +ℤ w j ≡ G j
     outside j f = rw (ne-eqb (j / sums-each) r f) (+ℤ-idr (G j))
 
-    go : (t : Bool) → cond t (placed (sums-start r) sums-each (λ i. getD old (sums-start r + i) (pos 0) +ℤ side-part u i) old) old ≡
+    go : (t : Bool) → cond t (put-from (sums-start r) sums-each (λ i. getD old (sums-start r + i) (pos 0) +ℤ side-part u i) old) old ≡
         filled sums-length (λ j. G j +ℤ when t (w j)) xs
     go true =
         placed-inside (sums-start r) sums-each sums-length _ G (λ j. G j +ℤ w j) xs (omega arith)

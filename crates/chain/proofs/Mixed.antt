@@ -6,7 +6,7 @@ use mathlib.Core.List.{List}
 use Prim.Native.Nat.{ℕ, _+_, _<_}
 use native.Mathlib.Omega.{arith}
 use lib.IntN.{pos}
-use Rattle.rules.specs.declared.Refusal.the-variants.{OutOfTurn}
+use Rattle.rules.specs.declared.Refusal.the-variants.{WrongState}
 use Rattle.rules.specs.Refusals.{Reply, refused, unless}
 use Rattle.rules.specs.Book.{Settings, Unit}
 use Rattle.interval.specs.declared.Tally.{Tally}
@@ -24,11 +24,11 @@ use Rattle.chain.proofs.ChainValues.{figures-are}
 
 -- where the figures are not of its number, all the rest follows, whatever else the tally and the lists hold
 module _ (t : Tally) (l : Lent) (other : of-interval (t .interval) (l .figures) ≡ false) where
-  unit-told : (p : List ℕ) → unit-long (units-taken t + 1) l ≡ true → unit-reply t p l ≡ refused OutOfTurn
+  unit-told : (p : List ℕ) → unit-long (units-taken t + 1) l ≡ true → unit-reply t p l ≡ refused WrongState
   unfolding unit-reply
   unit-told p long = rw (long, other) (either (in-range t && unit-turn t))
     where
-      either : (turn : Bool) → _≡_ {A = Reply Unit} (unless turn OutOfTurn (refused OutOfTurn)) (refused OutOfTurn)
+      either : (turn : Bool) → _≡_ {A = Reply Unit} (unless turn WrongState (refused WrongState)) (refused WrongState)
       either true = refl
       either false = refl
 
@@ -53,7 +53,7 @@ mixed-told {l = l} d begun other differs =
 -- so the call for a unit refuses it and leaves all as it came
 pub told-unit :
     {t : Tally} {p : List ℕ} {l l′ : Lent} {r : Step} → Told t l → unit-long (units-taken t + 1) l ≡ true → UnitPromise t p l r l′ →
-    (r ≡ refused-step t OutOfTurn) × (l′ ≡ l)
+    (r ≡ refused-step t WrongState) × (l′ ≡ l)
 told-unit {t} {p} {l} w long c =
     let e = w .unit p long in
     (c .reply ∙ ap (λ (x : Reply Unit). stepped (unit-counted t) x t) e, c .lent ∙ ap (λ (x : Reply Unit). left (unit-kept t) x l) e)

@@ -20,7 +20,7 @@ use Rattle.rules.specs.declared.Refusal.the-variants.{
   UnitField,
   UnitNotRising,
   RequirementField,
-  OutOfTurn,
+  WrongState,
   TooShort,
 }
 use Rattle.rules.specs.Quantities.{
@@ -139,13 +139,13 @@ module _ {A : Type 0} (next : A → Tally) (t : Tally) where
 pub settings-passed : (t : Tally) (p : List ℕ) (s : Settings) → settings-reply t p ≡ taken s → (t .records ≡ 0) × (settings p ≡ taken s)
 unfolding settings-reply
 settings-passed t p s e =
-    let turn = passed (in-range t && settings-turn t) OutOfTurn _ s e in
+    let turn = passed (in-range t && settings-turn t) WrongState _ s e in
     (eqb-true _ _ (both (in-range t) (settings-turn t) (turn .0) .1), turn .1)
 
 pub frequency-passed : (t : Tally) (p : List ℕ) (l : Lent) (x : Region) → frequency-reply t p l ≡ taken x → FrequencyTaken t p l x
 unfolding frequency-reply
 frequency-passed t p l x e =
-    let in-turn = passed (in-range t && frequency-turn t) OutOfTurn _ x e in
+    let in-turn = passed (in-range t && frequency-turn t) WrongState _ x e in
     let turn = both (leb 1 (t .records)) (ltb (t .records) before-units) (both (in-range t) (frequency-turn t) (in-turn .0) .1) in
     let long = passed (regions-long l) TooShort _ x (in-turn .1) in
     record { first = leb-true _ _ (turn .0); last = ltb-true _ _ (turn .1); long = passes-regions (long .0); record-taken = long .1 }
@@ -153,16 +153,16 @@ frequency-passed t p l x e =
 pub unit-passed : (t : Tally) (p : List ℕ) (l : Lent) (u : Unit) → unit-reply t p l ≡ taken u → UnitTaken t p l u
 unfolding unit-reply
 unit-passed t p l u e =
-    let in-turn = passed (in-range t && unit-turn t) OutOfTurn _ u e in
+    let in-turn = passed (in-range t && unit-turn t) WrongState _ u e in
     let turn = both (leb before-units (t .records)) (ltb (t .records) (units-end t)) (both (in-range t) (unit-turn t) (in-turn .0) .1) in
     let long = passed (unit-long (units-taken t + 1) l) TooShort _ u (in-turn .1) in
-    let lent = passed (of-interval (t .interval) (l .figures) && series-in-range (named-region p) (units-taken t) l) OutOfTurn _ u (long .1) in
+    let lent = passed (of-interval (t .interval) (l .figures) && series-in-range (named-region p) (units-taken t) l) WrongState _ u (long .1) in
     record { first = leb-true _ _ (turn .0); last = ltb-true _ _ (turn .1); long = passes-long (long .0); record-taken = lent .1 }
 
 pub requirement-passed : (t : Tally) (p : List ℕ) (q : Requirement) → requirement-reply t p ≡ taken q →
     (units-end t ≤ t .records) × (t .records < book-end t) × (requirement-record (t .least) (eqb (t .records + 1) (book-end t)) p ≡ taken q)
 unfolding requirement-reply
 requirement-passed t p q e =
-    let in-turn = passed (in-range t && requirement-turn t) OutOfTurn _ q e in
+    let in-turn = passed (in-range t && requirement-turn t) WrongState _ q e in
     let turn = both (leb (units-end t) (t .records)) (ltb (t .records) (book-end t)) (both (in-range t) (requirement-turn t) (in-turn .0) .1) in
     (leb-true _ _ (turn .0), ltb-true _ _ (turn .1), in-turn .1)

@@ -149,7 +149,8 @@ module _
 
   answer-told :
       {old new : Columns} {reply reply′ : List ℕ} {r : ℕ} →
-      columns-long (t .units) old ≡ true → reply-words ≤ length reply → AnswerCalled ws part l old reply r new reply′ → Tells (answer b q) old reply r new reply′
+      columns-long (t .units) old ≡ true → reply-words ≤ length reply → AnswerCalled ws part l old reply r new reply′ →
+      Tells (answer b q) old reply r new reply′
   answer-told {reply = reply} long words-long c =
       let s = is-stepped _ _ _ _ (asked-held ws true (leb reply-words (length reply)) h turn refl (le-leb _ _ words-long)) (c .answer) in
       let x = a .answered long (s .call) in

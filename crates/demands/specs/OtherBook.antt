@@ -5,7 +5,7 @@ use mathlib.Core.Bool.{true, _&&_}
 use mathlib.Core.List.{List}
 use Prim.Native.Nat.{ℕ, _+_, _≤_}
 use lib.ListN.{length}
-use Rattle.rules.specs.declared.Refusal.the-variants.{OutOfTurn}
+use Rattle.rules.specs.declared.Refusal.the-variants.{WrongState}
 use Rattle.rules.specs.Refusals.{number}
 use Rattle.interval.specs.declared.Tally.{Tally}
 use Rattle.interval.specs.Tally.{units-taken}
@@ -20,10 +20,10 @@ use Rattle.dullavane.specs.Asked.{member-words, MemberCalled}
 pub record ToldApart (stored : List ℕ) (t : Tally) (l : Lent) : Type 0 where
   pub unit :
       {p stored′ : List ℕ} {r : ℕ} {l′ : Lent} → unit-long (units-taken t + 1) l ≡ true → UnitCalled stored p l r stored′ l′ →
-      (r ≡ number OutOfTurn) × (stored′ ≡ stored) × (l′ ≡ l)
+      (r ≡ number WrongState) × (stored′ ≡ stored) × (l′ ≡ l)
   pub answer :
       {p reply reply′ : List ℕ} {old new : Columns} {r : ℕ} → ((regions-long l && rows-long (t .units) l) && columns-long (t .units) old) ≡ true →
-      reply-words ≤ length reply → AnswerCalled stored p l old reply r new reply′ → (r ≡ number OutOfTurn) × (reply′ ≡ reply) × (new ≡ old)
+      reply-words ≤ length reply → AnswerCalled stored p l old reply r new reply′ → (r ≡ number WrongState) × (reply′ ≡ reply) × (new ≡ old)
   pub member :
       {row direction set : ℕ} {us us′ : List ℕ} {r : ℕ} → member-long (t .units) l ≡ true → member-words ≤ length us →
-      MemberCalled stored row direction set l us r us′ → (r ≡ number OutOfTurn) × (us′ ≡ us)
+      MemberCalled stored row direction set l us r us′ → (r ≡ number WrongState) × (us′ ≡ us)

@@ -66,7 +66,8 @@ pub record WordsAnswer (b : Book) (t : Tally) (ws : List ℕ) (l : Lent) (part :
   -- dullavane_answer gives its figures and its lines' numbers
   pub answered :
       {old new : Columns} {reply reply′ : List ℕ} {r : ℕ} →
-      columns-long (t .units) old ≡ true → reply-words ≤ length reply → AnswerCalled ws part l old reply r new reply′ → Tells (answer b q) old reply r new reply′
+      columns-long (t .units) old ≡ true → reply-words ≤ length reply → AnswerCalled ws part l old reply r new reply′ →
+      Tells (answer b q) old reply r new reply′
   -- dullavane_member gives of each row a unit of the requirement's regions with its number and standing, or another's
   pub rows :
       (j : ℕ) → j < t .units → {us us′ : List ℕ} {r : ℕ} → member-words ≤ length us → MemberWords ws part l j us r us′ →

@@ -9,7 +9,7 @@ use lib.ListN.{length, set}
 use borrow.Author.Tests.{ltb-true}
 use Rattle.integers.specs.Sums.{both}
 use Rattle.rules.specs.declared.Direction.the-variants.{Lower}
-use Rattle.rules.specs.declared.Refusal.the-variants.{OutOfTurn, TooShort}
+use Rattle.rules.specs.declared.Refusal.the-variants.{WrongState, TooShort}
 use Rattle.rules.specs.Refusals.{Reply, taken, refused, unless, _>>=_}
 use Rattle.interval.specs.declared.Tally.{Tally}
 use Rattle.interval.specs.Tally.{in-range, answer-turn}
@@ -38,7 +38,8 @@ pub asked-means : (ws : List ℕ) (narrow long : Bool) {r : ℕ} → r ≡ reply
 unfolding asked-tally in-turn
 asked-means ws narrow long e none = go (held ws) refl (sym e ∙ none)
   where
-    last : (turn narrow long : Bool) (t : Tally) → let y = unless turn OutOfTurn (unless narrow OutOfTurn (unless long TooShort (taken t))) in reply-number y ≡ 0 →
+    last : (turn narrow long : Bool) (t : Tally) →
+        let y = unless turn WrongState (unless narrow WrongState (unless long TooShort (taken t))) in reply-number y ≡ 0 →
         (y ≡ taken t) × (narrow ≡ true) × (long ≡ true)
     last true true true t e = (refl, refl, refl)
     last true true false t e = absurd (omega arith)
@@ -55,8 +56,9 @@ asked-means ws narrow long e none = go (held ws) refl (sym e ∙ none)
         absurd (omega arith)
 
 -- by what the tests say of the tally that the words hold
-pub asked-number : (ws : List ℕ) (narrow long : Bool) {t : Tally} {x f m : Bool} → held ws ≡ taken t → (in-range t && answer-turn t) ≡ x → narrow ≡ f → long ≡ m →
-    reply-number (unless x OutOfTurn (unless f OutOfTurn (unless m TooShort (taken t)))) ≡ reply-number (asked-tally ws narrow long)
+pub asked-number : (ws : List ℕ) (narrow long : Bool) {t : Tally} {x f m : Bool} →
+    held ws ≡ taken t → (in-range t && answer-turn t) ≡ x → narrow ≡ f → long ≡ m →
+    reply-number (unless x WrongState (unless f WrongState (unless m TooShort (taken t)))) ≡ reply-number (asked-tally ws narrow long)
 unfolding asked-tally in-turn
 asked-number ws narrow long h a b d = rw (h, a, b, d)
 

@@ -9,7 +9,7 @@ use lib.IntN.{ℤ}
 use lib.ListN.{length, getD, set, drop}
 use borrow.Author.Tests.{leb-true, leb-false, ltb-true, ltb-false, le-leb, lt-leb, lt-ltb, le-ltb}
 use Rattle.integers.proofs.Division.{remains}
-use Rattle.rules.specs.declared.Refusal.the-variants.{OutOfTurn, TooShort}
+use Rattle.rules.specs.declared.Refusal.the-variants.{WrongState, TooShort}
 use Rattle.rules.specs.declared.RunningWeek.{RunningWeek}
 use Rattle.rules.specs.declared.WeekDefault.{WeekDefault}
 use Rattle.rules.specs.declared.Whose.the-variants.{Group}
@@ -89,7 +89,7 @@ pub week-short : (ws : List ℕ) → length ws < week-words → week-held ws ≡
 unfolding week-held
 week-short ws h = rw (lt-leb week-words (length ws) h)
 
-pub week-wide : (ws : List ℕ) → week-words ≤ length ws → 281_474_976_710_656 ≤ getD ws 1 0 → week-held ws ≡ refused OutOfTurn
+pub week-wide : (ws : List ℕ) → week-words ≤ length ws → 281_474_976_710_656 ≤ getD ws 1 0 → week-held ws ≡ refused WrongState
 unfolding week-held
 week-wide ws h l = rw (le-leb week-words (length ws) h, le-ltb (getD ws 1 0) 281_474_976_710_656 l)
 
@@ -172,11 +172,13 @@ module _ (m live : ℕ) (p : ℤ) (ws : List ℕ) where
       go (refused why) f some = record { reply = e ∙ rw f; words = rw f }
 
   pub add-told :
-      (w : RunningWeek) → week-held ws ≡ taken w → (t : Added) → AddPromise (Group (units-of (whose-of m))) (flag live) p w t → {r : ℕ} {ws′ : List ℕ} → r ≡ added-number t →
+      (w : RunningWeek) → week-held ws ≡ taken w → (t : Added) →
+      AddPromise (Group (units-of (whose-of m))) (flag live) p w t → {r : ℕ} {ws′ : List ℕ} → r ≡ added-number t →
       ws′ ≡ week-after t ws → WeekAddCalled m live p ws r ws′
   add-told w h t q e f =
       let k = added-is (add-reply (whose-of m) (interval (flag live) p) w) ws in
-      let same : t ≡ added-of (add-reply (whose-of m) (interval (flag live) p) w) = q .reply ∙ ap added-of (added-as-group (whose-of m) (interval (flag live) p) w) in
+      let same : t ≡ added-of (add-reply (whose-of m) (interval (flag live) p) w) =
+      q .reply ∙ ap added-of (added-as-group (whose-of m) (interval (flag live) p) w) in
       record { reply = e ∙ rw h (ap added-number same ∙ k .0); words = f ∙ rw h (ap (λ (t : Added). week-after t ws) same ∙ k .1) }
 
 module _ (m : ℕ) (ws : List ℕ) (xs : List ℤ) where

@@ -9,7 +9,7 @@ use Rattle.rules.specs.declared.Direction.the-variants.{Raise, Lower}
 use Rattle.rules.specs.declared.Reason.the-variants.{UnreliableRegion, BadUnit, NoGoodUnit}
 use Rattle.rules.specs.declared.Standing.{Standing}
 use Rattle.rules.specs.declared.Standing.the-variants.{Live, Default}
-use Rattle.rules.specs.declared.Refusal.the-variants.{OutOfTurn, TooShort}
+use Rattle.rules.specs.declared.Refusal.the-variants.{WrongState, TooShort}
 use Rattle.rules.specs.Refusals.{Reply, taken, unless, number, _>>=_}
 use Rattle.interval.specs.declared.Tally.{Tally}
 use Rattle.interval.specs.Tally.{in-range, answer-turn}
@@ -23,7 +23,7 @@ use Rattle.dullavane.specs.Called.{Called}
 -- the tally at its turn, what it is asked by within its width, and words that are long enough for the answer
 unfoldable pub in-turn : Bool → Bool → Tally → Reply Tally
 in-turn narrow long t =
-    unless (in-range t && answer-turn t) OutOfTurn (unless narrow OutOfTurn (unless long TooShort (taken t)))
+    unless (in-range t && answer-turn t) WrongState (unless narrow WrongState (unless long TooShort (taken t)))
 
 unfoldable pub asked-tally : List ℕ → Bool → Bool → Reply Tally
 asked-tally ws narrow long = held ws >>= in-turn narrow long

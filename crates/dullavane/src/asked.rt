@@ -30,10 +30,10 @@ pub(crate) fn asked_refusal(words: &[u32], narrow: bool, long: bool) -> u32
         return refusal;
     }
     if !answer_turn(tally_in(words)) {
-        return refusal_number(Refusal::OutOfTurn);
+        return refusal_number(Refusal::WrongState);
     }
     if !narrow {
-        return refusal_number(Refusal::OutOfTurn);
+        return refusal_number(Refusal::WrongState);
     }
     if !long {
         return refusal_number(Refusal::TooShort);

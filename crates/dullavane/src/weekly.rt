@@ -36,7 +36,7 @@ pub(crate) fn week_unheld(words: &[u64]) -> u32
         return refusal_number(Refusal::TooShort);
     }
     if PAST_THE_FIELDS <= words[1] {
-        return refusal_number(Refusal::OutOfTurn);
+        return refusal_number(Refusal::WrongState);
     }
     0
 }

@@ -49,7 +49,7 @@ pub(crate) fn words_refusal(words: &[u32]) -> u32
         return refusal_number(Refusal::TooShort);
     }
     if !narrow(words) {
-        return refusal_number(Refusal::OutOfTurn);
+        return refusal_number(Refusal::WrongState);
     }
     0
 }

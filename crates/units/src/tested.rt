@@ -41,7 +41,7 @@ pub(crate) fn tested_unit(
         ⌝ }
 {
     if !unit_turn(tally) {
-        return UnitRead::Refused(Refusal::OutOfTurn);
+        return UnitRead::Refused(Refusal::WrongState);
     }
     if !regions_long(measures.len(), sums.len(), figures.len()) {
         return UnitRead::Refused(Refusal::TooShort);
@@ -51,10 +51,10 @@ pub(crate) fn tested_unit(
         return UnitRead::Refused(Refusal::TooShort);
     }
     if !of_interval(tally.interval, figures) {
-        return UnitRead::Refused(Refusal::OutOfTurn);
+        return UnitRead::Refused(Refusal::WrongState);
     }
     if !series_in_range(named_region(part), row, measures, sums) {
-        return UnitRead::Refused(Refusal::OutOfTurn);
+        return UnitRead::Refused(Refusal::WrongState);
     }
     book::unit::read_unit(part, tally.least)
 }

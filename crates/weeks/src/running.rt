@@ -12,17 +12,17 @@ use rules::Refusal;
 use rules::RunningWeek;
 use rules::Whose;
 ghost use mathlib.Core.Path.{_≡_};
-ghost use Rattle.rules.specs.declared.Refusal.the-variants.{OutOfTurn};
+ghost use Rattle.rules.specs.declared.Refusal.the-variants.{WrongState};
 ghost use Rattle.rules.specs.Refusals.{refused, unless};
 ghost use Rattle.rules.specs.RunningWeek.{left-by-a-run};
 ghost use Rattle.weeks.specs.Promises.{added-of, AddPromise, ReadPromise};
 
 // A refusal after the record's own: 11 comes first, where no run of calls leaves the record.
 fn record_first(week: RunningWeek, refusal: Refusal) -> Added
-    ensures { λ r. ⌜ r ≡ added-of (unless (left-by-a-run week) OutOfTurn (refused refusal)) ⌝ }
+    ensures { λ r. ⌜ r ≡ added-of (unless (left-by-a-run week) WrongState (refused refusal)) ⌝ }
 {
     if !is_left_by_a_run(week) {
-        return Added::Refused(Refusal::OutOfTurn);
+        return Added::Refused(Refusal::WrongState);
     }
     Added::Refused(refusal)
 }
@@ -40,7 +40,7 @@ pub fn add(whose: Whose, live: bool, performance: i64, week: RunningWeek) -> Add
         return record_first(week, Refusal::WrongWeek);
     }
     if !is_left_by_a_run(week) {
-        return Added::Refused(Refusal::OutOfTurn);
+        return Added::Refused(Refusal::WrongState);
     }
     one_more(reach(units), week, live, performance)
 }
@@ -50,7 +50,7 @@ pub fn read(whose: Whose, week: RunningWeek) -> Told
     ensures { λ r. ⌜ ReadPromise whose week r ⌝ }
 {
     if !is_left_by_a_run(week) {
-        return Told::Refused(Refusal::OutOfTurn);
+        return Told::Refused(Refusal::WrongState);
     }
     if !is_fine(units_of(whose)) {
         return Told::Refused(Refusal::WrongCount);

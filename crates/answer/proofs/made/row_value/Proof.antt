@@ -40,8 +40,8 @@ performs c = rw (c .performance-place .ensures) (performance-at-≤ (start (c .b
 abbrev live : tie.After-field-place → tie.After-goes-live
 live c = c .before .before .before
 
-placed : (c : tie.After-field-place) → c .before .defaults-place .result + c .field-place .result ≤ 5
-placed c =
+within-six : (c : tie.After-field-place) → c .before .defaults-place .result + c .field-place .result ≤ 5
+within-six c =
     let a = start (live c) .args in
     omega (arith, c .before .defaults-place .ensures, c .field-place .ensures, defaults-at-≤ (a .direction), field-at-≤ (a .field))
 
@@ -85,16 +85,16 @@ field-place-requires : tie.Need-field-place-requires
 field-place-requires c κs = search needs
 
 add-at-2 : tie.Need-add-at-2
-add-at-2 c = omega (arith, placed c)
+add-at-2 c = omega (arith, within-six c)
 
 add-result-2 : tie.Need-add-result-2
-add-result-2 c = omega (arith, placed c)
+add-result-2 c = omega (arith, within-six c)
 
 mul-result-2 : tie.Need-mul-result-2
-mul-result-2 c = omega (arith, placed c)
+mul-result-2 c = omega (arith, within-six c)
 
 shared-slice-copy-out-result-2 : tie.Need-shared-slice-copy-out-result-2
-shared-slice-copy-out-result-2 c = omega (arith, placed c)
+shared-slice-copy-out-result-2 c = omega (arith, within-six c)
 
 returns-2 : tie.Need-returns-2
 returns-2 c =

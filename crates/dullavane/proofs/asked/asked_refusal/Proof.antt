@@ -3,7 +3,7 @@ use mathlib.Core.Path.{_≡_, refl, sym, _∙_}
 use mathlib.Core.Bool.{Bool}
 use borrow.Author.Needs.{needs}
 use borrow.Author.Tests.{not-true, not-false}
-use Rattle.rules.specs.declared.Refusal.the-variants.{OutOfTurn, TooShort}
+use Rattle.rules.specs.declared.Refusal.the-variants.{WrongState, TooShort}
 use Rattle.rules.specs.Refusals.{taken, unless}
 use Rattle.dullavane.specs.Words.{reply-number}
 use Rattle.dullavane.proofs.WordsLaws.{held-means}
@@ -16,7 +16,7 @@ abbrev start : tie.After-answer-turn → tie.Start
 start c = c .before .before .before .before .before
 
 tested : (c : tie.After-answer-turn) {x f m : Bool} → let a = start c .args in c .answer-turn .result ≡ x → a .narrow ≡ f → a .long ≡ m →
-    reply-number (unless x OutOfTurn (unless f OutOfTurn (unless m TooShort (taken (c .before .tally-in .result))))) ≡
+    reply-number (unless x WrongState (unless f WrongState (unless m TooShort (taken (c .before .tally-in .result))))) ≡
     reply-number (asked-tally (a .words .now) (a .narrow) (a .long))
 tested c e = asked-number _ _ _ (c .before .tally-in .ensures) (sym (c .answer-turn .ensures) ∙ e)
 
