@@ -1,70 +1,54 @@
--- What `answer` promises, completely: its reply and each number of the five columns,
--- on refusals too (01, Factors, RCR, Cents; Numbers the box can say no with).
--- The answer is the one that what is kept gives, `kept-answer`; its lines' numbers go to the columns, one row a member. The numbers of the roster are not
--- read here, so the promise holds for any.
+-- What `answer` promises, completely: its reply and each number of the five columns, on refusals too (01, Factors, RCR, Cents; Numbers the box can say no
+-- with). The answer is the one that what is kept gives, `kept-answer`; its lines' numbers go to the columns, one row a member.
 use mathlib.Core.Path.{_≡_}
 use mathlib.Core.Bool.{Bool, false, _&&_}
 use mathlib.Core.List.{List, [], _∷_, map}
 use Prim.Native.Nat.{ℕ}
-use lib.Dec.{leb, ltb}
+use lib.Dec.{ltb}
 use lib.IntN.{ℤ}
 use lib.ListN.{length}
-use Rattle.rules.specs.declared.Refusal.the-variants.{OutOfTurn, TooShort}
+use Rattle.rules.specs.declared.Refusal.the-variants.{WrongState, TooShort}
 use Rattle.rules.specs.declared.Standing.{Standing}
 use Rattle.rules.specs.declared.Standing.the-variants.{Live}
-use Rattle.rules.specs.Refusals.{Reply, taken, refused, unless, _>>=_}
+use Rattle.rules.specs.Refusals.{Reply, taken, refused, unless}
+use Rattle.rules.specs.Book.{Requirement}
 use Rattle.rules.specs.RequirementRecord.{requirement-record}
 use Rattle.rules.specs.Answer.{Line, Answer as Full}
 use Rattle.interval.specs.declared.Tally.{Tally}
 use Rattle.interval.specs.Tally.{in-range, answer-turn}
-use Rattle.interval.specs.Lent.{series-length, figures-length}
-use Rattle.kept.specs.Kept.{Kept, kept-answer}
+use Rattle.interval.specs.Lent.{Lent, regions-long, rows-long}
+use Rattle.interval.specs.Calls.{left}
+use Rattle.kept.specs.Kept.{kept-answer}
 use Rattle.kept.specs.Range.{kept-fine}
-use Rattle.answer.specs.Ranges.{rows-room}
 use Rattle.answer.specs.Lists.{headed}
 use Rattle.answer.specs.declared.Answer.{Answer}
 use Rattle.answer.specs.declared.Answered.{Answered}
 use Rattle.answer.specs.declared.Answered.the-variants.{Given, Refused}
 
--- ---- what is lent, as what is kept
-abbrev pub kept-lists : ℕ → ℕ → List ℤ → List ℤ → List ℤ → List ℤ → List ℕ → List ℕ → List ℤ → List ℤ → List ℤ → Kept
-kept-lists units percent measures positive negative figures numbers places raise lower defaults =
-    record {
-      percent = percent;
-      units = units;
-      measures = measures;
-      positive = positive;
-      negative = negative;
-      figures = figures;
-      numbers = numbers;
-      places = places;
-      raise = raise;
-      lower = lower;
-      defaults = defaults;
-    }
+-- ---- the five columns; each takes one number more than there are units
+pub record Columns : Type 0 where
+  pub performances : List ℤ
+  pub factors : List ℤ
+  pub payments : List ℤ
+  pub used : List ℤ
+  pub unused : List ℤ
 
--- ---- room, by the lengths of the lists; each column takes one number more than there are units
-abbrev pub lists-long : ℕ → ℕ → ℕ → ℕ → ℕ → ℕ → ℕ → ℕ → ℕ → Bool
-lists-long units measures positive negative figures places raise lower defaults =
-    leb series-length measures && (leb series-length positive &&
-    (leb series-length negative && (leb figures-length figures && rows-room units places raise lower defaults)))
+abbrev pub columns : List ℤ → List ℤ → List ℤ → List ℤ → List ℤ → Columns
+columns performances factors payments used unused =
+    record { performances = performances; factors = factors; payments = payments; used = used; unused = unused }
 
-abbrev pub columns-long : ℕ → ℕ → ℕ → ℕ → ℕ → ℕ → Bool
-columns-long units performances factors payments used unused =
-    ltb units performances && (ltb units factors && (ltb units payments && (ltb units used && ltb units unused)))
+abbrev pub columns-long : ℕ → Columns → Bool
+columns-long units c =
+    ltb units (length (c .performances))
+    && (ltb units (length (c .factors)) && (ltb units (length (c .payments)) && (ltb units (length (c .used)) && ltb units (length (c .unused)))))
 
--- ---- the reply: 11 out of turn, 12 for a short list, 11 for a lent number out of range, then what comes past these tests
-abbrev pub past-tests : {A : Type 0} → Tally → Kept → ℕ → ℕ → ℕ → ℕ → ℕ → Reply A → Reply A
-past-tests t k performances factors payments used unused rest =
-    unless (in-range t && answer-turn t) OutOfTurn
-    (unless (lists-long (k .units) (length (k .measures)) (length (k .positive)) (length (k .negative)) (length (k .figures)) (length (k .places))
-    (length (k .raise)) (length (k .lower)) (length (k .defaults)) && columns-long (k .units) performances factors payments used unused) TooShort
-    (unless (kept-fine k) OutOfTurn rest))
-
--- and that is what the requirement's record says, wherever it stands
-unfoldable pub answer-reply : Tally → List ℕ → Kept → ℕ → ℕ → ℕ → ℕ → ℕ → Reply Full
-answer-reply t part k performances factors payments used unused =
-    past-tests t k performances factors payments used unused (requirement-record 0 false part >>= λ q. taken (kept-answer k q))
+-- ---- the requirement, as its record says, wherever it stands; before it 11 out of turn, 12 for a short list, 11 for a lent number out of range
+unfoldable pub answer-reply : Tally → List ℕ → Lent → Columns → Reply Requirement
+answer-reply t part l c =
+    unless (in-range t && answer-turn t) WrongState
+    (unless ((regions-long l && rows-long (t .units) l) && columns-long (t .units) c) TooShort
+    (unless (kept-fine t l) WrongState
+    (requirement-record 0 false part)))
 
 -- the standing of the last line, the residual's
 abbrev pub last-standing : List Line → Standing
@@ -72,12 +56,13 @@ last-standing [] = Live
 last-standing (l ∷ []) = l .standing
 last-standing (l ∷ m ∷ ls) = last-standing (m ∷ ls)
 
--- the figures of an answer
-abbrev pub shown : Full → Answer
-shown a =
+-- the figures of an answer to a requirement
+abbrev pub shown : Requirement → Full → Answer
+shown q a =
     record {
       number = a .number;
       direction = a .direction;
+      set = q .set;
       members = length (a .lines);
       residual = last-standing (a .lines);
       rcr = a .rcr;
@@ -86,29 +71,22 @@ shown a =
       unused = record { pool = a .unused-pool; unplaced = a .unplaced-unused };
     }
 
-abbrev pub replied : Reply Full → Answered
-replied (taken a) = Given (shown a)
-replied (refused r) = Refused r
+abbrev pub replied : Tally → Lent → Reply Requirement → Answered
+replied t l (taken q) = Given (shown q (kept-answer t l q))
+replied t l (refused r) = Refused r
 
--- a number of each line, from the front of a column on
-abbrev pub lined : (Line → ℤ) → Reply Full → List ℤ → List ℤ
-lined field (taken a) old = headed (map field (a .lines)) old
-lined field (refused r) old = old
+-- a number of each line, from the front of each column on
+abbrev pub with-lines : Full → Columns → Columns
+with-lines a old =
+    record {
+      performances = headed (map (λ x. x .performance) (a .lines)) (old .performances);
+      factors = headed (map (λ x. x .factor) (a .lines)) (old .factors);
+      payments = headed (map (λ x. x .payment) (a .lines)) (old .payments);
+      used = headed (map (λ x. x .used) (a .lines)) (old .used);
+      unused = headed (map (λ x. x .unused) (a .lines)) (old .unused);
+    }
 
 -- ---- the promise
-module _ (t : Tally) (part : List ℕ) (ms ps ns fs : List ℤ) (qs : List ℕ) (xs ys ds : List ℤ) (old₁ old₂ old₃ old₄ old₅ : List ℤ) where
-  abbrev pub reply-of : List ℕ → Reply Full
-  reply-of us =
-      answer-reply t part (kept-lists (t .units) (t .percent) ms ps ns fs us qs xs ys ds) (length old₁) (length old₂) (length old₃) (length old₄)
-      (length old₅)
-
-  pub record AnswerWith (us : List ℕ) (r : Answered) (new₁ new₂ new₃ new₄ new₅ : List ℤ) : Type 0 where
-    pub reply : r ≡ replied (reply-of us)
-    pub performances : new₁ ≡ lined (λ l. l .performance) (reply-of us) old₁
-    pub factors : new₂ ≡ lined (λ l. l .factor) (reply-of us) old₂
-    pub payments : new₃ ≡ lined (λ l. l .payment) (reply-of us) old₃
-    pub used : new₄ ≡ lined (λ l. l .used) (reply-of us) old₄
-    pub unused : new₅ ≡ lined (λ l. l .unused) (reply-of us) old₅
-
-  pub record AnswerPromise (r : Answered) (new₁ new₂ new₃ new₄ new₅ : List ℤ) : Type 0 where
-    pub whatever : (us : List ℕ) → AnswerWith us r new₁ new₂ new₃ new₄ new₅
+pub record AnswerPromise (t : Tally) (part : List ℕ) (l : Lent) (old : Columns) (r : Answered) (new : Columns) : Type 0 where
+  pub reply : r ≡ replied t l (answer-reply t part l old)
+  pub written : new ≡ left (λ q. with-lines (kept-answer t l q)) (answer-reply t part l old) old

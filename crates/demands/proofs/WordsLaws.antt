@@ -17,7 +17,7 @@ use Rattle.rules.specs.declared.Refusal.the-variants.{
   UnitField,
   UnitNotRising,
   RequirementField,
-  OutOfTurn,
+  WrongState,
   TooShort,
   LeftOvers,
   AverageTooLow,
@@ -49,7 +49,7 @@ refusal-numbered FrequencyField = omega arith
 refusal-numbered UnitField = omega arith
 refusal-numbered UnitNotRising = omega arith
 refusal-numbered RequirementField = omega arith
-refusal-numbered OutOfTurn = omega arith
+refusal-numbered WrongState = omega arith
 refusal-numbered TooShort = omega arith
 refusal-numbered LeftOvers = omega arith
 refusal-numbered AverageTooLow = omega arith

@@ -3,12 +3,15 @@ use mathlib.Core.Path.{_≡_, sym, _∙_}
 use mathlib.Core.Bool.{Bool, _&&_}
 use mathlib.Core.List.{List}
 use Prim.Native.Nat.{ℕ}
+use lib.Dec.{leb}
 use lib.IntN.{ℤ}
+use lib.ListN.{length}
 use Rattle.rules.specs.declared.Refusal.{Refusal}
 use Rattle.interval.specs.declared.Tally.{Tally}
 use Rattle.interval.specs.declared.Opened.{Opened}
 use Rattle.interval.specs.declared.Step.{Step}
 use Rattle.interval.specs.Tally.{in-range, frequency-turn, unit-turn, answer-turn}
+use Rattle.interval.specs.Lent.{Lent, figures-length, of-interval}
 use Rattle.interval.specs.Calls.{refused-step, count-step, least-after}
 use Rattle.interval.specs.Promises.{ContentsPromise, FrequencyPromise, RequirementPromise, SettingsPromise, UnitPromise}
 
@@ -18,38 +21,12 @@ contents-only a b = a .reply ∙ sym (b .reply)
 pub settings-only : {t : Tally} {part : List ℕ} {r r′ : Step} → SettingsPromise t part r → SettingsPromise t part r′ → r ≡ r′
 settings-only a b = a .reply ∙ sym (b .reply)
 
--- ---- a frequency record: its region's measures, sums of deviations that start at 0, and its figures
-module _ (t : Tally) (part fs : List ℕ) (ms ps ns gs : List ℤ) where
-  pub frequency-only : {r r₂ : Step} {fs′ fs₂ : List ℕ} {ms′ ps′ ns′ gs′ ms₂ ps₂ ns₂ gs₂ : List ℤ} →
-      (FrequencyPromise t part fs ms ps ns gs) r fs′ ms′ ps′ ns′ gs′ → (FrequencyPromise t part fs ms ps ns gs) r₂ fs₂ ms₂ ps₂ ns₂ gs₂ →
-      (r ≡ r₂) × (fs′ ≡ fs₂) × (ms′ ≡ ms₂) × (ps′ ≡ ps₂) × (ns′ ≡ ns₂) × (gs′ ≡ gs₂)
-  frequency-only a b = (
-    a .reply ∙ sym (b .reply),
-    a .frequencies ∙ sym (b .frequencies),
-    a .measures ∙ sym (b .measures),
-    a .positive ∙ sym (b .positive),
-    a .negative ∙ sym (b .negative),
-    a .figures ∙ sym (b .figures),
-  )
+module _ {t : Tally} {part : List ℕ} {l : Lent} {r r₂ : Step} {l′ l₂ : Lent} where
+  pub frequency-only : FrequencyPromise t part l r l′ → FrequencyPromise t part l r₂ l₂ → (r ≡ r₂) × (l′ ≡ l₂)
+  frequency-only a b = (a .reply ∙ sym (b .reply), a .lent ∙ sym (b .lent))
 
--- ---- a unit: its readings, deviations and both performances, its row in each column, and its deviations in its region's sums if it is good
-module _ (t : Tally) (part : List ℕ) (rs ds ms ps ns : List ℤ) (us qs : List ℕ) (xs ys fs : List ℤ) where
-  pub unit-only : {r r₂ : Step} {rs′ ds′ ps′ ns′ rs₂ ds₂ ps₂ ns₂ : List ℤ} {us′ qs′ us₂ qs₂ : List ℕ} {xs′ ys′ fs′ xs₂ ys₂ fs₂ : List ℤ} →
-      (UnitPromise t part rs ds ms ps ns us qs xs ys fs) r rs′ ds′ ps′ ns′ us′ qs′ xs′ ys′ fs′ →
-      (UnitPromise t part rs ds ms ps ns us qs xs ys fs) r₂ rs₂ ds₂ ps₂ ns₂ us₂ qs₂ xs₂ ys₂ fs₂ →
-      (r ≡ r₂) × (rs′ ≡ rs₂) × (ds′ ≡ ds₂) × (ps′ ≡ ps₂) × (ns′ ≡ ns₂) × (us′ ≡ us₂) × (qs′ ≡ qs₂) × (xs′ ≡ xs₂) × (ys′ ≡ ys₂) × (fs′ ≡ fs₂)
-  unit-only a b = (
-    a .reply ∙ sym (b .reply),
-    a .readings ∙ sym (b .readings),
-    a .deviations ∙ sym (b .deviations),
-    a .positive ∙ sym (b .positive),
-    a .negative ∙ sym (b .negative),
-    a .numbers ∙ sym (b .numbers),
-    a .places ∙ sym (b .places),
-    a .raise ∙ sym (b .raise),
-    a .lower ∙ sym (b .lower),
-    a .defaults ∙ sym (b .defaults),
-  )
+  pub unit-only : UnitPromise t part l r l′ → UnitPromise t part l r₂ l₂ → (r ≡ r₂) × (l′ ≡ l₂)
+  unit-only a b = (a .reply ∙ sym (b .reply), a .lent ∙ sym (b .lent))
 
 pub requirement-only : {t : Tally} {part : List ℕ} {r r′ : Step} → RequirementPromise t part r → RequirementPromise t part r′ → r ≡ r′
 requirement-only a b = a .reply ∙ sym (b .reply)
@@ -72,3 +49,8 @@ refuse-only a b = a ∙ sym b
 
 pub count-only : (least : ℕ) (t : Tally) {r r′ : Step} → r ≡ count-step least t → r′ ≡ count-step least t → r ≡ r′
 count-only least t a b = a ∙ sym b
+
+pub of-interval-only :
+    (n : ℕ) (figures : List ℤ) {r r′ : Bool} → r ≡ (leb figures-length (length figures) && of-interval n figures) →
+    r′ ≡ (leb figures-length (length figures) && of-interval n figures) → r ≡ r′
+of-interval-only n figures a b = a ∙ sym b

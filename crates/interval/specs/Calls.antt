@@ -1,14 +1,12 @@
 -- What each call answers: what it takes of the book, or the refusal, tested in document 01's order: 11 for the tally, 12, 11 for lent numbers, 1,
--- then content by place. The lent lists stand as they came.
+-- then content by place. What is lent stands as it came.
 use mathlib.Core.Bool.{Bool, cond, _&&_}
 use mathlib.Core.List.{List}
-use Prim.Native.Nat.{ℕ, _+_, _*_}
+use Prim.Native.Nat.{ℕ, _+_}
 use lib.Dec.{eqb, leb, ltb}
-use lib.IntN.{ℤ}
 use lib.ListN.{length}
 use Rattle.rules.specs.declared.Refusal.{Refusal}
-use Rattle.rules.specs.declared.Refusal.the-variants.{OutOfTurn, TooShort}
-use Rattle.rules.specs.Quantities.{points}
+use Rattle.rules.specs.declared.Refusal.the-variants.{WrongState, TooShort}
 use Rattle.rules.specs.Refusals.{Reply, taken, refused, unless}
 use Rattle.rules.specs.Book.{Settings, Region, Unit, Requirement}
 use Rattle.rules.specs.Contents.{Counts}
@@ -35,7 +33,7 @@ use Rattle.interval.specs.Tally.{
   book-end,
   most-records,
 }
-use Rattle.interval.specs.Lent.{series-length, figures-length, named-region, series-in-range}
+use Rattle.interval.specs.Lent.{Lent, regions-long, rows-long, of-interval, named-region, series-in-range}
 
 -- ---- the table of contents starts a tally
 abbrev pub fresh : Counts → Tally
@@ -56,8 +54,8 @@ abbrev pub stepped : {A : Type 0} → (A → Tally) → Reply A → Tally → St
 stepped next (taken a) t = taken-step (next a)
 stepped next (refused r) t = refused-step t r
 
--- what is left in a lent list
-abbrev pub left : {A B : Type 0} → (A → List B → List B) → Reply A → List B → List B
+-- what is left of what was lent
+abbrev pub left : {A L : Type 0} → (A → L → L) → Reply A → L → L
 left write (taken a) old = write a old
 left write (refused r) old = old
 
@@ -77,11 +75,11 @@ counted least t =
 
 -- a tally that counts as many records as a book can have counts no further
 unfoldable pub count-step : ℕ → Tally → Step
-count-step least t = cond (ltb (t .records) most-records) (taken-step (counted least t)) (refused-step t OutOfTurn)
+count-step least t = cond (ltb (t .records) most-records) (taken-step (counted least t)) (refused-step t WrongState)
 
 -- ---- settings
 unfoldable pub settings-reply : Tally → List ℕ → Reply Settings
-settings-reply t part = unless (in-range t && settings-turn t) OutOfTurn (settings part)
+settings-reply t part = unless (in-range t && settings-turn t) WrongState (settings part)
 
 abbrev pub settled : Tally → Settings → Tally
 settled t s =
@@ -97,34 +95,23 @@ settled t s =
     }
 
 -- ---- a frequency record
-unfoldable pub frequency-reply : Tally → List ℕ → List ℕ → List ℤ → List ℤ → List ℤ → List ℤ → Reply Region
-frequency-reply t part frequencies measures positive negative figures =
-    unless (in-range t && frequency-turn t) OutOfTurn
-    (unless (leb points (length frequencies)) TooShort
-    (unless (leb series-length (length measures)) TooShort
-    (unless (leb series-length (length positive)) TooShort
-    (unless (leb series-length (length negative)) TooShort
-    (unless (leb figures-length (length figures)) TooShort
-    (frequency-record (next-region t) part))))))
+unfoldable pub frequency-reply : Tally → List ℕ → Lent → Reply Region
+frequency-reply t part l =
+    unless (in-range t && frequency-turn t) WrongState
+    (unless (regions-long l) TooShort
+    (frequency-record (next-region t) part))
 
 -- ---- a unit
--- room for one more in each column, and for its six defaults
-abbrev pub columns-room : {A B : Type 0} → ℕ → List A → List B → List ℤ → List ℤ → List ℤ → Bool
-columns-room k numbers places raise lower defaults =
-    ltb k (length numbers) && (ltb k (length places) && (ltb k (length raise) && (ltb k (length lower) && leb (6 * k + 6) (length defaults))))
+-- long enough for one unit more
+abbrev pub unit-long : ℕ → Lent → Bool
+unit-long n l = regions-long l && (leb n (length (l .numbers)) && rows-long n l)
 
-abbrev pub series-room : List ℤ → List ℤ → List ℤ → List ℤ → List ℤ → Bool
-series-room readings deviations measures positive negative =
-    leb points (length readings) && (leb points (length deviations) && (leb series-length (length measures)
-    && (leb series-length (length positive) && leb series-length (length negative))))
-
-unfoldable pub unit-reply : Tally → List ℕ → List ℤ → List ℤ → List ℤ → List ℤ → List ℤ → List ℕ → List ℕ → List ℤ → List ℤ → List ℤ → Reply Unit
-unit-reply t part readings deviations measures positive negative numbers places raise lower defaults =
-    unless (in-range t && unit-turn t) OutOfTurn
-    (unless (series-room readings deviations measures positive negative) TooShort
-    (unless (columns-room (units-taken t) numbers places raise lower defaults) TooShort
-    (unless (series-in-range (named-region part) (units-taken t) measures positive negative) OutOfTurn
-    (unit-record (t .least) part))))
+unfoldable pub unit-reply : Tally → List ℕ → Lent → Reply Unit
+unit-reply t part l =
+    unless (in-range t && unit-turn t) WrongState
+    (unless (unit-long (units-taken t + 1) l) TooShort
+    (unless (of-interval (t .interval) (l .figures) && series-in-range (named-region part) (units-taken t) l) WrongState
+    (unit-record (t .least) part)))
 
 -- after the last unit the first requirement may have any number
 abbrev pub least-after : Tally → ℕ → ℕ
@@ -135,4 +122,4 @@ unit-counted t u = counted (least-after t (u .number)) t
 
 -- ---- a requirement
 unfoldable pub requirement-reply : Tally → List ℕ → Reply Requirement
-requirement-reply t part = unless (in-range t && requirement-turn t) OutOfTurn (requirement-record (t .least) (eqb (t .records + 1) (book-end t)) part)
+requirement-reply t part = unless (in-range t && requirement-turn t) WrongState (requirement-record (t .least) (eqb (t .records + 1) (book-end t)) part)

@@ -3,17 +3,26 @@
 // what is lent only where it refuses nothing. The calls that lend lists stand above, in `frequencies` and `units`; what they promise stands in specs/.
 use rules::Refusal;
 
-// The lists that the calls lend hold a number for each point of the five regions; a unit's deviation is at most so much either way.
+// What the lent lists hold: of a region 75 measures, 150 sums and ten figures, the interval number first; of a unit a row of eight.
 pub const SERIES_LENGTH: usize = 375;
 
+pub const SUMS_EACH: usize = 150;
+
+pub const SUMS_LENGTH: usize = 750;
+
+pub const FIGURES_EACH: usize = 10;
+
+pub const FIGURES_LENGTH: usize = 50;
+
+pub const ROW_EACH: usize = 8;
+
+pub const ROWS_LENGTH: usize = 4096;
+
+// A unit's deviation is at most so much either way.
 pub const DEVIATION_LIMIT: u64 = 15_000_000;
 
-// Nine figures a region, and six defaults for each of 512 units.
-pub const FIGURES_LENGTH: usize = 45;
-
-pub const DEFAULTS_LENGTH: usize = 3072;
-
 pub mod contents;
+pub mod lent;
 pub mod requirement;
 pub mod settings;
 pub mod steps;

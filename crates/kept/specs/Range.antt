@@ -2,7 +2,6 @@
 -- deviations within 15,000,000 for each unit taken, performances within a unit's limit. Each unit stands in one region, so the sizes of the five regions'
 -- sums are within the limit together.
 use mathlib.Core.Bool.{Bool, _&&_}
-use mathlib.Core.List.{List}
 use Prim.Native.Nat.{ℕ, _+_, _*_}
 use lib.Dec.{leb, ltb}
 use lib.IntN.{ℤ, pos, natAbs}
@@ -11,37 +10,45 @@ use lib.Signed.{leZ}
 use Rattle.integers.specs.Sums.{sumℕ, every}
 use Rattle.rules.specs.Quantities.{points, regions, measure-limit, amount-limit, deviation-limit, performance-limit, unit-default-limit, residual-default-limit}
 use Rattle.rules.specs.Fields.{default-fine, sized}
-use Rattle.interval.specs.Lent.{series-start}
-use Rattle.kept.specs.Kept.{Kept, figure}
+use Rattle.rules.specs.declared.Direction.{Direction}
+use Rattle.rules.specs.declared.Direction.the-variants.{Raise, Lower}
+use Rattle.interval.specs.declared.Tally.{Tally}
+use Rattle.interval.specs.Lent.{Lent, series-start, sum-place, of-interval}
+use Rattle.kept.specs.Kept.{figure, in-row}
 
-module _ (k : Kept) where
-  -- ---- at a point: the five regions' measures, and their sums of deviations together
-  abbrev pub measures-fine : ℕ → Bool
-  measures-fine t = every regions (λ r. sized measure-limit (getD (k .measures) (series-start r + t) (pos 0)))
+-- from 0 to a limit
+abbrev pub from-0 : ℕ → ℤ → Bool
+from-0 limit x = leZ (pos 0) x && leZ x (pos limit)
 
-  abbrev pub sums-fine : List ℤ → ℕ → Bool
-  sums-fine sums t = leb (sumℕ regions (λ r. natAbs (getD sums (series-start r + t) (pos 0)))) (deviation-limit * k .units)
+-- ---- at a point: the five regions' measures, and their sums of deviations together
+abbrev pub measures-fine : Lent → ℕ → Bool
+measures-fine l p = every regions (λ r. sized measure-limit (getD (l .measures) (series-start r + p) (pos 0)))
 
-  unfoldable pub series-fine : Bool
-  series-fine = every points (λ t. measures-fine t && (sums-fine (k .positive) t && sums-fine (k .negative) t))
+abbrev pub sums-fine : ℕ → Lent → Direction → ℕ → Bool
+sums-fine most l d p = leb (sumℕ regions (λ r. natAbs (getD (l .sums) (sum-place d r p) (pos 0)))) most
 
-  -- ---- of a region: generation, whether raise and lower are reliable (1 or 0), six defaults
-  abbrev pub from-0 : ℕ → ℤ → Bool
-  from-0 limit x = leZ (pos 0) x && leZ x (pos limit)
+unfoldable pub series-fine : Tally → Lent → Bool
+series-fine t l =
+    every points (λ p. measures-fine l p && (sums-fine (deviation-limit * t .units) l Raise p && sums-fine (deviation-limit * t .units) l Lower p))
 
-  unfoldable pub figures-fine : Bool
-  figures-fine =
-      every regions (λ r.
-      from-0 amount-limit (figure k r 0)
-      && (from-0 1 (figure k r 1) && (from-0 1 (figure k r 2) && every 6 (λ i. default-fine residual-default-limit (figure k r (3 + i))))))
+-- ---- of a region: the interval number, which is the tally's; generation, whether raise and lower are reliable (1 or 0), six defaults
+abbrev pub region-fine : Lent → ℕ → Bool
+region-fine l r =
+    from-0 amount-limit (figure l r 1)
+    && (from-0 1 (figure l r 2) && (from-0 1 (figure l r 3) && every 6 (λ i. default-fine residual-default-limit (figure l r (4 + i)))))
 
-  -- ---- of a unit: its region and whether it is good, both performances, six defaults
-  unfoldable pub rows-fine : Bool
-  rows-fine =
-      every (k .units) (λ i.
-      ltb (getD (k .places) i 0) (2 * regions)
-      && (sized performance-limit (getD (k .raise) i (pos 0))
-      && (sized performance-limit (getD (k .lower) i (pos 0)) && every 6 (λ f. default-fine unit-default-limit (getD (k .defaults) (6 * i + f) (pos 0))))))
+unfoldable pub figures-fine : Tally → Lent → Bool
+figures-fine t l = of-interval (t .interval) (l .figures) && every regions (region-fine l)
 
-  abbrev pub kept-fine : Bool
-  kept-fine = series-fine && (figures-fine && rows-fine)
+-- ---- of a unit: its home, both performances, six defaults
+abbrev pub row-fine : Lent → ℕ → Bool
+row-fine l i =
+    ltb (getD (l .homes) i 0) (2 * regions)
+    && (sized performance-limit (in-row l i 0)
+    && (sized performance-limit (in-row l i 1) && every 6 (λ f. default-fine unit-default-limit (in-row l i (2 + f)))))
+
+unfoldable pub rows-fine : Tally → Lent → Bool
+rows-fine t l = every (t .units) (row-fine l)
+
+abbrev pub kept-fine : Tally → Lent → Bool
+kept-fine t l = series-fine t l && (figures-fine t l && rows-fine t l)

@@ -12,7 +12,7 @@ use Rattle.integers.specs.Sums.{one, sumℕ, count}
 use Rattle.integers.proofs.Sums.{sumℕ-ext, sumℕ-zero, sumℕ-plus, sumℕ-times, sumℕ-scale, sumℕ-≤, sumℕ-<, some-term, one-≤, one-mono, count-≤, count-below}
 use Rattle.integers.proofs.Ranks.{rank, Total, ranked}
 use Rattle.integers.proofs.Division.{taken-≤, taken-rest}
-use Rattle.rules.specs.Share.{weight-sum, whole, remainder, left-over, ahead, given, amount, unplaced, with-weight}
+use Rattle.rules.specs.Share.{weight-sum, whole, remainder, left-over, ahead, gets-one, amount, unplaced, with-weight}
 
 -- ---- who comes first
 module _ (r : ℕ → ℕ) where
@@ -122,14 +122,14 @@ module _ (T n : ℕ) (w : ℕ → ℕ) (h : 0 < weight-sum n w) where
           go true e = omega arith
           go false e = omega (arith, ltb-false 0 r e)
 
-  pub amount-is : (i : ℕ) → amount T n w i ≡ whole T n w i + one (given T n w i)
+  pub amount-is : (i : ℕ) → amount T n w i ≡ whole T n w i + one (gets-one T n w i)
   unfolding amount
   amount-is i = rw (ne-eqb (weight-sum n w) 0 (λ e. omega arith))
 
   -- as many get one more as are left over
-  pub given-count : count n (given T n w) ≡ left-over T n w
-  unfolding given
-  given-count =
+  pub gets-one-count : count n (gets-one T n w) ≡ left-over T n w
+  unfolding gets-one
+  gets-one-count =
       ranked (ahead (remainder T n w)) (first-come (remainder T n w)) n (left-over T n w)
       (omega (arith, left-overs-remain, count-≤ n (λ i. ltb 0 (remainder T n w i))))
 
@@ -141,14 +141,14 @@ module _ (T n : ℕ) (w : ℕ → ℕ) (h : 0 < weight-sum n w) where
   pub share-adds-up : sumℕ n (amount T n w) ≡ T
   share-adds-up =
       sumℕ-ext n _ _ (λ i _. amount-is i)
-      ∙ sumℕ-plus n (whole T n w) (λ i. one (given T n w i))
-      ∙ ap (λ (x : ℕ). sumℕ n (whole T n w) + x) given-count
+      ∙ sumℕ-plus n (whole T n w) (λ i. one (gets-one T n w i))
+      ∙ ap (λ (x : ℕ). sumℕ n (whole T n w) + x) gets-one-count
       ∙ whole-and-rest
 
   -- one more only where there is a remainder
-  pub given-remainder : (i : ℕ) → given T n w i ≡ true → 0 < remainder T n w i
-  unfolding given
-  given-remainder i g = go (ltb 0 (remainder T n w i)) refl
+  pub gets-one-remainder : (i : ℕ) → gets-one T n w i ≡ true → 0 < remainder T n w i
+  unfolding gets-one
+  gets-one-remainder i g = go (ltb 0 (remainder T n w i)) refl
     where
       go : (t : Bool) → ltb 0 (remainder T n w i) ≡ t → 0 < remainder T n w i
       go true e = ltb-true 0 _ e
@@ -161,11 +161,11 @@ module _ (T n : ℕ) (w : ℕ → ℕ) (h : 0 < weight-sum n w) where
 
   -- every amount is less than one unit away from its exact share T·weight/W
   pub amount-close : (i : ℕ) → (amount T n w i * weight-sum n w < T * w i + weight-sum n w) × (T * w i < amount T n w i * weight-sum n w + weight-sum n w)
-  amount-close i = rw (amount-is i) (go (given T n w i) refl)
+  amount-close i = rw (amount-is i) (go (gets-one T n w i) refl)
     where
-      go : (t : Bool) → given T n w i ≡ t → ((whole T n w i + one t) * weight-sum n w < T * w i + weight-sum n w) ×
+      go : (t : Bool) → gets-one T n w i ≡ t → ((whole T n w i + one t) * weight-sum n w < T * w i + weight-sum n w) ×
           (T * w i < (whole T n w i + one t) * weight-sum n w + weight-sum n w)
-      go true e = omega (arith, div-add-mod' (T * w i) (weight-sum n w), mod-lt (T * w i) h, add-mul (whole T n w i) 1 (weight-sum n w), given-remainder i e)
+      go true e = omega (arith, div-add-mod' (T * w i) (weight-sum n w), mod-lt (T * w i) h, add-mul (whole T n w i) 1 (weight-sum n w), gets-one-remainder i e)
       go false e = omega (arith, div-add-mod' (T * w i) (weight-sum n w), mod-lt (T * w i) h, add-mul (whole T n w i) 0 (weight-sum n w))
 
 -- what is left over is less than the members with weight: refusal 13 is never given for a real share
@@ -198,10 +198,10 @@ one-more rest bound place left = ltb bound rest || eqb rest bound && ltb place l
 
 module _ (T n : ℕ) (w : ℕ → ℕ) {bound above : ℕ} (c : Cut T n w bound above) where
   -- so the cut says who gets one more
-  pub given-by-cut : (i : ℕ) → i < n → given T n w i ≡ one-more (remainder T n w i) bound (above + count i (λ j. eqb (remainder T n w j) bound))
+  pub gets-one-by-cut : (i : ℕ) → i < n → gets-one T n w i ≡ one-more (remainder T n w i) bound (above + count i (λ j. eqb (remainder T n w j) bound))
       (left-over T n w)
-  unfolding given
-  given-by-cut i h = go (ltb bound (r i)) refl (eqb (r i) bound) refl
+  unfolding gets-one
+  gets-one-by-cut i h = go (ltb bound (r i)) refl (eqb (r i) bound) refl
     where
       r : ℕ → ℕ
       r = remainder T n w

@@ -13,7 +13,7 @@ use Rattle.rules.specs.declared.Refusal.the-variants.{
   UnitField,
   UnitNotRising,
   RequirementField,
-  OutOfTurn,
+  WrongState,
   TooShort,
   LeftOvers,
 }
@@ -26,5 +26,5 @@ pub of-a-book :
     ≡ (1 ∷ 2 ∷ 3 ∷ 4 ∷ 5 ∷ 6 ∷ 7 ∷ 8 ∷ 9 ∷ 10 ∷ [])
 of-a-book = refl
 
-pub of-a-call : map number (OutOfTurn ∷ TooShort ∷ LeftOvers ∷ []) ≡ (11 ∷ 12 ∷ 13 ∷ [])
+pub of-a-call : map number (WrongState ∷ TooShort ∷ LeftOvers ∷ []) ≡ (11 ∷ 12 ∷ 13 ∷ [])
 of-a-call = refl

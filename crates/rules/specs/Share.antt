@@ -31,12 +31,12 @@ module _ (T n : ℕ) (w : ℕ → ℕ) where
   left-over = T - sumℕ n whole
 
   -- it goes one each to the largest remainders: to those that fewer members than are left over come before
-  unfoldable pub given : ℕ → Bool
-  given i = ltb (count n (λ j. ahead remainder j i)) left-over
+  unfoldable pub gets-one : ℕ → Bool
+  gets-one i = ltb (count n (λ j. ahead remainder j i)) left-over
 
   -- if W is 0 all get 0
   unfoldable pub amount : ℕ → ℕ
-  amount i = cond (eqb (weight-sum n w) 0) 0 (whole i + one (given i))
+  amount i = cond (eqb (weight-sum n w) 0) 0 (whole i + one (gets-one i))
 
   -- and T is unplaced
   unfoldable pub unplaced : ℕ

@@ -22,7 +22,7 @@ use Rattle.share.specs.declared.weights.Source.the-variants.{Helpful, Un
 use Rattle.share.specs.declared.SharedSigns.{SharedSigns}
 use Rattle.share.specs.declared.SharedSigns.the-variants.{Refused}
 use Rattle.share.specs.Weighing.{signed, sum-of}
-use Rattle.share.specs.Column.{placed, Clear}
+use Rattle.share.specs.Column.{shared-at, Clear}
 use Rattle.share.proofs.Column.{clear-column, all-placed}
 use Rattle.share.specs.declared.Tested.{Tested}
 use Rattle.share.specs.Promises.{where-taken, tested}
@@ -34,7 +34,7 @@ pub share-signs-only : (T : ℕ) (ps old : List ℤ) {r r′ : SharedSigns} {new
 share-signs-only T ps old a b = (a .reply ∙ sym (b .reply), a .amounts ∙ sym (b .amounts))
 
 -- without weight everything stays
-pub all-stay : (source : Source) (T : ℕ) (xs : List ℕ) (old : List ℤ) → sum-of xs ≡ 0 → old ≡ filled (length xs) (placed source T xs old) old
+pub all-stay : (source : Source) (T : ℕ) (xs : List ℕ) (old : List ℤ) → sum-of xs ≡ 0 → old ≡ filled (length xs) (shared-at source T xs old) old
 all-stay source T xs old e =
     sym (filled-same (length xs) (pos 0) old) ∙ filled-ext (length xs) _ _ old (λ i l. go i l (ltb 0 (weight-at xs i)) refl)
   where
@@ -47,21 +47,21 @@ all-stay source T xs old e =
 
 -- how a side's promise is met: by what the tests found
 pub side-met : (source : Source) (T : ℕ) (xs : List ℕ) (old : List ℤ) {r : ℕ} {new : List ℤ} (t : Tested) → t ≡ tested T xs (length old) →
-    r ≡ unplaced-or (found T t) T → new ≡ where-taken (found T t) (filled (length xs) (placed source T xs old) old) old → SidePlaced source T xs old r new
+    r ≡ unplaced-or (found T t) T → new ≡ where-taken (found T t) (filled (length xs) (shared-at source T xs old) old) old → SidePlaced source T xs old r new
 side-met source T xs old t e f g =
     let same : found T t ≡ share-reply T xs (length old) = ap (found T) e ∙ sym (tests-tell T xs (length old)) in
     record {
       unplaced = f ∙ ap (λ (y : Reply ℕ). unplaced-or y T) same;
-      amounts = g ∙ ap (λ (y : Reply ℕ). where-taken y (filled (length xs) (placed source T xs old) old) old) same;
+      amounts = g ∙ ap (λ (y : Reply ℕ). where-taken y (filled (length xs) (shared-at source T xs old) old) old) same;
     }
 
 -- what a side that is taken has left
 pub side-taken : {source : Source} {T : ℕ} {xs : List ℕ} {old new : List ℤ} {r u : ℕ} → SidePlaced source T xs old r new →
-    share-reply T xs (length old) ≡ taken u → (r ≡ u) × (new ≡ filled (length xs) (placed source T xs old) old)
+    share-reply T xs (length old) ≡ taken u → (r ≡ u) × (new ≡ filled (length xs) (shared-at source T xs old) old)
 side-taken {source} {T} {xs} {old} s e = (
   s .unplaced ∙ ap (λ (y : Reply ℕ). unplaced-or y T) e,
   s .amounts ∙ ap
-      (λ (y : Reply ℕ). where-taken y (filled (length xs) (placed source T xs old) old) old) e,
+      (λ (y : Reply ℕ). where-taken y (filled (length xs) (shared-at source T xs old) old) old) e,
 )
 
 -- ---- how the promise for both signs is met
@@ -102,9 +102,9 @@ module _ (T : ℕ) (ps old : List ℤ) (long : length ps ≤ length old) where
       rw (e, ← length-map ps gain) (clear-column Helpful T (map gain ps) old (omega (arith, length-map ps gain)))
 
   pub first-placed : (column : List ℤ) → column ≡ filled (length ps) (λ i. pos 0) old →
-      filled (length (map gain ps)) (placed Helpful T (map gain ps) column) column ≡ filled (length ps) credits old
+      filled (length (map gain ps)) (shared-at Helpful T (map gain ps) column) column ≡ filled (length ps) credits old
   first-placed column e =
-      ap (λ (z : List ℤ). filled (length (map gain ps)) (placed Helpful T (map gain ps) z) z)
+      ap (λ (z : List ℤ). filled (length (map gain ps)) (shared-at Helpful T (map gain ps) z) z)
       (e ∙ ap (λ (m : ℕ). filled m (λ i. pos 0) old) (sym (length-map ps gain)))
       ∙ all-placed Helpful T (map gain ps) old (omega (arith, length-map ps gain)) ∙ ap (λ (m : ℕ). filled m credits old) (length-map ps gain)
 
@@ -128,10 +128,10 @@ module _ (T : ℕ) (ps old : List ℤ) (long : length ps ≤ length old) where
       sym (ap (λ (b : ℕ). credits i -ℤ pos b) z ∙ +ℤ-idr (credits i))
 
   pub second-placed : (column : List ℤ) → column ≡ filled (length ps) credits old →
-      filled (length (map loss ps)) (placed Unhelpful T (map loss ps) column) column ≡ filled (length ps) (signs-at T ps) old
+      filled (length (map loss ps)) (shared-at Unhelpful T (map loss ps) column) column ≡ filled (length ps) (signs-at T ps) old
   second-placed column e =
-      ap (λ (z : List ℤ). filled (length (map loss ps)) (placed Unhelpful T (map loss ps) z) z) e
-      ∙ ap (λ (m : ℕ). filled m (placed Unhelpful T (map loss ps) (filled (length ps) credits old)) (filled (length ps) credits old)) (length-map ps loss)
-      ∙ filled-again (length ps) (placed Unhelpful T (map loss ps) (filled (length ps) credits old)) credits old
+      ap (λ (z : List ℤ). filled (length (map loss ps)) (shared-at Unhelpful T (map loss ps) z) z) e
+      ∙ ap (λ (m : ℕ). filled m (shared-at Unhelpful T (map loss ps) (filled (length ps) credits old)) (filled (length ps) credits old)) (length-map ps loss)
+      ∙ filled-again (length ps) (shared-at Unhelpful T (map loss ps) (filled (length ps) credits old)) credits old
       ∙ filled-ext (length ps) _ _ old (λ i l. ap (λ (z : ℤ). cond (ltb 0 (weight-at (map loss ps) i)) (negℤ (pos (share-of T (map loss ps) i))) z)
       (credit-at i l) ∙ one-side i (ltb 0 (weight-at (map loss ps) i)) refl)

@@ -11,7 +11,7 @@ use Rattle.rules.specs.Share.{share-of, share-reply}
 use Rattle.share.specs.declared.weights.Source.{Source}
 use Rattle.share.specs.declared.SharedSigns.{SharedSigns}
 use Rattle.share.specs.declared.SharedSigns.the-variants.{Placed, Refused}
-use Rattle.share.specs.Column.{placed}
+use Rattle.share.specs.Column.{shared-at}
 use Rattle.share.specs.Promises.{where-taken}
 
 -- the positive side's reply, then the negative side's: the first refusal is the answer
@@ -36,4 +36,4 @@ unplaced-or (refused f) T = T
 
 pub record SidePlaced (source : Source) (T : ℕ) (xs : List ℕ) (old : List ℤ) (r : ℕ) (new : List ℤ) : Type 0 where
   pub unplaced : r ≡ unplaced-or (share-reply T xs (length old)) T
-  pub amounts : new ≡ where-taken (share-reply T xs (length old)) (filled (length xs) (placed source T xs old) old) old
+  pub amounts : new ≡ where-taken (share-reply T xs (length old)) (filled (length xs) (shared-at source T xs old) old) old

@@ -11,7 +11,7 @@ use Rattle.integers.specs.Fills.{filled}
 use Rattle.integers.proofs.Fills.{filled-length}
 use Rattle.share.specs.declared.Tested.the-variants.{Ready, Weightless, Unfit}
 use Rattle.share.specs.Weighing.{weighed, signed}
-use Rattle.share.specs.Column.{placed, Clear}
+use Rattle.share.specs.Column.{shared-at, Clear}
 use Rattle.share.proofs.Column.{clear-column, all-placed, nothing-placed}
 use Rattle.share.specs.Promises.{tested}
 use Rattle.share.proofs.Promises.{Passed, passed, weightless, met}
@@ -97,7 +97,7 @@ returns c =
     let u = k .before .before .before in
     let s = S (test u) in
     met (signed (s .args .source)) (s .args .total) (xs s) (old s) (Ready (u .sum .given .0 .0)) (ready u) refl
-    (c .before .place .ensures ∙ ap (λ (z : List ℤ). filled (length (xs s)) (placed (s .args .source) (s .args .total) (xs s) z) z) (cleared k)
+    (c .before .place .ensures ∙ ap (λ (z : List ℤ). filled (length (xs s)) (shared-at (s .args .source) (s .args .total) (xs s) z) z) (cleared k)
     ∙ all-placed (s .args .source) (s .args .total) (xs s) (old s) (known u .roomy))
 
 same-length-2 : tie.Need-same-length-2
