@@ -17,7 +17,6 @@ use Rattle.rules.specs.Quantities.{most-units, total-limit, weight-limit, billi
 use Rattle.rules.specs.Cents.{any-weight}
 use Rattle.rules.specs.Refusals.{Reply, taken}
 use Rattle.rules.specs.Share.{weight-sum, weight-at, share-of, unplaced-of, share-reply}
-use Rattle.laws.proofs.ShareLaws.{never-left-overs}
 use Rattle.kept.specs.Kept.{Kept, kept-members}
 use Rattle.share.specs.declared.Shared.{Shared}
 use Rattle.share.specs.declared.Shared.the-variants.{Placed}
@@ -49,7 +48,6 @@ fits-taken {T} {side} {ps} {room} h =
       le-leb (length ws) room (h .roomy),
       le-leb T total-limit (h .total),
       le-leb (weight-sum (length ws) (weight-at ws)) weight-limit (rw (total-indexes ws) (h .weights)),
-      never-left-overs T (length ws) (weight-at ws),
     )
 
 pub charged :
