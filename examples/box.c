@@ -8,26 +8,19 @@ int putchar(int c);
 
 enum { UNITS = DULLAVANE_MOST_UNITS, MEMBERS = UNITS + 1, REQUIREMENT = DULLAVANE_REQUIREMENT_SIZE };
 
-/* All that is lent, 63,785 bytes in all with the bytes that are read. */
+/* All that is lent, 63,525 bytes in all with the bytes that are read. */
 static uint32_t tally[DULLAVANE_TALLY_WORDS];
-static union {
-    uint32_t frequencies[DULLAVANE_POINTS]; /* while frequency records come */
-    int32_t readings[DULLAVANE_POINTS];     /* while units come */
-} points;
-static int32_t measures[DULLAVANE_SERIES];
-static int64_t positive[DULLAVANE_SERIES], negative[DULLAVANE_SERIES];
-static int64_t figures[DULLAVANE_FIGURES];
+static int32_t measures[DULLAVANE_MEASURES];
+static int64_t sums[DULLAVANE_SUMS], figures[DULLAVANE_FIGURES];
 static uint16_t numbers[UNITS];
-static uint8_t places[UNITS];
-static int64_t raise[UNITS], lower[UNITS], defaults[6 * UNITS];
+static uint8_t homes[UNITS];
+static int64_t rows[DULLAVANE_ROW * UNITS];
 static int64_t performances[MEMBERS], factors[MEMBERS], payments[MEMBERS], used[MEMBERS], unused[MEMBERS];
 
 /* The requirements' bytes are kept until they are answered. The other records come before them and are read into the same bytes. */
 static uint8_t bytes[DULLAVANE_MOST_REQUIREMENTS * REQUIREMENT + 1];
 
 #define LENT(list) list, sizeof(list) / sizeof(list[0])
-/* A unit's deviations are of no use once it is taken, and the columns of the answers are not needed yet. */
-#define DEVIATIONS performances, DULLAVANE_POINTS
 
 /* As many of the next n bytes as there are. */
 static uint64_t take(uint8_t *to, uint64_t n) {
@@ -38,13 +31,12 @@ static uint64_t take(uint8_t *to, uint64_t n) {
 
 static uint32_t take_frequency(void) {
     uint64_t n = take(bytes, DULLAVANE_FREQUENCY_SIZE);
-    return dullavane_frequency(LENT(tally), bytes, n, LENT(points.frequencies), LENT(measures), LENT(positive), LENT(negative), LENT(figures));
+    return dullavane_frequency(LENT(tally), bytes, n, LENT(measures), LENT(sums), LENT(figures));
 }
 
 static uint32_t take_unit(void) {
     uint64_t n = take(bytes, DULLAVANE_UNIT_SIZE);
-    return dullavane_unit(LENT(tally), bytes, n, LENT(points.readings), DEVIATIONS, LENT(measures), LENT(positive), LENT(negative), LENT(numbers),
-                          LENT(places), LENT(raise), LENT(lower), LENT(defaults));
+    return dullavane_unit(LENT(tally), bytes, n, LENT(measures), LENT(sums), LENT(figures), LENT(numbers), LENT(homes), LENT(rows));
 }
 
 /* The last one is handed on with a byte more, if there is one: then bytes follow the book. */
@@ -97,9 +89,8 @@ static void put_member(uint64_t standing, uint64_t i) {
 
 static uint32_t put_answer(const uint8_t *requirement) {
     uint64_t reply[DULLAVANE_REPLY_WORDS];
-    uint32_t no = dullavane_answer(LENT(tally), requirement, REQUIREMENT, LENT(measures), LENT(positive), LENT(negative), LENT(figures),
-                                   LENT(places), LENT(raise), LENT(lower), LENT(defaults), LENT(performances), LENT(factors), LENT(payments),
-                                   LENT(used), LENT(unused), LENT(reply));
+    uint32_t no = dullavane_answer(LENT(tally), requirement, REQUIREMENT, LENT(measures), LENT(sums), LENT(figures), LENT(homes), LENT(rows),
+                                   LENT(performances), LENT(factors), LENT(payments), LENT(used), LENT(unused), LENT(reply));
     if (no) return no;
     put_text("requirement ");
     put_natural((uint64_t)(requirement[0] + 256 * requirement[1]));
@@ -109,7 +100,7 @@ static uint32_t put_answer(const uint8_t *requirement) {
     uint64_t at = 0;
     for (uint32_t row = 0; row < tally[0]; row++) {
         uint32_t member[DULLAVANE_MEMBER_WORDS];
-        no = dullavane_member(LENT(tally), row, requirement[3], requirement[2], LENT(figures), LENT(numbers), LENT(places), LENT(member));
+        no = dullavane_member(LENT(tally), row, requirement[3], requirement[2], LENT(figures), LENT(numbers), LENT(homes), LENT(member));
         if (no) return no;
         if (!member[DULLAVANE_IS_MEMBER]) continue;
         put_text("unit ");

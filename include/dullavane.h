@@ -18,7 +18,9 @@
        [2] records taken after the contents      [6] bad-unit percent, 0 to 100
        [3] least number the next may have        [7] interval number
    It can be copied, stored and handed in again with the lists as they were at that time. Words that no chain of calls could have left are
-   safe: a call answers, or refuses with 11.
+   safe: a call answers, or refuses with 11. So is a stored tally over lists that another book has begun to fill since: each region's figures keep the
+   interval number of their book, and from the other book's first frequency record on dullavane_unit, dullavane_answer and dullavane_member
+   refuse the tally with 11. Only a book sent again under the same interval number is not told apart from the one before.
 
    A PART is the bytes of the book that start at the record whose turn it is: at least the record, or as many as there are. Only the last
    requirement looks past its record: there the part has to be all that is left of the book, so that bytes too many are seen (refusal 4).
@@ -44,7 +46,8 @@
         8  a field of a unit breaks its rule
         9  a unit's number does not rise
        10  a field of a requirement breaks its rule, or its number does not rise
-       11  not this call's turn; or the tally, or a lent number that the call reads, is out of range: none that these calls leave is
+       11  not this call's turn; or the tally, or a lent number that the call reads, is out of range: none that these calls leave is; or a region's
+           figures are of another interval than the tally
        12  a lent list is too short
        14  the average of a week is below the limit of its field in a book
        17  a week of more than 2,016 intervals, or a live performance that no such member can have
@@ -54,22 +57,18 @@
 
    LISTS TO LEND (N is the number of units, at most 512)                                   bytes at N = 512
        tally          8 uint32_t                                                                         32
-       frequencies    75 uint32_t, of the region taken last; of no use afterwards                       300
-       readings       75 int32_t, of the unit taken last; of no use afterwards                          300
-       deviations     75 int64_t, of the unit taken last; of no use afterwards                          600
        measures       375 int32_t, region r from 75 r on                                              1,500
-       positive       375 int64_t, sums of deviations above zero, likewise                            3,000
-       negative       375 int64_t, sums of deviations below zero, likewise                            3,000
-       figures        45 int64_t, 9 a region: generation, raise reliable, lower reliable, six defaults  360
+       sums           750 int64_t, 150 a region: at 150 r + t the sum of the deviations above zero    6,000
+                      at point t (0 to 74), at 150 r + 75 + t that of the deviations below zero
+       figures        50 int64_t, 10 a region: interval number of its book, generation, raise           400
+                      reliable (1 or 0), lower reliable, six defaults
        numbers        N uint16_t, a unit's number, in the order of the book                           1,024
-       places         N uint8_t, 2 x region, 1 more where no reading is bad                             512
-       raise          N int64_t, performances                                                         4,096
-       lower          N int64_t, performances                                                         4,096
-       defaults       6 N int64_t, six a unit                                                        24,576
+       homes          N uint8_t, 2 x region, 1 more where no reading is bad                             512
+       rows           8 N int64_t, 8 a unit: performance for raise, for lower, six defaults          32,768
    and for the answers
        performances, factors, payments, used, unused    N + 1 int64_t each                           20,520
        reply          DULLAVANE_REPLY_WORDS uint64_t
-   Lists that are never needed at once may share memory: frequencies, readings and deviations with the answers' columns.
+   None of them is scratch: what is kept of a book is needed as long as the book is, and columns and reply hold the answer given last.
 
    DEFAULTS FROM SEVEN DAYS OF RECORD (the Procedure, 6.4.1) are worked out by four calls of their own, which need no tally: the sum of
    min(0, performance) over the live intervals of a week, divided by their number, to the nearest whole number, halves away from zero; 0 where
@@ -98,8 +97,10 @@ enum {
     DULLAVANE_TALLY_WORDS = 8,
     DULLAVANE_REGIONS = 5,
     DULLAVANE_POINTS = 75,
-    DULLAVANE_SERIES = 375,
-    DULLAVANE_FIGURES = 45,
+    DULLAVANE_MEASURES = 375,
+    DULLAVANE_SUMS = 750,
+    DULLAVANE_FIGURES = 50,
+    DULLAVANE_ROW = 8,
     DULLAVANE_MOST_UNITS = 512,
     DULLAVANE_MOST_REQUIREMENTS = 32,
     DULLAVANE_CONTENTS_SIZE = 56,
@@ -144,22 +145,18 @@ uint32_t dullavane_contents(const uint8_t *part, uint64_t part_bytes, uint32_t *
 /* Takes the settings. Refuses 12, 11, 1, 6. */
 uint32_t dullavane_settings(uint32_t *tally, uint64_t tally_words, const uint8_t *part, uint64_t part_bytes);
 
-/* Takes the frequency record of the next region: writes its 75 frequencies, its measures and figures, and sets its sums to 0. Refuses 12, 11, 12,
-   1, 7. */
+/* Takes the frequency record of the next region: writes its 75 measures and its 10 figures, and sets its 150 sums to 0. Refuses 12, 11, 12, 1, 7. */
 uint32_t dullavane_frequency(uint32_t *tally, uint64_t tally_words, const uint8_t *part, uint64_t part_bytes,
-                             uint32_t *frequencies, uint64_t frequencies_length, int32_t *measures, uint64_t measures_length,
-                             int64_t *positive, uint64_t positive_length, int64_t *negative, uint64_t negative_length,
+                             int32_t *measures, uint64_t measures_length, int64_t *sums, uint64_t sums_length,
                              int64_t *figures, uint64_t figures_length);
 
-/* Takes a unit: writes its readings and deviations, adds the deviations to its region's sums if no reading is bad, and fills its row in the five
-   columns. The columns have to have room for this row only. Refuses 12, 11, 12, 11 (a measure or a sum of the region that the record names is out
-   of range), 1, 8, 9. */
+/* Takes a unit: adds its deviations to its region's sums if no reading is bad, and writes its number, its home and its row. When k units are taken,
+   numbers and homes have to be longer than k, and rows at least 8 k + 8. Refuses 12, 11, 12, 11 (figures of another interval; a measure or a sum of the
+   region that the record names is out of range), 1, 8, 9. */
 uint32_t dullavane_unit(uint32_t *tally, uint64_t tally_words, const uint8_t *part, uint64_t part_bytes,
-                        int32_t *readings, uint64_t readings_length, int64_t *deviations, uint64_t deviations_length,
-                        const int32_t *measures, uint64_t measures_length, int64_t *positive, uint64_t positive_length,
-                        int64_t *negative, uint64_t negative_length, uint16_t *numbers, uint64_t numbers_length,
-                        uint8_t *places, uint64_t places_length, int64_t *raise, uint64_t raise_length,
-                        int64_t *lower, uint64_t lower_length, int64_t *defaults, uint64_t defaults_length);
+                        const int32_t *measures, uint64_t measures_length, int64_t *sums, uint64_t sums_length,
+                        const int64_t *figures, uint64_t figures_length, uint16_t *numbers, uint64_t numbers_length,
+                        uint8_t *homes, uint64_t homes_length, int64_t *rows, uint64_t rows_length);
 
 /* Takes a requirement. Nothing of it is kept but its number's successor: keep its 24 bytes for dullavane_answer. With the last one the book ends.
    Refuses 12, 11, 1, 10, and with the last one 4. */
@@ -168,13 +165,12 @@ uint32_t dullavane_requirement(uint32_t *tally, uint64_t tally_words, const uint
 /* Answers a requirement, from its 24 bytes and what the calls have left in the lists; it may be asked again, and changes nothing but the five columns and
    the reply. Each column has one number for every member, in this order: the units of the requirement's regions as they stand in the book, then one
    residual; numbers past those stay. In performances 1 MWHz is 7,500,000,000, factors are billionths, payments, used and unused are cents, and charges
-   are negative. Each column has to have room for tally[0] + 1 numbers. Refuses 12, 11 (also before the last unit), 12, 11 (a lent number is out of
-   range), 1, 10. */
+   are negative. Homes have to be tally[0] long, rows 8 x tally[0], each column tally[0] + 1. Refuses 12, 11 (also before the last unit), 12, 11
+   (figures of another interval; a lent number is out of range), 1, 10. */
 uint32_t dullavane_answer(const uint32_t *tally, uint64_t tally_words, const uint8_t *part, uint64_t part_bytes,
-                          const int32_t *measures, uint64_t measures_length, const int64_t *positive, uint64_t positive_length,
-                          const int64_t *negative, uint64_t negative_length, const int64_t *figures, uint64_t figures_length,
-                          const uint8_t *places, uint64_t places_length, const int64_t *raise, uint64_t raise_length,
-                          const int64_t *lower, uint64_t lower_length, const int64_t *defaults, uint64_t defaults_length,
+                          const int32_t *measures, uint64_t measures_length, const int64_t *sums, uint64_t sums_length,
+                          const int64_t *figures, uint64_t figures_length, const uint8_t *homes, uint64_t homes_length,
+                          const int64_t *rows, uint64_t rows_length,
                           int64_t *performances, uint64_t performances_length, int64_t *factors, uint64_t factors_length,
                           int64_t *payments, uint64_t payments_length, int64_t *used, uint64_t used_length,
                           int64_t *unused, uint64_t unused_length, uint64_t *reply, uint64_t reply_words);
@@ -182,10 +178,10 @@ uint32_t dullavane_answer(const uint32_t *tally, uint64_t tally_words, const uin
 /* Says who stands in a row of the roster (0 is the first unit) for a requirement of this direction (byte 3 of its record: 0 raise, 1 lower) and region
    set (byte 2). The members of an answer's columns are the rows that are members, in their order, and then the residual. Refuses 12 (the tally's words),
    11 (the tally; before the last unit; a row, direction or set over its width), 12 (no room for the three words), 11 (no such row or set), 12 (a list),
-   11 (a lent number is out of range). */
+   11 (figures of another interval; a lent number is out of range). */
 uint32_t dullavane_member(const uint32_t *tally, uint64_t tally_words, uint32_t row, uint32_t direction, uint32_t set,
                           const int64_t *figures, uint64_t figures_length, const uint16_t *numbers, uint64_t numbers_length,
-                          const uint8_t *places, uint64_t places_length, uint32_t *member, uint64_t member_words);
+                          const uint8_t *homes, uint64_t homes_length, uint32_t *member, uint64_t member_words);
 
 /* Count and default of one member's week, from a list of performances and their live bits. Refuses 12 (fewer bytes than the bits need, or no room for the
    two numbers), 5, 17, 14. */

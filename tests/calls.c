@@ -13,17 +13,14 @@ extern int printf(const char *form, ...);
 extern void exit(int status);
 extern int strcmp(const char *a, const char *b);
 
-enum { TALLY, FREQUENCIES, READINGS, DEVIATIONS, MEASURES, POSITIVE, NEGATIVE, FIGURES, NUMBERS, PLACES, RAISE, LOWER, DEFAULTS,
-       PERFORMANCES, FACTORS, PAYMENTS, USED, UNUSED, REPLY, MEMBER, LISTS };
-enum { MOST = 6 * 512 + 64, BEHIND = 3, LONGEST_WORD = 1 << 14 };
+enum { TALLY, MEASURES, SUMS, FIGURES, NUMBERS, HOMES, ROWS, PERFORMANCES, FACTORS, PAYMENTS, USED, UNUSED, REPLY, MEMBER, LISTS };
+enum { MOST = 8 * 512 + 64, BEHIND = 3, LONGEST_WORD = 1 << 14 };
 
 /* A list: the bytes of one of its numbers, whether they have a sign, how many are lent, how many stand there. */
 static struct { const char *name; u32 width, sign; u64 lent, there; } lists[LISTS] = {
-    {"tally", 4, 0, 0, 0},      {"frequencies", 4, 0, 0, 0}, {"readings", 4, 1, 0, 0}, {"deviations", 8, 1, 0, 0}, {"measures", 4, 1, 0, 0},
-    {"positive", 8, 1, 0, 0},   {"negative", 8, 1, 0, 0},    {"figures", 8, 1, 0, 0},  {"numbers", 2, 0, 0, 0},    {"places", 1, 0, 0, 0},
-    {"raise", 8, 1, 0, 0},      {"lower", 8, 1, 0, 0},       {"defaults", 8, 1, 0, 0}, {"performances", 8, 1, 0, 0},
-    {"factors", 8, 1, 0, 0},    {"payments", 8, 1, 0, 0},    {"used", 8, 1, 0, 0},     {"unused", 8, 1, 0, 0},     {"reply", 8, 0, 0, 0},
-    {"member", 4, 0, 0, 0}};
+    {"tally", 4, 0, 0, 0}, {"measures", 4, 1, 0, 0}, {"sums", 8, 1, 0, 0}, {"figures", 8, 1, 0, 0}, {"numbers", 2, 0, 0, 0},
+    {"homes", 1, 0, 0, 0}, {"rows", 8, 1, 0, 0}, {"performances", 8, 1, 0, 0}, {"factors", 8, 1, 0, 0},
+    {"payments", 8, 1, 0, 0}, {"used", 8, 1, 0, 0}, {"unused", 8, 1, 0, 0}, {"reply", 8, 0, 0, 0}, {"member", 4, 0, 0, 0}};
 static u64 room[LISTS][MOST];
 static char word[LONGEST_WORD];
 static u8 part[LONGEST_WORD / 2];
@@ -108,45 +105,37 @@ static u32 part_word(u64 place, u64 bytes) {
 
 #define LENT(list) room[list], lists[list].lent
 #define LENT_AS(type, list) (type *)room[list], lists[list].lent
-#define SERIES LENT_AS(i32, MEASURES), LENT_AS(i64, POSITIVE), LENT_AS(i64, NEGATIVE)
-#define ROWS LENT_AS(u8, PLACES), LENT_AS(i64, RAISE), LENT_AS(i64, LOWER), LENT_AS(i64, DEFAULTS)
+#define TALLY_AND_PART LENT_AS(u32, TALLY), part, bytes
+#define SERIES_AND_FIGURES LENT_AS(i32, MEASURES), LENT_AS(i64, SUMS), LENT_AS(i64, FIGURES)
+#define COLUMNS LENT_AS(i64, PERFORMANCES), LENT_AS(i64, FACTORS), LENT_AS(i64, PAYMENTS), LENT_AS(i64, USED), LENT_AS(i64, UNUSED)
 
+/* Prints a call's reply and what its lists hold after it. */
 static void print_call(const char *kind, u32 reply, const int *lent, int count) {
     printf("%s %u", kind, reply);
     for (int i = 0; i < count; i++) print_list(lent[i]);
     printf("\n");
 }
+#define PRINT(kind, reply, lent) print_call(kind, reply, lent, (int)(sizeof(lent) / sizeof(lent[0])))
 
 static void call(void) {
-    static const int tally[] = {TALLY};
-    static const int frequency[] = {TALLY, FREQUENCIES, MEASURES, POSITIVE, NEGATIVE, FIGURES};
-    static const int unit[] = {TALLY, READINGS, DEVIATIONS, MEASURES, POSITIVE, NEGATIVE, NUMBERS, PLACES, RAISE, LOWER, DEFAULTS};
-    char kind = 0, second = 0;
+    static const int tally[] = {TALLY}, frequency[] = {TALLY, MEASURES, SUMS, FIGURES};
+    static const int unit[] = {TALLY, MEASURES, SUMS, FIGURES, NUMBERS, HOMES, ROWS}, member[] = {TALLY, FIGURES, NUMBERS, HOMES, MEMBER};
+    static const int answer[] = {TALLY, MEASURES, SUMS, FIGURES, HOMES, ROWS, PERFORMANCES, FACTORS, PAYMENTS, USED, UNUSED, REPLY};
     next_word();
-    kind = word[0];
-    second = word[1];
+    char kind = word[0];
     next_word();
     u64 bytes = take_part();
-    if (kind == 'c') print_call("contents", dullavane_contents(part, bytes, LENT_AS(u32, TALLY)), tally, 1);
-    else if (kind == 's') print_call("settings", dullavane_settings(LENT_AS(u32, TALLY), part, bytes), tally, 1);
-    else if (kind == 'f')
-        print_call("frequency", dullavane_frequency(LENT_AS(u32, TALLY), part, bytes, LENT_AS(u32, FREQUENCIES), SERIES, LENT_AS(i64, FIGURES)),
-                   frequency, 6);
+    if (kind == 'c') PRINT("contents", dullavane_contents(part, bytes, LENT_AS(u32, TALLY)), tally);
+    else if (kind == 's') PRINT("settings", dullavane_settings(TALLY_AND_PART), tally);
+    else if (kind == 'f') PRINT("frequency", dullavane_frequency(TALLY_AND_PART, SERIES_AND_FIGURES), frequency);
     else if (kind == 'u')
-        print_call("unit", dullavane_unit(LENT_AS(u32, TALLY), part, bytes, LENT_AS(i32, READINGS), LENT_AS(i64, DEVIATIONS), SERIES,
-                                          LENT_AS(u16, NUMBERS), ROWS), unit, 11);
-    else if (kind == 'r' && second == 'e') print_call("requirement", dullavane_requirement(LENT_AS(u32, TALLY), part, bytes), tally, 1);
-    else if (kind == 'a') {
-        static const int answer[] = {TALLY, MEASURES, POSITIVE, NEGATIVE, FIGURES, PLACES, RAISE, LOWER, DEFAULTS,
-                                     PERFORMANCES, FACTORS, PAYMENTS, USED, UNUSED, REPLY};
-        print_call("answer", dullavane_answer(LENT_AS(u32, TALLY), part, bytes, SERIES, LENT_AS(i64, FIGURES), ROWS, LENT_AS(i64, PERFORMANCES),
-                                              LENT_AS(i64, FACTORS), LENT_AS(i64, PAYMENTS), LENT_AS(i64, USED), LENT_AS(i64, UNUSED),
-                                              LENT(REPLY)), answer, 15);
-    } else if (kind == 'm') {
-        static const int member[] = {TALLY, FIGURES, NUMBERS, PLACES, MEMBER};
-        print_call("member", dullavane_member(LENT_AS(u32, TALLY), part_word(0, bytes), part_word(1, bytes), part_word(2, bytes), LENT_AS(i64, FIGURES),
-                                              LENT_AS(u16, NUMBERS), LENT_AS(u8, PLACES), LENT_AS(u32, MEMBER)), member, 5);
-    }
+        PRINT("unit", dullavane_unit(TALLY_AND_PART, SERIES_AND_FIGURES, LENT_AS(u16, NUMBERS), LENT_AS(u8, HOMES), LENT_AS(i64, ROWS)), unit);
+    else if (kind == 'r') PRINT("requirement", dullavane_requirement(TALLY_AND_PART), tally);
+    else if (kind == 'a')
+        PRINT("answer", dullavane_answer(TALLY_AND_PART, SERIES_AND_FIGURES, LENT_AS(u8, HOMES), LENT_AS(i64, ROWS), COLUMNS, LENT(REPLY)), answer);
+    else if (kind == 'm')
+        PRINT("member", dullavane_member(LENT_AS(u32, TALLY), part_word(0, bytes), part_word(1, bytes), part_word(2, bytes), LENT_AS(i64, FIGURES),
+                                         LENT_AS(u16, NUMBERS), LENT_AS(u8, HOMES), LENT_AS(u32, MEMBER)), member);
     else stop("no call");
 }
 

@@ -45,7 +45,8 @@ fn tied_unit(number: usize) -> Unit {
 
 fn hard_unit(chance: &mut Chance, number: usize, units: usize) -> Unit {
     let mut unit = spread_unit(chance, number);
-    let apart = (1 << (number * 38 / units)) + ((number * 38 % units) << (number * 38 / units)) as i128 / units as i128;
+    let apart = (1 << (number * 38 / units))
+        + ((number * 38 % units) << (number * 38 / units)) as i128 / units as i128;
     let side = if number.is_multiple_of(2) { 1 } else { -1 };
     unit.defaults = [-(500_000_000_000 + side * apart); 6];
     unit

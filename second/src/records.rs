@@ -30,28 +30,26 @@ fn number_before(word: Option<&str>) -> Option<i128> {
 
 fn frequency_in_numbers(record: FrequencyRecord) -> String {
     format!(
-        "{} {} {} {} {} {} {}",
+        "{} {} {} {} {} {}",
         record.region,
         i128::from(record.separation),
         marks(&record.good),
         record.measure_before,
         record.generation,
-        joined(record.defaults),
-        joined(record.frequencies)
+        joined(record.defaults)
     )
 }
 
 fn unit_in_numbers(unit: Unit) -> String {
     format!(
-        "{} {} {} {} {} {} {} {}",
+        "{} {} {} {} {} {} {}",
         unit.number,
         unit.region,
         i128::from(unit.load),
         unit.start,
         unit.end,
         joined(unit.defaults),
-        marks(&unit.good),
-        joined(unit.readings)
+        marks(&unit.good)
     )
 }
 

@@ -1,6 +1,11 @@
 //! Scripts of random calls for the model in `boundary` and for the library's own boundary: chains over
-//! made books that are disturbed on the way, and tallies and lent numbers of any kind.
+//! made books that are disturbed on the way, tallies and lent numbers of any kind, tallies that were stored
+//! while the next book was begun over their lists (`stored`), and once every limit (`limits`).
 
+mod limits;
+mod stored;
+
+use std::collections::{BTreeMap, BTreeSet};
 use std::io::Write;
 
 use crate::book::*;
@@ -13,15 +18,28 @@ use crate::write::to_bytes;
 
 const RECORD_CALLS: [&str; 4] = ["settings", "frequency", "unit", "requirement"];
 const SMALL_ROSTERS: [usize; 9] = [0, 1, 1, 2, 2, 3, 5, 7, 13];
+/// Lists are mostly exactly as long as they have to be.
+const EXACT_OR_MORE: [usize; 5] = [0, 0, 0, 1, 5];
 
-/// The bytes of a made book, and how many units and requirements it has.
+/// The bytes of a made book, its interval number, and how many units and requirements it has.
+#[derive(Clone)]
 struct Made {
     bytes: Vec<u8>,
+    interval: i128,
     units: usize,
     requirements: usize,
 }
 
 impl Made {
+    fn of(book: &Book) -> Made {
+        Made {
+            bytes: to_bytes(book),
+            interval: book.settings.interval,
+            units: book.units.len(),
+            requirements: book.requirements.len(),
+        }
+    }
+
     /// Where the record that comes after so many others starts, its size and its call.
     fn record(&self, records: usize) -> (usize, usize, &'static str) {
         let units_from = 1 + REGIONS;
@@ -67,19 +85,15 @@ fn words(numbers: &[i128]) -> String {
     numbers.iter().map(|number| number.to_string()).collect::<Vec<_>>().join(" ")
 }
 
-/// How many numbers of a list a book of so many units needs.
-fn needed(name: &str, units: usize) -> usize {
-    match name {
-        "tally" => TALLY_WORDS,
-        "frequencies" | "readings" | "deviations" => POINTS,
-        "measures" | "positive" | "negative" => SERIES,
-        "figures" => FIGURES_OF_A_REGION * REGIONS,
-        "numbers" | "places" | "raise" | "lower" => units,
-        "defaults" => 6 * units,
-        "reply" => REPLY_WORDS,
-        "member" => MEMBER_WORDS,
-        _ => units + 1,
-    }
+/// The numbers that the list's type can hold.
+fn span(name: &str) -> (i128, i128) {
+    let &(_, lowest, highest) = NAMES.iter().find(|(known, ..)| *known == name).expect("a list");
+    (lowest, highest)
+}
+
+/// A tally with so many units, all taken: what a list of it needs, every call can do with.
+fn all_taken(units: usize) -> Tally {
+    Tally::from_words(&[units as i128, 1, 6 + units as i128, 0, 1, 0, 0, 0])
 }
 
 /// A script on its way out, with the model run along so that the next line can fit.
@@ -89,11 +103,14 @@ pub struct Script<W: Write> {
     out: W,
     answers: bool,
     pub calls: usize,
+    /// What calls replied in the situations that `limits` and `stored` bring about.
+    pub met: BTreeMap<String, BTreeSet<u8>>,
 }
 
 impl<W: Write> Script<W> {
     pub fn new(seed: u64, answers: bool, out: W) -> Script<W> {
-        Script { chance: Chance::new(seed), lent: Lent::default(), out, answers, calls: 0 }
+        let (chance, lent) = (Chance::new(seed), Lent::default());
+        Script { chance, lent, out, answers, calls: 0, met: BTreeMap::new() }
     }
 
     fn say(&mut self, line: String) {
@@ -113,12 +130,23 @@ impl<W: Write> Script<W> {
         }
     }
 
+    fn meet(&mut self, situation: String, reply: u8) {
+        self.met.entry(situation).or_default().insert(reply);
+    }
+
     /// Any number that the list's type can hold, or one next to nothing.
     fn any_number(&mut self, name: &str) -> i128 {
-        let &(_, lowest, highest) = NAMES.iter().find(|(known, ..)| *known == name).expect("a list");
+        let (lowest, highest) = span(name);
         let drawn = self.chance.between(lowest, highest);
         let small = self.chance.any_size(highest);
         self.chance.pick(&[lowest, highest, drawn, drawn, small, small, 0, 1])
+    }
+
+    /// An interval number, its ends too.
+    fn interval_number(&mut self) -> i128 {
+        let last = u32::MAX as i128;
+        let drawn = self.chance.between(0, last);
+        self.chance.pick(&[0, 1, last - 1, last, drawn, drawn, drawn, drawn])
     }
 
     fn made_book(&mut self) -> Made {
@@ -129,15 +157,17 @@ impl<W: Write> Script<W> {
         let mut book = make(self.chance.draw(), class, Some(roster)).expect("a class of the list");
         let most = self.chance.pick(&[1, 1, 2, 3, 32]);
         book.requirements.truncate(most);
-        Made { bytes: to_bytes(&book), units: roster, requirements: book.requirements.len() }
+        book.settings.interval = self.interval_number();
+        Made::of(&book)
     }
 
-    /// Every list lent anew, exactly as long as it has to be or longer, all of one number.
-    fn lend_all(&mut self, units: usize) {
+    /// Every list lent anew for so many units, with one of these numbers of places more, all of one number.
+    fn lend_all(&mut self, units: usize, more: &[usize]) {
         for (name, ..) in NAMES {
-            let more = self.chance.pick(&[0, 0, 0, 1, 5]);
+            let more = self.chance.pick(more);
             let number = self.any_number(name);
-            self.say(format!("list {name} {} {number}", needed(name, units) + more));
+            let length = length_for("answer", name, &all_taken(units)) + more;
+            self.say(format!("list {name} {length} {number}"));
         }
     }
 
@@ -155,7 +185,7 @@ impl<W: Write> Script<W> {
     /// A whole book in turn, disturbed before each record.
     fn chain(&mut self) {
         let made = self.made_book();
-        self.lend_all(made.units);
+        self.lend_all(made.units, &EXACT_OR_MORE);
         self.call("contents", part(&made.bytes, 0, CONTENTS_SIZE));
         let disturbed_one_in = if made.units > 20 { 20 } else { 2 };
         let mut refused = 0;
@@ -198,10 +228,11 @@ impl<W: Write> Script<W> {
         let drawn = self.chance.between(1, 31) as u32;
         let set = self.chance.pick(&[drawn, drawn, drawn, 31, 31, 0, 32, 255, 256, u32::MAX]);
         let bytes = [row, direction, set].map(u32::to_le_bytes).concat();
-        match self.chance.place(6) {
+        match self.chance.place(8) {
             0 => self.call_with_a_short_list("member", &bytes),
             1 => self.call_with_a_word_off("member", &bytes),
             2 => self.call_with_a_number_off("member", &bytes),
+            3 => self.call_with_an_interval_off("member", &bytes),
             _ => {
                 self.call("member", &bytes);
             }
@@ -214,6 +245,9 @@ impl<W: Write> Script<W> {
         let (start, size, turn) = made.record(records);
         let kind = if asked { "answer" } else { turn };
         let honest = self.honest_part(made, records);
+        if self.chance.one_in(10) {
+            self.call_with_an_interval_off(kind, &honest);
+        }
         match self.chance.place(10) {
             0 | 1 => {
                 let broken = self.broken(made, start, size);
@@ -271,15 +305,28 @@ impl<W: Write> Script<W> {
         if other == kind {
             // The table of contents begins a new chain, if its bytes are a table.
             let length = self.chance.pick(&[0, 8, CONTENTS_SIZE - 1, CONTENTS_SIZE, CONTENTS_SIZE + 1]);
-            let broken = damage(self.chance.draw(), &made.bytes);
+            let damaged = damage(self.chance.draw(), &made.bytes);
+            let broken = self.broken(made, 0, CONTENTS_SIZE);
             let before = self.tally_words();
-            self.call("contents", part(&broken, 0, length));
+            self.call("contents", part(&damaged, 0, length));
+            self.call("contents", &broken);
             self.put("tally", 0, &before);
             return;
         }
         let own = made.any_of(&mut self.chance, other).map(|place| self.honest_part(made, place));
         let bytes = if self.chance.one_in(3) { None } else { own };
         self.call(other, &bytes.unwrap_or(honest.to_vec()));
+    }
+
+    /// How long this list has to be for the call, if the tally is one that it takes; else as it is lent.
+    fn length_here(&self, kind: &str, name: &str) -> usize {
+        let tally = Tally::from_words(&self.tally_words());
+        let lent = self.lent.list(name).lent;
+        if tally.in_range() && tally.has_turn(kind) {
+            length_for(kind, name, &tally).min(lent)
+        } else {
+            lent
+        }
     }
 
     fn call_with_a_short_list(&mut self, kind: &str, honest: &[u8]) {
@@ -289,11 +336,19 @@ impl<W: Write> Script<W> {
             return;
         }
         let any = self.chance.place(lent);
-        let shorter = self.chance.pick(&[lent - 1, lent - 1, any, lent.saturating_sub(6)]);
+        let least = self.length_here(kind, name);
+        let one_short = least.saturating_sub(1);
+        let longer = (least + 1).min(lent);
+        let length = self.chance.pick(&[one_short, one_short, one_short, one_short, least, longer, any, any]);
         let before = self.tally_words();
-        self.say(format!("lend {name} {shorter}"));
+        self.say(format!("lend {name} {length}"));
         let cut = if self.chance.one_in(4) { honest.len() / 2 } else { honest.len() };
-        self.call(kind, &honest[..cut]);
+        // 12 comes before 11 for lent numbers.
+        if self.chance.one_in(4) {
+            self.call_with_an_interval_off(kind, &honest[..cut]);
+        } else {
+            self.call(kind, &honest[..cut]);
+        }
         self.say(format!("lend {name} {lent}"));
         self.put("tally", 0, &before);
     }
@@ -323,18 +378,30 @@ impl<W: Write> Script<W> {
         self.chance.pick(&[near, near, wide]).clamp(0, u32::MAX as i128)
     }
 
+    /// What an answer finds in the other regions at the point of this sum, above zero or below.
+    fn other_sums(&self, place: usize) -> i128 {
+        let sums = &self.lent.list("sums").numbers;
+        let others = (0..REGIONS).filter(|region| *region != place / SUMS_OF_A_REGION);
+        others.map(|region| sums[SUMS_OF_A_REGION * region + place % SUMS_OF_A_REGION].abs()).sum()
+    }
+
     /// The largest size that a lent number may have.
-    fn limit_of(&self, name: &str, place: usize) -> i128 {
+    fn limit_of(&mut self, name: &str, place: usize) -> i128 {
         let tally = Tally::from_words(&self.tally_words());
         match name {
             "measures" => MEASURE_LIMIT,
-            "positive" | "negative" => DEVIATION_LIMIT * tally.units_taken().clamp(0, UNITS_LIMIT),
-            "places" => 9,
-            "raise" | "lower" => PERFORMANCE_LIMIT,
-            "defaults" => -UNIT_DEFAULT_LOWEST,
+            "sums" => {
+                let limit = DEVIATION_LIMIT * tally.units_taken().clamp(0, tally.units.min(UNITS_LIMIT));
+                let together = if place < SUMS_OF_A_REGION * REGIONS { self.other_sums(place) } else { 0 };
+                self.chance.pick(&[limit, limit - together])
+            }
+            "homes" => 9,
+            "rows" if place % NUMBERS_OF_A_ROW < 2 => PERFORMANCE_LIMIT,
+            "rows" => -UNIT_DEFAULT_LOWEST,
             "figures" => match place % FIGURES_OF_A_REGION {
-                0 => GENERATION_LIMIT,
-                1 | 2 => 1,
+                0 => tally.interval,
+                1 => GENERATION_LIMIT,
+                2 | 3 => 1,
                 _ => -RESIDUAL_DEFAULT_LOWEST,
             },
             _ => 0,
@@ -346,36 +413,69 @@ impl<W: Write> Script<W> {
         let limit = self.limit_of(name, place);
         let any = self.any_number(name);
         let off = self.chance.pick(&[limit, -limit, limit + 1, -limit - 1, any, 1, -1]);
-        if name == "places" {
-            off.rem_euclid(256)
-        } else {
-            off
-        }
+        let (lowest, highest) = span(name);
+        lowest + (off - lowest).rem_euclid(highest - lowest + 1)
     }
 
     fn call_with_a_number_off(&mut self, kind: &str, honest: &[u8]) {
         let name = self.chance.pick(lists_of(kind));
         let lent = self.lent.list(name).lent;
-        if name == "tally" || name == "frequencies" || name == "readings" || lent == 0 {
+        if name == "tally" || lent == 0 {
             return;
         }
-        // In the series of the region that the record names, every second time.
+        // Among the numbers of the region that the record names, every second time.
         let region = usize::from(honest.get(2).copied().unwrap_or(0)).min(REGIONS - 1);
-        let in_region = POINTS * region + self.chance.place(POINTS);
+        let of_a_region = match name {
+            "measures" => POINTS,
+            "sums" => SUMS_OF_A_REGION,
+            "figures" => FIGURES_OF_A_REGION,
+            _ => lent,
+        };
         let any = self.chance.place(lent);
-        let place = if lent >= SERIES && self.chance.one_in(2) { in_region } else { any };
+        let in_region = of_a_region * region + self.chance.place(of_a_region);
+        let place = if in_region < lent && self.chance.one_in(2) { in_region } else { any };
         let before = self.lent.list(name).numbers[place];
         let tally = self.tally_words();
         let off = self.number_off(name, place);
-        let off = match name {
-            "numbers" => off.rem_euclid(1 << 16),
-            "member" => off.rem_euclid(1 << 32),
-            _ => off,
-        };
         self.put(name, place, &[off]);
         let cut = self.chance.pick(&[honest.len(), honest.len(), honest.len() / 2, 2, 0]);
         self.call(kind, &honest[..cut.min(honest.len())]);
         self.put(name, place, &[before]);
+        self.put("tally", 0, &tally);
+    }
+
+    /// An interval number of another book, or of none: next to this, at an end of its width, the same but for
+    /// bits past its width.
+    fn interval_off(&mut self, interval: i128) -> i128 {
+        let width = 1i128 << 32;
+        let any = self.any_number("figures");
+        let near = self.chance.pick(&[interval - 1, interval + 1, 0, width - 1]);
+        let (first, last) = span("figures");
+        let past = [interval + width, interval - width, -1, -interval, width, first, last];
+        let past = self.chance.pick(&past);
+        self.chance.pick(&[near, past, past, any])
+    }
+
+    /// The figures of one region, or of all five, with another interval number than the tally's.
+    fn call_with_an_interval_off(&mut self, kind: &str, honest: &[u8]) {
+        let tally = self.tally_words();
+        let before: Vec<i128> = self.lent.list("figures").numbers.clone();
+        let off = self.interval_off(tally[7]);
+        let one = self.chance.place(REGIONS);
+        let regions = if self.chance.one_in(5) { 0..REGIONS } else { one..one + 1 };
+        for region in regions.clone() {
+            self.put("figures", FIGURES_OF_A_REGION * region, &[off]);
+        }
+        // All five of the tally's book again, if it is a number that a tally can have.
+        if regions.len() == REGIONS && (0..=u32::MAX as i128).contains(&off) && self.chance.one_in(2) {
+            self.put("tally", 7, &[off]);
+        }
+        let cut = self.chance.pick(&[honest.len(), honest.len(), honest.len() / 2, 2, 0]);
+        self.call(kind, &honest[..cut.min(honest.len())]);
+        for region in regions {
+            let place = FIGURES_OF_A_REGION * region;
+            self.put("figures", place, &[before[place]]);
+        }
         self.put("tally", 0, &tally);
     }
 
@@ -392,54 +492,68 @@ impl<W: Write> Script<W> {
             self.chance.pick(&[1, 2_222, 5_000, 10_000, smoothing]),
             self.chance.pick(&[0, 10, 75]),
             self.chance.pick(&[0, 20, 50, 100]),
-            self.chance.between(0, u32::MAX as i128),
+            self.interval_number(),
         ]
     }
 
     /// Lent numbers within their limits, in every list that a call reads.
-    fn likely_numbers(&mut self, made: &Made, taken: i128) {
+    fn likely_numbers(&mut self, made: &Made, tally: &Tally) {
         let measure_reach = self.chance.pick(&[20_000, 20_000, MEASURE_LIMIT]);
         let measures: Vec<i128> =
             (0..SERIES).map(|_| self.chance.between(-measure_reach, measure_reach)).collect();
         self.put("measures", 0, &measures);
-        for (name, sign) in [("positive", 1), ("negative", -1)] {
-            let most = DEVIATION_LIMIT * taken.max(0) / self.chance.pick(&[1, REGIONS as i128, 5_000]);
-            let sums: Vec<i128> = (0..SERIES).map(|_| sign * self.chance.any_size(most)).collect();
-            self.put(name, 0, &sums);
+        let mut most = [0; 2];
+        for side in &mut most {
+            let parts = self.chance.pick(&[1, REGIONS as i128, 5_000]);
+            *side = DEVIATION_LIMIT * tally.units_taken().max(0) / parts;
+        }
+        for place in 0..2 * REGIONS {
+            let (most, sign) = [(most[0], 1), (most[1], -1)][place % 2];
+            let sums: Vec<i128> = (0..POINTS).map(|_| sign * self.chance.any_size(most)).collect();
+            self.put("sums", POINTS * place, &sums);
         }
         for region in 0..REGIONS {
-            let mut figures = vec![self.chance.any_size(GENERATION_LIMIT)];
+            let mut figures = vec![tally.interval, self.chance.any_size(GENERATION_LIMIT)];
             figures.extend((0..2).map(|_| i128::from(!self.chance.one_in(8))));
             figures.extend((0..6).map(|_| -self.chance.any_size(-RESIDUAL_DEFAULT_LOWEST)));
             self.put("figures", FIGURES_OF_A_REGION * region, &figures);
         }
-        let rows = made.units;
+        self.likely_rows(made.units);
+    }
+
+    fn likely_rows(&mut self, units: usize) {
         let bad_one_in = self.chance.pick(&[3, 10, 100]);
-        let places: Vec<i128> = (0..rows)
+        let homes: Vec<i128> = (0..units)
             .map(|_| 2 * self.chance.between(0, 4) + i128::from(!self.chance.one_in(bad_one_in)))
             .collect();
-        self.put("places", 0, &places);
-        for name in ["raise", "lower"] {
-            let sizes: Vec<i128> = (0..rows)
-                .map(|_| self.chance.pick(&[1, -1]) * self.chance.any_size(PERFORMANCE_LIMIT))
-                .collect();
-            self.put(name, 0, &sizes);
+        self.put("homes", 0, &homes);
+        let mut rows = Vec::new();
+        for _ in 0..units {
+            rows.extend((0..2).map(|_| self.chance.pick(&[1, -1]) * self.chance.any_size(PERFORMANCE_LIMIT)));
+            rows.extend((0..6).map(|_| -self.chance.any_size(-UNIT_DEFAULT_LOWEST)));
         }
-        let defaults: Vec<i128> =
-            (0..6 * rows).map(|_| -self.chance.any_size(-UNIT_DEFAULT_LOWEST)).collect();
-        self.put("defaults", 0, &defaults);
+        self.put("rows", 0, &rows);
+    }
+
+    /// Only the interval numbers as the tally has them, over lists as they are.
+    fn likely_intervals(&mut self, tally: &Tally) {
+        for region in 0..REGIONS {
+            self.put("figures", FIGURES_OF_A_REGION * region, &[tally.interval]);
+        }
     }
 
     /// Tallies and lent numbers that no chain has left.
     fn arbitrary(&mut self) {
         let made = self.made_book();
-        self.lend_all(made.units);
+        self.lend_all(made.units, &EXACT_OR_MORE);
         for _ in 0..self.chance.between(3, 8) {
             let tally = self.likely_tally(&made);
             let records = tally[2] as usize;
             self.put("tally", 0, &tally);
-            if !self.chance.one_in(5) {
-                self.likely_numbers(&made, records as i128 - 1 - REGIONS as i128);
+            match self.chance.place(15) {
+                0 => {}
+                1 | 2 => self.likely_intervals(&Tally::from_words(&tally)),
+                _ => self.likely_numbers(&made, &Tally::from_words(&tally)),
             }
             let turn = records.min(made.records() - 1);
             for _ in 0..self.chance.between(1, 4) {
@@ -466,40 +580,44 @@ impl<W: Write> Script<W> {
         let units = UNITS_LIMIT as usize;
         let mut book = make(self.chance.draw(), "heavy", Some(1)).expect("a class of the list");
         book.requirements.iter_mut().for_each(|requirement| requirement.region_set |= 16 + 8 + 4 + 2);
-        let made = Made { bytes: to_bytes(&book), units: 1, requirements: book.requirements.len() };
-        self.lend_all(units);
-        let words = [UNITS_LIMIT, 1, 6 + UNITS_LIMIT + self.chance.between(0, 1), 0, 10_000, 75, 100, 7];
-        self.put("tally", 0, &words);
+        let made = Made::of(&book);
+        self.lend_all(units, &EXACT_OR_MORE);
+        let interval = self.interval_number();
+        let records = 6 + UNITS_LIMIT + self.chance.between(0, 1);
+        self.put("tally", 0, &[UNITS_LIMIT, 1, records, 0, 10_000, 75, 100, interval]);
         let measure = self.chance.pick(&[MEASURE_LIMIT, -MEASURE_LIMIT]);
         self.say(format!("list measures {SERIES} {measure}"));
         let both = self.chance.pick(&[1, -1]);
-        for name in ["positive", "negative"] {
-            let sum = self.chance.pick(&[both, both, both, -both, 0]) * DEVIATION_LIMIT * UNITS_LIMIT
-                / REGIONS as i128;
-            self.say(format!("list {name} {SERIES} {sum}"));
-        }
-        let figures = [GENERATION_LIMIT, 1, 1].into_iter().chain([RESIDUAL_DEFAULT_LOWEST; 6]);
-        let figures: Vec<i128> = figures.cycle().take(FIGURES_OF_A_REGION * REGIONS).collect();
-        self.put("figures", 0, &figures);
-        let place = self.chance.between(0, 9);
-        self.say(format!("list places {units} {place}"));
-        for name in ["raise", "lower"] {
-            let size = self.chance.pick(&[PERFORMANCE_LIMIT, -PERFORMANCE_LIMIT]);
-            self.say(format!("list {name} {units} {size}"));
-        }
-        self.say(format!("list defaults {} {UNIT_DEFAULT_LOWEST}", 6 * units));
+        let most = DEVIATION_LIMIT * UNITS_LIMIT / REGIONS as i128;
+        let sides = [0; 2].map(|_| self.chance.pick(&[both, both, both, -both, 0]) * most);
+        let sums = sides.map(|sum| [sum; POINTS]).concat().repeat(REGIONS);
+        self.put("sums", 0, &sums);
+        let figures = [&[interval, GENERATION_LIMIT, 1, 1][..], &[RESIDUAL_DEFAULT_LOWEST; 6]].concat();
+        self.put("figures", 0, &figures.repeat(REGIONS));
+        let home = self.chance.between(0, 9);
+        self.say(format!("list homes {units} {home}"));
+        let sizes = [0; 2].map(|_| self.chance.pick(&[PERFORMANCE_LIMIT, -PERFORMANCE_LIMIT]));
+        let row = [&sizes[..], &[UNIT_DEFAULT_LOWEST; 6]].concat();
+        self.put("rows", 0, &row.repeat(units));
         self.ask(&made);
     }
 
-    /// Sequences until there are so many calls.
+    /// Every limit once, then sequences until so many calls are made, with stored tallies between them besides.
     pub fn write(&mut self, calls: usize) {
-        while self.calls < calls {
+        self.limits();
+        let mut made = 0;
+        while made < calls {
+            let before = self.calls;
             if self.answers && self.chance.one_in(10) {
                 self.heaviest();
             } else if self.chance.one_in(2) {
                 self.chain();
             } else {
                 self.arbitrary();
+            }
+            made += self.calls - before;
+            if self.chance.one_in(4) {
+                self.stored();
             }
         }
     }

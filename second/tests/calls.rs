@@ -1,7 +1,8 @@
-//! The model of the calls: a chain of them gives a book's own answers, a refusal changes nothing, and
-//! random scripts reach every refusal that a call can give.
+//! The model of the calls: a chain of them gives a book's own answers, a refusal changes nothing, a stored
+//! tally is refused over another book's lists, and random scripts reach every refusal that a call can give
+//! and both sides of every limit.
 
-use std::collections::BTreeSet;
+use std::collections::{BTreeMap, BTreeSet};
 
 use second::book::*;
 use second::boundary::*;
@@ -15,7 +16,7 @@ use second::write::to_bytes;
 fn lent_for(units: usize) -> Lent {
     let mut lent = Lent::default();
     for (name, ..) in NAMES {
-        lent.fill(name, 6 * units + SERIES, 77);
+        lent.fill(name, NUMBERS_OF_A_ROW * units + SUMS_OF_A_REGION * REGIONS, 77);
     }
     lent
 }
@@ -45,13 +46,12 @@ fn settled_reply(settled: &Settled) -> [i128; REPLY_WORDS] {
 fn assert_answer(before: &Lent, lent: &Lent, settled: &Settled, name: &str) {
     assert_eq!(lent.list("reply").numbers[..REPLY_WORDS], settled_reply(settled), "{name}");
     for (place, line) in settled.lines.iter().enumerate() {
-        let row = ["performances", "factors", "payments", "used", "unused"]
-            .map(|column| lent.list(column).numbers[place]);
+        let row = COLUMNS.map(|column| lent.list(column).numbers[place]);
         let expected = [line.member.payment_performance, line.factor, line.payment, line.used, line.unused];
         assert_eq!(row, expected, "{name}, member {place}");
     }
     // Numbers past those named stay.
-    for column in ["performances", "factors", "payments", "used", "unused"] {
+    for column in COLUMNS {
         let past = |lent: &Lent| lent.list(column).numbers[settled.lines.len()..].to_vec();
         assert_eq!(past(lent), past(before), "{name}, {column}");
     }
@@ -92,17 +92,286 @@ fn a_chain_gives_the_books_answers() {
     }
 }
 
-fn script(calls: usize, seed: u64) -> String {
+/// A record's call and bytes, from the settings on.
+fn records_of(book: &Book) -> Vec<(&'static str, Vec<u8>)> {
+    let bytes = to_bytes(book);
+    let sizes = [
+        ("settings", SETTINGS_SIZE, 1),
+        ("frequency", FREQUENCY_SIZE, REGIONS),
+        ("unit", UNIT_SIZE, book.units.len()),
+        ("requirement", REQUIREMENT_SIZE, book.requirements.len()),
+    ];
+    let mut at = CONTENTS_SIZE;
+    let mut all = Vec::new();
+    for (kind, size, count) in sizes {
+        for _ in 0..count {
+            all.push((kind, bytes[at..at + size].to_vec()));
+            at += size;
+        }
+    }
+    all
+}
+
+fn book_of(seed: u64, units: usize, interval: i128) -> Book {
+    let mut book = make(seed, "plain", Some(units)).expect("a class");
+    book.settings.interval = interval;
+    book.requirements.truncate(1);
+    book
+}
+
+/// What a call replies with another tally over these lists, which stay as they are.
+fn reply_with(lent: &Lent, tally: &[i128], kind: &str, part: &[u8]) -> u8 {
+    let mut lent = lent.clone();
+    lent.put("tally", 0, tally);
+    lent.call(kind, part)
+}
+
+fn words_of(lent: &Lent) -> Vec<i128> {
+    lent.list("tally").numbers[..TALLY_WORDS].to_vec()
+}
+
+/// Six lists, laid out as they are agreed on: worked by hand from two units of one region.
+#[test]
+fn what_a_chain_leaves() {
+    let mut book = second::worked::listing_book();
+    book.units[1].good[74] = false;
+    book.units[1].readings[74] = 0;
+    let mut lent = lent_for(2);
+    lent.call("contents", &to_bytes(&book));
+    for (kind, bytes) in records_of(&book) {
+        assert_eq!(lent.call(kind, &bytes), 0);
+    }
+    let numbers =
+        |name: &str, from: usize, count: usize| lent.list(name).numbers[from..from + count].to_vec();
+    assert_eq!(numbers("measures", 0, 75), [20_000; 75]);
+    assert_eq!(numbers("measures", 75, 300), [0; 300]);
+    // 100 cMW above the start at every point; the bad load adds nothing.
+    assert_eq!(numbers("sums", 0, 75), [7_500; 75]);
+    assert_eq!(numbers("sums", 75, 675), [0; 675]);
+    assert_eq!(numbers("sums", 750, 1), [77]);
+    assert_eq!(numbers("figures", 0, 10), [7, 100_000, 1, 0, 0, 0, -1_000, 0, 0, 0]);
+    for region in 1..REGIONS {
+        assert_eq!(numbers("figures", 10 * region, 10), [7, 0, 0, 0, 0, 0, 0, 0, 0, 0]);
+    }
+    assert_eq!(numbers("figures", 50, 1), [77]);
+    assert_eq!(numbers("numbers", 0, 3), [1, 2, 77]);
+    assert_eq!(numbers("homes", 0, 3), [1, 0, 77]);
+    assert_eq!(numbers("rows", 0, 8), [11_250_000_000, 0, 0, 0, -1_000, 0, 0, 0]);
+    // Minus 30 cMW at 74 points, and the 5,000 below its start that a bad 0 makes.
+    assert_eq!(numbers("rows", 8, 8), [20_000 * 75 * (5_000 - 74 * 30), 0, 0, 0, -1_000, 0, 0, 0]);
+    assert_eq!(numbers("rows", 16, 1), [77]);
+}
+
+/// A tally stored at every step of a book is good for as long as no frequency record of another book is taken.
+#[test]
+fn a_stored_tally_over_the_next_books_lists() {
+    for (interval, next_interval) in [(7, 8), (0, 1 << 31), (4_294_967_295, 0), (9, 9)] {
+        let (first, next) = (book_of(1, 3, interval), book_of(2, 5, next_interval));
+        let mut lent = lent_for(5);
+        lent.call("contents", &to_bytes(&first));
+        let mut calls = Vec::new();
+        for (kind, bytes) in records_of(&first) {
+            calls.push((words_of(&lent), kind, bytes.clone()));
+            assert_eq!(lent.call(kind, &bytes), 0);
+        }
+        // While no unit is taken every sum has to be 0: the first unit's tally is told by the sums already.
+        calls.remove(1 + REGIONS);
+        let ended = words_of(&lent);
+        let requirement = calls.last().expect("a requirement").2.clone();
+        calls.push((ended.clone(), "answer", requirement));
+        calls.push((ended, "member", [2u32, 0, 31].map(u32::to_le_bytes).concat()));
+        lent.call("contents", &to_bytes(&next));
+        for (records, (next_kind, next_bytes)) in records_of(&next).into_iter().enumerate() {
+            for (tally, kind, bytes) in &calls {
+                let reads = ["unit", "answer", "member"].contains(kind);
+                let told = reads && records >= 2 && interval != next_interval;
+                let reply = reply_with(&lent, tally, kind, bytes);
+                let expected = if told { 11 } else { 0 };
+                assert_eq!(reply, expected, "{kind} after {records} records of {next_interval}");
+            }
+            assert_eq!(lent.call(next_kind, &next_bytes), 0);
+        }
+    }
+}
+
+/// A frequency record of the stored book takes its region back, and then it is the next book that is refused.
+#[test]
+fn a_stored_frequency_record_spoils_the_next_book() {
+    let (first, next) = (book_of(1, 1, 7), book_of(2, 1, 8));
+    let mut lent = lent_for(1);
+    lent.call("contents", &to_bytes(&first));
+    let stored = records_of(&first);
+    lent.call("settings", &stored[0].1);
+    let tally = words_of(&lent);
+    lent.call("contents", &to_bytes(&next));
+    let records = records_of(&next);
+    for (kind, bytes) in &records[..6] {
+        assert_eq!(lent.call(kind, bytes), 0);
+    }
+    let now = words_of(&lent);
+    assert_eq!(reply_with(&lent, &now, "unit", &records[6].1), 0);
+    lent.put("tally", 0, &tally);
+    assert_eq!(lent.call("frequency", &stored[1].1), 0);
+    assert_eq!(reply_with(&lent, &now, "unit", &records[6].1), 11);
+}
+
+type Met = BTreeMap<String, BTreeSet<u8>>;
+
+fn script_and_met(calls: usize, seed: u64) -> (String, Met) {
     let mut out = Vec::new();
-    Script::new(seed, true, &mut out).write(calls);
-    String::from_utf8(out).expect("a script is text")
+    let mut script = Script::new(seed, true, &mut out);
+    script.write(calls);
+    let met = std::mem::take(&mut script.met);
+    (String::from_utf8(out).expect("a script is text"), met)
+}
+
+fn script(calls: usize, seed: u64) -> String {
+    script_and_met(calls, seed).0
+}
+
+/// What was met in this situation is this reply, and no other.
+fn assert_met(met: &Met, situation: &str, reply: u8) {
+    let replies = met.get(situation).unwrap_or_else(|| panic!("{situation}: never met"));
+    assert_eq!(*replies, BTreeSet::from([reply]), "{situation}");
+}
+
+#[test]
+fn every_length_is_tried_on_both_sides() {
+    for seed in 0..20 {
+        let met = script_and_met(0, seed).1;
+        for kind in ["frequency", "unit", "answer", "member"] {
+            for name in lists_of(kind) {
+                assert_met(&met, &format!("{kind}: {name} one short"), 12);
+                assert_met(&met, &format!("{kind}: {name} exact"), 0);
+                assert_met(&met, &format!("{kind}: {name} one longer"), 0);
+                assert_met(&met, &format!("{kind}: {name} short and a number off"), 12);
+                if kind != "member" {
+                    assert_met(&met, &format!("{kind}: {name} short and no bytes"), 12);
+                }
+            }
+        }
+    }
+}
+
+#[test]
+fn every_interval_number_is_tried() {
+    let wrong = [
+        "0",
+        "the last",
+        "one less",
+        "one more",
+        "-1",
+        "negative",
+        "over 32 bits",
+        "under 0 by 32 bits",
+        "the lowest of 64 bits",
+        "the highest of 64 bits",
+    ];
+    for seed in 0..20 {
+        let met = script_and_met(0, seed).1;
+        for kind in ["unit", "answer", "member"] {
+            for region in 0..REGIONS {
+                for what in wrong {
+                    assert_met(&met, &format!("{kind}: interval number {what} in region {region}"), 11);
+                }
+                let cut = format!("{kind}: interval number wrong in region {region}, part cut");
+                if kind != "member" {
+                    assert_met(&met, &cut, 11);
+                }
+            }
+            for what in ["0", "the last", "one more"] {
+                assert_met(&met, &format!("{kind}: interval number {what} in the tally and all regions"), 0);
+                assert_met(&met, &format!("{kind}: interval number {what} in the tally alone"), 11);
+                assert_met(&met, &format!("{kind}: interval number {what} in all regions"), 11);
+            }
+            assert_met(&met, &format!("{kind}: interval number past 32 bits in all regions"), 11);
+        }
+        assert_met(&met, "frequency: interval number of any size", 0);
+        assert_met(&met, "unit: an interval number off, no such region", 11);
+    }
+}
+
+#[test]
+fn every_limit_of_a_lent_number_is_tried_on_both_sides() {
+    let limited = [
+        ("unit", vec!["a measure", "a sum above", "a sum below"]),
+        (
+            "answer",
+            vec![
+                "a measure",
+                "a sum above",
+                "a sum below",
+                "a generation",
+                "raise reliable",
+                "lower reliable",
+                "a residual's default",
+                "a home",
+                "a performance",
+                "a default",
+            ],
+        ),
+        ("member", vec!["its home", "its reliability"]),
+    ];
+    let unread = [
+        ("frequency", vec!["a measure", "a sum"]),
+        ("unit", vec!["a measure elsewhere", "a sum elsewhere", "a figure", "numbers", "homes", "rows"]),
+        ("answer", vec!["a home past the last unit", "a row past the last unit"]),
+        ("member", vec!["another home", "reliability the other way", "reliability elsewhere"]),
+        ("member", vec!["another figure", "a number"]),
+    ];
+    for seed in 0..20 {
+        let met = script_and_met(0, seed).1;
+        for (kind, all) in &limited {
+            for what in all {
+                assert_met(&met, &format!("{kind}: {what} at a limit"), 0);
+                assert_met(&met, &format!("{kind}: {what} past a limit"), 11);
+            }
+        }
+        for (kind, all) in &unread {
+            for what in all {
+                assert_met(&met, &format!("{kind}: {what} of any size"), 0);
+            }
+        }
+        assert_met(&met, "unit: a measure off, two bytes", 1);
+        assert_met(&met, "unit: a measure off, three bytes", 11);
+        assert_met(&met, "unit: a measure off, no such region", 8);
+        assert_met(&met, "answer: a measure off, no bytes", 11);
+    }
+}
+
+/// The script of the gate hands in stored tallies at every stage of the next book.
+#[test]
+fn stored_tallies_are_tried_at_every_stage() {
+    let met = script_and_met(10_000, 2026).1;
+    let untold = ["the contents", "the settings"];
+    let told = [
+        "the first frequency record",
+        "some frequency records",
+        "the last frequency record",
+        "some units",
+        "the last unit",
+        "a requirement",
+    ];
+    for kind in ["unit", "answer", "member"] {
+        for stage in told {
+            assert_met(&met, &format!("stored {kind}, after {stage} of another number"), 11);
+        }
+        for stage in untold {
+            let situation = format!("stored {kind}, after {stage} of another number");
+            assert!(met[&situation].contains(&0), "{situation}");
+        }
+        for stage in untold.into_iter().chain(told) {
+            let situation = format!("stored {kind}, after {stage} of the same number");
+            assert!(met.get(&situation).is_some_and(|replies| replies.contains(&0)), "{situation}");
+        }
+    }
 }
 
 #[test]
 fn a_refusal_changes_nothing_and_each_is_reached() {
     let mut lent = Lent::default();
     let mut reached = BTreeSet::new();
-    for line in script(20_000, 5).lines() {
+    for line in script(10_000, 2026).lines() {
         let before = lent.clone();
         let Some(answer) = script_line(&mut lent, line) else {
             continue;

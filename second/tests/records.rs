@@ -31,12 +31,12 @@ fn record_lines() {
     assert_eq!(record_line("settings 00000a1407000000"), "refused 6");
     assert_eq!(record_line("settings -"), "refused 1");
     let frequency = record_line(&format!("frequency {} 0", hex(&bytes[64..])));
-    assert!(frequency.starts_with("0 0 1111"), "{frequency}");
-    assert_eq!(frequency.split(' ').count(), 5 + 6 + 75);
+    let all_good = "1".repeat(75);
+    assert_eq!(frequency, format!("0 0 {all_good} 0 100000 0 0 -1000 0 0 0"));
     assert_eq!(record_line(&format!("frequency {} 1", hex(&bytes[64..]))), "refused 7");
     let unit = hex(&bytes[UNITS_AT..UNITS_AT + 372]);
     let fields = record_line(&format!("unit {unit} -"));
-    assert!(fields.starts_with("1 0 0 10000 10000 0 0 -1000 0 0 0 1111"), "{fields}");
+    assert_eq!(fields, format!("1 0 0 10000 10000 0 0 -1000 0 0 0 {all_good}"));
     assert_eq!(record_line(&format!("unit {unit} 0")), fields);
     assert_eq!(record_line(&format!("unit {unit} 1")), "refused 9");
     let last = &bytes[UNITS_AT + 2 * 372..];

@@ -1,11 +1,10 @@
 -- How the call's promise is met: by the record that is read past the tests, or by the first refusal.
 use mathlib.Core.Path.{_≡_, sym, _∙_, ap}
 use mathlib.Core.Bool.{true, false, not, _&&_, _||_}
-use mathlib.Core.List.{List, []}
+use mathlib.Core.List.{List}
 use Prim.Native.Nat.{ℕ, _≤_}
 use native.Mathlib.Omega.{arith}
 use lib.Dec.{eqb, leb}
-use lib.IntN.{ℤ}
 use lib.ListN.{length}
 use borrow.Author.Tests.{leb-true}
 use Rattle.integers.specs.Sums.{both}
@@ -19,6 +18,7 @@ use Rattle.rules.specs.Contents.{requirement-size}
 use Rattle.rules.specs.RequirementRecord.{requirement-in, set-fine, requirement-fine, requirement-record}
 use Rattle.laws.proofs.LimitsLaws.{passed, took}
 use Rattle.interval.specs.declared.Tally.{Tally}
+use Rattle.interval.specs.Lent.{Lent, lent-answer}
 use Rattle.interval.specs.Tally.{units-end, in-range, answer-turn}
 use Rattle.interval.proofs.TallyLaws.{settings-stay}
 use Rattle.book.specs.declared.RequirementFields.{RequirementFields}
@@ -26,11 +26,10 @@ use Rattle.book.specs.declared.RequirementRead.the-variants as read
 use Rattle.book.specs.Requirement.{requirement-of, requirement-answer}
 use Rattle.answer.specs.declared.Answered.{Answered}
 use Rattle.answer.specs.declared.Answered.the-variants.{Refused}
-use Rattle.answer.proofs.LentLaws.{long-means}
-use Rattle.answer.specs.Promises.{AnswerPromise}
+use Rattle.answer.specs.Promises.{Columns, columns-long, answer-reply, AnswerPromise}
 use Rattle.answer.specs.Tested.{tested-requirement}
-use Rattle.answer.proofs.TestedLaws.{Tested, fine-any, units-few, tested-answer}
-use Rattle.answer.specs.Given.{required, GivenReady, GivenAll}
+use Rattle.answer.proofs.TestedLaws.{Tested, tested-reply}
+use Rattle.answer.specs.Worked.{required, Passed, WorkedOut}
 
 -- ---- the record
 -- a requirement that is read is the record's
@@ -72,55 +71,36 @@ record-fine bs q e =
     rw (took (ends .1)) at (fine-fields (requirement-in bs) (fine .1))
 
 -- so past the tests it can be answered
-pub given-ready :
-    {t : Tally} (part : List ℕ) {f : RequirementFields} {ms ps ns fs : List ℤ} {qs : List ℕ} {xs ys ds : List ℤ} {a b c d e : ℕ} →
-    Tested t ms ps ns fs qs xs ys ds a b c d e → requirement-record 0 false part ≡ taken (required f) →
-    GivenReady f (t .units) (t .percent) ms ps ns fs qs xs ys ds a b c d e
-given-ready {t} part {f} {ms} {ps} {ns} {fs} {qs} {xs} {ys} {ds} h r =
+pub past-tests :
+    {t : Tally} (part : List ℕ) {f : RequirementFields} {l : Lent} {c : Columns} → Tested t l (columns-long (t .units) c) →
+    requirement-record 0 false part ≡ taken (required f) → Passed t f l c
+past-tests {t} part {f} h r =
     let turn = both (in-range t) (answer-turn t) (h .turn) in
     let begun : 1 ≤ t .records = omega (arith, leb-true (units-end t) (t .records) (turn .1)) in
     let fields = record-fine part (required f) r in
     record {
       percent = settings-stay t (turn .0) begun .percent;
-      set = fields .set;
       price = fields .price;
       cost = fields .cost;
       enabled = fields .enabled;
-      long = long-means _ (units-few t (h .turn)) (h .lists);
+      long = h .lists;
       columns = h .columns;
-      fine = fine-any (t .units) (t .percent) ms ps ns fs [] qs xs ys ds ∙ h .fine;
+      fine = h .fine;
     }
 
--- ---- the promise
-module _ {t : Tally} {part : List ℕ} {ms ps ns fs : List ℤ} {qs : List ℕ} {xs ys ds old₁ old₂ old₃ old₄ old₅ : List ℤ} where
+-- ---- the promise, whatever else is lent
+abbrev with-rest : Lent → Lent → Lent
+with-rest rest l = lent-answer rest (l .measures) (l .sums) (l .figures) (l .homes) (l .rows)
+
+module _ (t : Tally) (part : List ℕ) (l : Lent) (old : Columns) (rest : Lent) where
+  told : {y : Reply Requirement} → tested-requirement t part l (columns-long (t .units) old) ≡ y → answer-reply t part (with-rest rest l) old ≡ y
+  told e = tested-reply t part rest l old ∙ e
+
   pub refuses :
-      (x : Refusal) → tested-requirement t part ms ps ns fs qs xs ys ds (length old₁) (length old₂) (length old₃) (length old₄) (length old₅) ≡ refused x →
-      AnswerPromise t part ms ps ns fs qs xs ys ds old₁ old₂ old₃ old₄ old₅ (Refused x) old₁ old₂ old₃ old₄ old₅
-  refuses x r =
-      record {
-        whatever =
-            λ us.
-            let e = tested-answer t part ms ps ns fs us qs xs ys ds (length old₁) (length old₂) (length old₃) (length old₄) (length old₅) r in
-            record { reply = rw e; performances = rw e; factors = rw e; payments = rw e; used = rw e; unused = rw e };
-      }
+      (x : Refusal) → tested-requirement t part l (columns-long (t .units) old) ≡ refused x → AnswerPromise t part (with-rest rest l) old (Refused x) old
+  refuses x e = record { reply = rw (told e); written = rw (told e) }
 
   pub gives :
-      (f : RequirementFields) {a : Answered} {new₁ new₂ new₃ new₄ new₅ : List ℤ} →
-      tested-requirement t part ms ps ns fs qs xs ys ds (length old₁) (length old₂) (length old₃) (length old₄) (length old₅) ≡ taken (required f) →
-      GivenAll f (t .units) (t .percent) ms ps ns fs qs xs ys ds old₁ old₂ old₃ old₄ old₅ a new₁ new₂ new₃ new₄ new₅ →
-      AnswerPromise t part ms ps ns fs qs xs ys ds old₁ old₂ old₃ old₄ old₅ a new₁ new₂ new₃ new₄ new₅
-  gives f r g =
-      record {
-        whatever =
-            λ us.
-            let e = tested-answer t part ms ps ns fs us qs xs ys ds (length old₁) (length old₂) (length old₃) (length old₄) (length old₅) r in
-            let w = g .whatever us in
-            record {
-              reply = rw e (w .figures);
-              performances = rw e (w .performances);
-              factors = rw e (w .factors);
-              payments = rw e (w .payments);
-              used = rw e (w .used);
-              unused = rw e (w .unused);
-            };
-      }
+      (f : RequirementFields) {a : Answered} {new : Columns} → tested-requirement t part l (columns-long (t .units) old) ≡ taken (required f) →
+      WorkedOut t f (with-rest rest l) old a new → AnswerPromise t part (with-rest rest l) old a new
+  gives f e w = record { reply = rw (told e) (w .reply); written = rw (told e) (w .written) }

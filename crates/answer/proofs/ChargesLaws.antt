@@ -4,6 +4,7 @@ use mathlib.Core.Bool.{Bool}
 use mathlib.Core.List.{List}
 use Prim.Native.Nat.{ℕ, _-_}
 use lib.IntN.{ℤ}
+use Rattle.interval.specs.Lent.{Lent}
 use Rattle.book.specs.declared.RequirementFields.{RequirementFields}
 use Rattle.answer.specs.declared.Field.the-variants.{Used, Unused}
 use Rattle.answer.specs.declared.charges.Charges.{Charges}
@@ -11,12 +12,12 @@ use Rattle.answer.specs.Pools.{used-cents}
 use Rattle.answer.specs.Shares.{MembersCharged}
 use Rattle.answer.specs.Charges.{CostCharged}
 
-module _ (f : RequirementFields) (reliable : Bool) (units : ℕ) (fs : List ℤ) (qs : List ℕ) (xs ys ds : List ℤ) where
+module _ (f : RequirementFields) (reliable : Bool) (units : ℕ) (l : Lent) where
   pub cost-charged :
       {r : Charges} {old middle new was-used was-unused now-used now-unused : List ℤ} → r .used .pool ≡ used-cents (f .cost) (f .enabled) (f .used) reliable →
-      r .unused .pool ≡ f .cost - r .used .pool → MembersCharged Unused (r .unused .pool) units (f .direction) (f .set) fs qs xs ys ds old was-unused
-      (r .unused .reply) middle now-unused → MembersCharged Used (r .used .pool) units (f .direction) (f .set) fs qs xs ys ds middle was-used (r .used .reply)
-      new now-used → (CostCharged f reliable units fs qs xs ys ds) old was-used was-unused r new now-used now-unused
+      r .unused .pool ≡ f .cost - r .used .pool → MembersCharged Unused (r .unused .pool) units (f .direction) (f .set) l old was-unused
+      (r .unused .reply) middle now-unused → MembersCharged Used (r .used .pool) units (f .direction) (f .set) l middle was-used (r .used .reply)
+      new now-used → (CostCharged f reliable units l) old was-used was-unused r new now-used now-unused
   cost-charged eu ev first second =
       record {
         used = eu;

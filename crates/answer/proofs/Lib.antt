@@ -1,7 +1,7 @@
 pub mod BookAnswered
 pub mod CallLaws
 pub mod ChargesLaws
-pub mod GivenLaws
+pub mod WorkedLaws
 pub mod LentLaws
 pub mod Lists
 pub mod MadeLaws

@@ -16,10 +16,10 @@ use Rattle.rules.specs.Fields.{sized}
 use Rattle.answer.specs.Ranges.{fine-from, six-fine}
 
 -- a size is told by both ends
-pub sized-between : (k : ℕ) (x : ℤ) → leZ (negℤ (pos k)) x && leZ x (pos k) ≡ sized k x
-sized-between k (pos n) = ap (λ (t : Bool). t && leb n k) (le-leZ (le! (neg (v (pos k))) (v (pos n)) (omega arith)))
-sized-between zero (negsuc n) = sym (lt-leb (suc n) 0 (omega arith))
-sized-between (suc k) (negsuc n) = swapped (leb n k) ∙ sym (same k n)
+pub sized-within-bounds : (k : ℕ) (x : ℤ) → leZ (negℤ (pos k)) x && leZ x (pos k) ≡ sized k x
+sized-within-bounds k (pos n) = ap (λ (t : Bool). t && leb n k) (le-leZ (le! (neg (v (pos k))) (v (pos n)) (omega arith)))
+sized-within-bounds zero (negsuc n) = sym (lt-leb (suc n) 0 (omega arith))
+sized-within-bounds (suc k) (negsuc n) = swapped (leb n k) ∙ sym (same k n)
   where
     swapped : (t : Bool) → t && true ≡ t
     swapped true = refl

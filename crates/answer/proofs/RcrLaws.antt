@@ -1,7 +1,7 @@
 -- Laws of the definitions in specs/Rcr.antt.
-use mathlib.Core.Path.{_≡_, refl, ap}
+use mathlib.Core.Path.{_≡_, ap}
 use mathlib.Core.Bool.{Bool, true, false}
-use mathlib.Core.List.{List}
+use mathlib.Core.List.{[]}
 use Prim.Native.Nat.{ℕ, _+_, _*_, _≤_, _<_}
 use native.Mathlib.Omega.{arith}
 use lib.Dec.{leb, ltb}
@@ -20,80 +20,96 @@ use Rattle.rules.specs.Quantities.{points, regions, measure-limit, amount-limit
 use Rattle.rules.specs.Bytes.{bit}
 use Rattle.rules.specs.Fields.{sized}
 use Rattle.laws.proofs.LimitsLaws.{size-fits}
-use Rattle.interval.specs.Lent.{figures-each}
-use Rattle.kept.specs.Kept.{Kept, kept-rcr, kept-reliable, kept-few-bad}
-use Rattle.kept.specs.Range.{series-fine, figures-fine, rows-fine, kept-fine}
-use Rattle.answer.specs.Asked.{lent, asked}
-use Rattle.answer.specs.Ranges.{there, measures-here, sums-here, up-to, region-here, row-fine}
+use Rattle.interval.specs.declared.Tally.{Tally}
+use Rattle.interval.specs.Lent.{Lent, series-start, sum-place, of-interval}
+use Rattle.kept.specs.Kept.{figure, generation-of, kept-rcr, kept-reliable}
+use Rattle.kept.specs.Range.{measures-fine, sums-fine, from-0, row-fine, series-fine, figures-fine, rows-fine, kept-fine}
+use Rattle.answer.specs.Asked.{lent, lent-members, asked}
 use Rattle.answer.specs.Lent.{Long}
-use Rattle.answer.specs.Rcr.{FoundReady, PlacesFine, Ready, all-stand, found-is, points-largest, sum-part, weighed-part}
+use Rattle.answer.specs.Rcr.{HomesNamed, PointsInRange, RcrTested, few-bad, found-is, points-largest, sum-part, weighed-part}
 
-pub all-stand-is :
-    (d : Direction) (set units percent : ℕ) (measures positive negative figures : List ℤ) (places : List ℕ) →
-    all-stand d set figures ≡ kept-reliable (lent units percent measures positive negative figures places) (asked d set)
-unfolding all-stand
-all-stand-is Raise set units percent measures positive negative figures places = refl
-all-stand-is Lower set units percent measures positive negative figures places = refl
-
--- one of five sums is no larger than all together
-sum-there :
-    (units : ℕ) (sums : List ℤ) (r t : ℕ) → units ≤ 512 → sums-here (deviation-limit * units) sums t ≡ true → r < regions →
-    Within 7_680_000_000 (there sums t r)
-sum-there units sums r t few e l = record { size = omega (arith, sumℕ-term regions (λ r. natAbs (there sums t r)) r l, leb-true _ (deviation-limit * units) e) }
-
-up-to-within : (limit : ℕ) (x : ℤ) → up-to limit x ≡ true → Within limit x
-up-to-within limit (pos n) e = within-natural (leb-true n limit (both (leb 0 n) (leb n limit) e .1))
-up-to-within limit (negsuc n) e = absurd (no e)
+natural-within : (limit : ℕ) (x : ℤ) → from-0 limit x ≡ true → Within limit x
+natural-within limit (pos n) e = within-natural (leb-true n limit (both (leb 0 n) (leb n limit) e .1))
+natural-within limit (negsuc n) e = absurd (no e)
   where
     no : false ≡ true → ⊥
     no e = let z : _≡_ {A = ℕ} 0 1 = cc in omega arith
 
 -- of what is kept, where every number is in range
-module _ (k : Kept) (long : Long k) (fine : kept-fine k ≡ true) where
-  parts : (series-fine k ≡ true) × (figures-fine k ≡ true) × (rows-fine k ≡ true)
+module _ (t : Tally) (l : Lent) (long : Long (t .units) l) (fine : kept-fine t l ≡ true) where
+  parts : (series-fine t l ≡ true) × (figures-fine t l ≡ true) × (rows-fine t l ≡ true)
   parts =
-      let s = both (series-fine k) _ fine in
-      let f = both (figures-fine k) (rows-fine k) (s .1) in
+      let s = both (series-fine t l) _ fine in
+      let f = both (figures-fine t l) (rows-fine t l) (s .1) in
       (s .0, f .0, f .1)
 
-  ready-places : PlacesFine (k .units) (k .places)
+  named : (i : ℕ) → i < t .units → getD (l .homes) i 0 < 2 * regions
   unfolding rows-fine
-  ready-places =
+  named i b = ltb-true _ _ (both (ltb (getD (l .homes) i 0) (2 * regions)) _ (every-at (t .units) (row-fine l) (parts .2) i b) .0)
+
+  abbrev most : ℕ
+  most = deviation-limit * t .units
+
+  at-point : (p : ℕ) → p < points → (measures-fine l p ≡ true) × (sums-fine most l Raise p ≡ true) × (sums-fine most l Lower p ≡ true)
+  unfolding series-fine
+  at-point p b =
+      let m = both (measures-fine l p) _ (every-at points _ (parts .0) p b) in
+      let s = both (sums-fine most l Raise p) (sums-fine most l Lower p) (m .1) in
+      (m .0, s .0, s .1)
+
+  -- one of five sums is no larger than all together
+  sum-there : (d : Direction) (r p : ℕ) → sums-fine most l d p ≡ true → r < regions → Within 7_680_000_000 (getD (l .sums) (sum-place d r p) (pos 0))
+  sum-there d r p e b =
       record {
-        here =
-            λ i l. ltb-true _ _ (both (ltb (getD (k .places) i 0) (2 * regions)) _
-            (every-at (k .units) (λ i. row-fine i (k .places) (k .raise) (k .lower) (k .defaults)) (parts .2) i l) .0);
+        size =
+            omega (
+              arith,
+              sumℕ-term regions (λ r. natAbs (getD (l .sums) (sum-place d r p) (pos 0))) r b,
+              leb-true _ most e,
+              long .few,
+            );
       }
 
-  at-point :
-      (t : ℕ) → t < points →
-      (measures-here (k .measures) t ≡ true) × (sums-here (deviation-limit * k .units) (k .positive) t ≡ true)
-      × (sums-here (deviation-limit * k .units) (k .negative) t ≡ true)
-  unfolding series-fine
-  at-point t l =
-      let p = both (measures-here (k .measures) t) _ (every-at points _ (parts .0) t l) in
-      let q = both (sums-here (deviation-limit * k .units) (k .positive) t) (sums-here (deviation-limit * k .units) (k .negative) t) (p .1) in
-      (p .0, q .0, q .1)
+  sums-there : (d : Direction) (r p : ℕ) → r < regions → p < points → Within 7_680_000_000 (getD (l .sums) (sum-place d r p) (pos 0))
+  sums-there Raise r p b c = sum-there Raise r p (at-point p c .1) b
+  sums-there Lower r p b c = sum-there Lower r p (at-point p c .2) b
 
-  generation : (r : ℕ) → r < regions → Within amount-limit (getD (k .figures) (figures-each * r + 0) (pos 0))
+  generation : (r : ℕ) → r < regions → Within amount-limit (generation-of l r)
   unfolding figures-fine
-  generation r l = up-to-within amount-limit _ (both _ _ (every-at regions (λ r. region-here (k .figures) (figures-each * r)) (parts .1) r l) .0)
+  generation r b =
+      let region = every-at regions _ (both (of-interval (t .interval) (l .figures)) _ (parts .1) .1) r b in
+      natural-within amount-limit _ (both (from-0 amount-limit (figure l r 1)) _ region .0)
 
-  ready : Ready (k .measures) (k .positive) (k .negative) (k .figures)
-  ready =
+  points-in-range : PointsInRange (lent (l .measures) (l .sums) (l .figures) (l .homes) [])
+  points-in-range =
       record {
         measures-long = long .measures;
-        positive-long = long .positive;
-        negative-long = long .negative;
+        sums-long = long .sums;
         figures-long = long .figures;
-        measures-within = λ r t h l. size-fits measure-limit _ (every-at regions (λ r. sized measure-limit (there (k .measures) t r)) (at-point t l .0) r h);
-        positive-within = λ r t h l. sum-there (k .units) (k .positive) r t (long .few) (at-point t l .1) h;
-        negative-within = λ r t h l. sum-there (k .units) (k .negative) r t (long .few) (at-point t l .2) h;
+        measures-within =
+            λ r p b c.
+            size-fits measure-limit _ (every-at regions (λ r. sized measure-limit (getD (l .measures) (series-start r + p) (pos 0))) (at-point p c .0) r b);
+        sums-within = sums-there;
         generation-within = generation;
       }
 
-  pub found-ready : k .percent ≤ 100 → FoundReady (k .units) (k .percent) (k .measures) (k .positive) (k .negative) (k .figures) (k .places)
-  found-ready p = record { few = long .few; percent = p; points = ready; long = long .places; places = ready-places }
+  pub rcr-tested : t .percent ≤ 100 → RcrTested (t .units) (t .percent) (lent (l .measures) (l .sums) (l .figures) (l .homes) [])
+  rcr-tested p = record { few = long .few; percent = p; points = points-in-range; homes = record { long = long .homes; here = named } }
+
+-- of the same lists, without those that are not read
+pub points-alone : {l : Lent} → PointsInRange l → PointsInRange (lent (l .measures) (l .sums) (l .figures) [] [])
+points-alone h =
+    record {
+      measures-long = h .measures-long;
+      sums-long = h .sums-long;
+      figures-long = h .figures-long;
+      measures-within = h .measures-within;
+      sums-within = h .sums-within;
+      generation-within = h .generation-within;
+    }
+
+pub homes-alone : {units : ℕ} {l : Lent} → HomesNamed units l → HomesNamed units (lent-members [] (l .homes) [])
+homes-alone h = record { long = h .long; here = h .here }
 
 -- ---- one turn of a sum over the regions, of plain numbers: z is the sum so far, p what the region adds
 pub record Turn (f : ℕ → ℤ) (r : ℕ) (z p : ℤ) : Type 0 where
@@ -121,41 +137,31 @@ when-within : {k : ℕ} (t : Bool) {x : ℤ} → Within k x → Within k (when t
 when-within true h = h
 when-within false h = within-natural (omega arith)
 
-module _ {measures positive negative figures : List ℤ} (h : Ready measures positive negative figures) (set t : ℕ) (l : t < points) where
-  pub product-fits : (r : ℕ) → r < regions → SFits w64 (getD figures (figures-each * r + 0) (pos 0) *ℤ there measures t r)
-  product-fits r q = fits-within tt (within-product (h .generation-within r q) (h .measures-within r t q l))
+module _ {l : Lent} (h : PointsInRange l) (set p : ℕ) (b : p < points) where
+  pub product-fits : (r : ℕ) → r < regions → SFits w64 (generation-of l r *ℤ getD (l .measures) (series-start r + p) (pos 0))
+  product-fits r q = fits-within tt (within-product (h .generation-within r q) (h .measures-within r p q b))
 
-  pub weighed-turn :
-      (r : ℕ) (z p : ℤ) → r < regions → z ≡ sum r (weighed-part set measures figures t) → p ≡ weighed-part set measures figures t r →
-      Turn (weighed-part set measures figures t) r z p
-  weighed-turn r z p q ez ep =
-      turn (amount-limit * measure-limit) _ r z p (omega arith)
-      (λ i b. when-within (bit i set) (within-product (h .generation-within i b) (h .measures-within i t b l))) q ez ep
+  pub weighed-turn : (r : ℕ) (z x : ℤ) → r < regions → z ≡ sum r (weighed-part set l p) → x ≡ weighed-part set l p r → Turn (weighed-part set l p) r z x
+  weighed-turn r z x q ez ex =
+      turn (amount-limit * measure-limit) _ r z x (omega arith)
+      (λ i c. when-within (bit i set) (within-product (h .generation-within i c) (h .measures-within i p c b))) q ez ex
 
-  pub positive-turn :
-      (r : ℕ) (z p : ℤ) → r < regions → z ≡ sum r (sum-part set positive t) → p ≡ sum-part set positive t r → Turn (sum-part set positive t) r z p
-  positive-turn r z p q ez ep = turn 7_680_000_000 _ r z p (omega arith) (λ i b. when-within (bit i set) (h .positive-within i t b l)) q ez ep
+  pub sum-turn :
+      (d : Direction) (r : ℕ) (z x : ℤ) → r < regions → z ≡ sum r (sum-part d set l p) → x ≡ sum-part d set l p r → Turn (sum-part d set l p) r z x
+  sum-turn d r z x q ez ex = turn 7_680_000_000 _ r z x (omega arith) (λ i c. when-within (bit i set) (h .sums-within d i p c b)) q ez ex
 
-  pub negative-turn :
-      (r : ℕ) (z p : ℤ) → r < regions → z ≡ sum r (sum-part set negative t) → p ≡ sum-part set negative t r → Turn (sum-part set negative t) r z p
-  negative-turn r z p q ez ep = turn 7_680_000_000 _ r z p (omega arith) (λ i b. when-within (bit i set) (h .negative-within i t b l)) q ez ep
-
-module _ (n p : ℕ) (d : Direction) (s : ℕ) (ms ps ns fs : List ℤ) (qs : List ℕ) where
-  abbrev reliable : Bool
-  reliable = kept-reliable (lent n p ms ps ns fs qs) (asked d s)
-
-  abbrev few-bad : Bool
-  few-bad = kept-few-bad (lent n p ms ps ns fs qs) (asked d s)
-
-  pub found-unreliable : reliable ≡ false → record { rcr = 0; reliable = false } ≡ found-is n p d s ms ps ns fs qs
+module _ (units percent : ℕ) (d : Direction) (set : ℕ) (l : Lent) where
+  pub found-unreliable : kept-reliable l (asked d set) ≡ false → record { rcr = 0; reliable = false } ≡ found-is units percent d set l
   unfolding kept-rcr
   found-unreliable e = rw e
 
-  pub found-many-bad : reliable ≡ true → few-bad ≡ false → record { rcr = 0; reliable = true } ≡ found-is n p d s ms ps ns fs qs
+  pub found-many-bad :
+      kept-reliable l (asked d set) ≡ true → few-bad units percent set l ≡ false → record { rcr = 0; reliable = true } ≡ found-is units percent d set l
   unfolding kept-rcr
   found-many-bad e f = rw (e, f)
 
   pub found-points :
-      {x : ℕ} → x ≡ points-largest d s ms ps ns fs → reliable ≡ true → few-bad ≡ true → record { rcr = x; reliable = true } ≡ found-is n p d s ms ps ns fs qs
+      {x : ℕ} → x ≡ points-largest d set l → kept-reliable l (asked d set) ≡ true → few-bad units percent set l ≡ true →
+      record { rcr = x; reliable = true } ≡ found-is units percent d set l
   unfolding kept-rcr
   found-points g e f = rw (e, f) (ap (λ (y : ℕ). record { rcr = y; reliable = true }) g)

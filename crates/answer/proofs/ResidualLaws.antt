@@ -1,13 +1,12 @@
 -- Laws of the definitions in specs/Residual.antt.
 use mathlib.Core.Path.{_≡_, refl, sym, _∙_, ap, ap₂}
 use mathlib.Core.Bool.{Bool, true, false, not, _&&_, _||_}
-use mathlib.Core.List.{List}
+use mathlib.Core.List.{[]}
 use Prim.Native.Nat.{ℕ, zero, suc, _+_, _*_, _≤_, _<_}
 use native.Mathlib.Nat.{mul-le-mul-right}
 use native.Mathlib.Omega.{arith}
-use lib.Dec.{eqb, leb}
+use lib.Dec.{eqb}
 use lib.IntN.{ℤ, pos, negℤ, natAbs, _+ℤ_, _-ℤ_, +ℤ-idl, +ℤ-idr}
-use lib.ListN.{getD}
 use mir.Syntax.{w64}
 use mir.Val.{SFits, toZ, ofZ}
 use mir.Facts.{toZ-ofZ}
@@ -23,83 +22,87 @@ use Rattle.rules.specs.declared.Standing.{Standing}
 use Rattle.rules.specs.declared.Standing.the-variants.{Live, Default}
 use Rattle.rules.specs.Standings.{standing, live-or}
 use Rattle.rules.specs.Bytes.{bit}
-use Rattle.interval.specs.Lent.{figures-each}
+use Rattle.interval.specs.Lent.{Lent}
+use Rattle.kept.specs.Kept.{reliable-of, region-of, good-of, in-row, residual-default, units-in-region, some-good-or-none-of, residual-of}
+use Rattle.answer.specs.Asked.{tally-of, lent-members}
 use Rattle.answer.specs.declared.Field.{Field}
 use Rattle.answer.specs.declared.Field.the-variants.{Payment, Used, Unused}
 use Rattle.answer.specs.declared.Member.{Member}
 use Rattle.answer.specs.declared.residual.Held.{Held}
-use Rattle.answer.specs.Made.{
-  side,
-  flag,
-  picked,
-  defaults-at,
-  place-region,
-  place-good,
-  rows-there,
-  good-there,
-  performances-there,
-  region-made,
-  residual-to,
-}
-use Rattle.answer.proofs.MadeLaws.{joined, standing-joined}
-use Rattle.answer.specs.Residual.{Holds, RegionsFit, RowsFit}
+use Rattle.answer.specs.Made.{performance-at, picked}
+use Rattle.answer.specs.Residual.{RowsWithin, performances-there, Holds, region-made, worse-of, RegionsWithin, residual-to}
 
 -- ---- a region's rows
 -- what row i adds to its region's performances
-abbrev pub adds : ℕ → List ℕ → List ℤ → ℕ → ℤ
-adds r places xs i = when (eqb r (place-region i places)) (when (place-good i places) (getD xs i (pos 0)))
+abbrev pub adds : ℕ → ℕ → Lent → ℕ → ℤ
+adds at r l i = when (eqb r (region-of l i)) (when (good-of l i) (in-row l i at))
 
 when-size : (s t : Bool) (k : ℕ) (z : ℤ) → Within k z → natAbs (when s (when t z)) ≤ one s * k
 when-size true true k z h = omega (arith, h .size)
 when-size true false k z h = omega arith
 when-size false t k z h = omega arith
 
-module _ {units : ℕ} {places : List ℕ} {xs : List ℤ} (h : RowsFit units places xs) (r : ℕ) where
+module _ {at units : ℕ} {l : Lent} (h : RowsWithin at units l) (r : ℕ) where
   -- at most a unit's limit for each row of the region
-  pub held-size : (n : ℕ) → n ≤ units → natAbs (sum n (adds r places xs)) ≤ count n (λ i. eqb r (place-region i places)) * performance-limit
-  held-size n l =
-      rw (sumℕ-times n performance-limit (λ i. one (eqb r (place-region i places)))) at
-      (sum-size n (adds r places xs) (λ i. one (eqb r (place-region i places)) * performance-limit)
-      (λ i k. when-size (eqb r (place-region i places)) (place-good i places) performance-limit (getD xs i (pos 0)) (h .within i (omega arith))))
+  pub held-size : (n : ℕ) → n ≤ units → natAbs (sum n (adds at r l)) ≤ count n (λ i. eqb r (region-of l i)) * performance-limit
+  held-size n b =
+      rw (sumℕ-times n performance-limit (λ i. one (eqb r (region-of l i)))) at
+      (sum-size n (adds at r l) (λ i. one (eqb r (region-of l i)) * performance-limit)
+      (λ i k. when-size (eqb r (region-of l i)) (good-of l i) performance-limit (in-row l i at) (h .within i (omega arith))))
 
-  pub held-within : (n : ℕ) → n ≤ units → Within 2_880_000_000_000_000_000 (sum n (adds r places xs))
-  held-within n l = record { size = omega (arith, held-size n l, count-≤ n (λ i. eqb r (place-region i places)), h .few) }
+  pub held-within : (n : ℕ) → n ≤ units → Within 2_880_000_000_000_000_000 (sum n (adds at r l))
+  held-within n b = record { size = omega (arith, held-size n b, count-≤ n (λ i. eqb r (region-of l i)), h .few) }
 
--- fewer rows fit too
-pub fewer-fit : {n units : ℕ} {places : List ℕ} {xs : List ℤ} → n ≤ units → RowsFit units places xs → RowsFit n places xs
-fewer-fit l h =
-    record { few = omega (arith, h .few); places = omega (arith, h .places); room = omega (arith, h .room); within = λ i k. h .within i (omega arith) }
+-- fewer rows, too
+pub fewer-within : {at n units : ℕ} {l : Lent} → n ≤ units → RowsWithin at units l → RowsWithin at n l
+fewer-within b h =
+    record {
+      place = h .place;
+      few = omega (arith, h .few);
+      homes = omega (arith, h .homes);
+      rows = omega (arith, h .rows);
+      within = λ i k. h .within i (omega arith);
+    }
 
 -- no row yet, and one row more: a unit of the region (a), good (b)
-pub holds-none : (r : ℕ) (places : List ℕ) (xs : List ℤ) → Holds r 0 places xs (record { units = 0; good = 0; sum = pos 0 })
-holds-none r places xs = record { rows = sym (sumℕ-none _); good = sym (sumℕ-none _); performed = sym (sum-none _) }
+pub holds-none : (at r : ℕ) (l : Lent) → Holds at r 0 l (record { units = 0; good = 0; sum = pos 0 })
+holds-none at r l = record { rows = sym (sumℕ-none _); good = sym (sumℕ-none _); performed = sym (sum-none _) }
 
-module _ {r n : ℕ} {places : List ℕ} {xs : List ℤ} {h : Held} (k : Holds r n places xs h) where
+module _ {at r n : ℕ} {l : Lent} {h : Held} (k : Holds at r n l h) where
   pub holds-more :
-      (a b : Bool) → eqb r (place-region n places) ≡ a → place-good n places ≡ b → {m : Held} → m .units ≡ h .units + one a → m .good ≡ h .good + one (a && b) →
-      m .sum ≡ h .sum +ℤ when a (when b (getD xs n (pos 0))) → Holds r (n + 1) places xs m
+      (a b : Bool) → eqb r (region-of l n) ≡ a → good-of l n ≡ b → {m : Held} → m .units ≡ h .units + one a → m .good ≡ h .good + one (a && b) →
+      m .sum ≡ h .sum +ℤ when a (when b (in-row l n at)) → Holds at r (n + 1) l m
   holds-more a b ea eb eu eg es =
       record {
-        rows = eu ∙ ap₂ _+_ (k .rows) (ap one (sym ea)) ∙ sym (sumℕ-step n (λ i. one (eqb r (place-region i places))));
+        rows = eu ∙ ap₂ _+_ (k .rows) (ap one (sym ea)) ∙ sym (sumℕ-step n (λ i. one (eqb r (region-of l i))));
         good =
             eg ∙ ap₂ _+_ (k .good) (ap₂ (λ (s t : Bool). one (s && t)) (sym ea) (sym eb))
-            ∙ sym (sumℕ-step n (λ i. one (eqb r (place-region i places) && place-good i places)));
+            ∙ sym (sumℕ-step n (λ i. one (eqb r (region-of l i) && good-of l i)));
         performed =
-            es ∙ ap₂ _+ℤ_ (k .performed) (ap₂ (λ (s t : Bool). when s (when t (getD xs n (pos 0)))) (sym ea) (sym eb))
-            ∙ sym (sum-step n (adds r places xs));
+            es ∙ ap₂ _+ℤ_ (k .performed) (ap₂ (λ (s t : Bool). when s (when t (in-row l n at))) (sym ea) (sym eb)) ∙ sym (sum-step n (adds at r l));
       }
 
   pub few-held : n ≤ most-units → (h .units ≤ 512) × (h .good ≤ 512)
-  few-held l = (
-    omega (arith, k .rows, count-≤ n (λ i. eqb r (place-region i places))),
-    omega (arith, k .good, count-≤ n (λ i. eqb r (place-region i places) && place-good i places)),
+  few-held b = (
+    omega (arith, k .rows, count-≤ n (λ i. eqb r (region-of l i))),
+    omega (arith, k .good, count-≤ n (λ i. eqb r (region-of l i) && good-of l i)),
   )
 
-pub column-fits :
-    (d : Direction) {units : ℕ} {places : List ℕ} {raise lower : List ℤ} → RowsFit units places raise → RowsFit units places lower →
-    RowsFit units places (side d raise lower)
-column-fits Raise r l = r
-column-fits Lower r l = l
+-- the direction's performances, of homes and rows alone
+pub rows-toward :
+    (d : Direction) {at units : ℕ} {l : Lent} → at ≡ performance-at d → RegionsWithin units l → RowsWithin at units (lent-members [] (l .homes) (l .rows))
+rows-toward d {at} {units} {l} e h = rw e (alone (by-direction d))
+  where
+    by-direction : (d : Direction) → RowsWithin (performance-at d) units l
+    by-direction Raise = h .raise
+    by-direction Lower = h .lower
+
+    alone : {at : ℕ} → RowsWithin at units l → RowsWithin at units (lent-members [] (l .homes) (l .rows))
+    alone k = record { place = k .place; few = k .few; homes = k .homes; rows = k .rows; within = k .within }
+
+pub residual-is : (d : Direction) (r units : ℕ) (l : Lent) → negℤ (performances-there (performance-at d) r units l) ≡ residual-of (tally-of units 0 0) l d r
+residual-is Raise r units l = refl
+residual-is Lower r units l = refl
 
 -- ---- sums and negatives as the machine has them, each read back from its bits
 pub record Fitting (x y : ℤ) : Type 0 where
@@ -115,11 +118,10 @@ added-back f = rw (toZ-ofZ (f .first), toZ-ofZ (f .second)) (toZ-ofZ (f .togethe
 
 -- a good unit's performance joins the sum of those before it
 pub row-joins :
-    {r n : ℕ} {places : List ℕ} {xs : List ℤ} {m : Held} → RowsFit (n + 1) places xs → Holds r n places xs m → eqb r (place-region n places) ≡ true →
-    place-good n places ≡ true → Fitting (m .sum) (getD xs n (pos 0))
-row-joins {r} {n} {places} {xs} {m} h k ea eb =
-    let more : m .sum +ℤ getD xs n (pos 0) ≡ sum (n + 1) (adds r places xs) = ap₂ _+ℤ_ (k .performed) (sym (rw (ea, eb)))
-    ∙ sym (sum-step n (adds r places xs)) in
+    {at r n : ℕ} {l : Lent} {m : Held} → RowsWithin at (n + 1) l → Holds at r n l m → eqb r (region-of l n) ≡ true → good-of l n ≡ true →
+    Fitting (m .sum) (in-row l n at)
+row-joins {at} {r} {n} {l} {m} h k ea eb =
+    let more : m .sum +ℤ in-row l n at ≡ sum (n + 1) (adds at r l) = ap₂ _+ℤ_ (k .performed) (sym (rw (ea, eb))) ∙ sym (sum-step n (adds at r l)) in
     record {
       first = rw (k .performed) (fits-within tt (held-within h r n (omega arith)));
       second = fits-within tt (h .within n (omega arith));
@@ -137,15 +139,15 @@ module _ {x : ℤ} (h : Within 2_880_000_000_000_000_000 x) where
   turned-back = rw (toZ-ofZ (fits-within {w = w64} tt h), +ℤ-idl) (toZ-ofZ negative-fits)
 
 -- ---- a unit is in one region
-in-one-region : (units : ℕ) (places : List ℕ) → sumℕ regions (λ r. rows-there r units places) ≤ units
+in-one-region : (units : ℕ) (l : Lent) → sumℕ regions (λ r. count units (λ i. eqb r (region-of l i))) ≤ units
 unfolding sumℕ
-in-one-region zero places = omega arith
-in-one-region (suc n) places =
+in-one-region zero l = omega arith
+in-one-region (suc n) l =
     omega (
       arith,
-      sumℕ-plus regions (λ r. rows-there r n places) (λ r. one (eqb r (place-region n places))),
-      count-one regions (place-region n places),
-      in-one-region n places,
+      sumℕ-plus regions (λ r. count n (λ i. eqb r (region-of l i))) (λ r. one (eqb r (region-of l n))),
+      count-one regions (region-of l n),
+      in-one-region n l,
     )
 
 -- ---- the residual of some regions
@@ -156,6 +158,19 @@ same-member {s} {s′} {p} {p′} {u} {u′} {v} {v′} hs hp hu hv =
     ap₂ (λ (a : Standing) (b : ℤ). record { standing = a; payment = b; used = u; unused = v }) hs hp
     ∙ ap₂ (λ (a b : ℤ). record { standing = s′; payment = p′; used = a; unused = b }) hu hv
 
+abbrev pub joined : Member → Member → Member
+joined m n =
+    record { standing = worse-of (m .standing) (n .standing); payment = m .payment +ℤ n .payment; used = m .used +ℤ n .used; unused = m .unused +ℤ n .unused }
+
+standing-joined : (a b c d : Bool) → standing (a && b) (c && d) NoGoodUnit ≡ worse-of (standing a c NoGoodUnit) (standing b d NoGoodUnit)
+standing-joined true true true true = refl
+standing-joined true true true false = refl
+standing-joined true true false true = refl
+standing-joined true true false false = refl
+standing-joined true false true d = refl
+standing-joined true false false d = refl
+standing-joined false b c d = refl
+
 either-size : (s : Standing) (x y : ℤ) (k : ℕ) → natAbs x ≤ k → Within residual-default-limit y → natAbs (live-or s x y) ≤ k + residual-default-limit
 either-size Live x y k hx hy = omega arith
 either-size (Default why) x y k hx hy = omega (arith, hy .size)
@@ -164,19 +179,22 @@ when-≤ : (t : Bool) (x : ℤ) (k : ℕ) → natAbs x ≤ k → natAbs (when t 
 when-≤ true x k h = h
 when-≤ false x k h = omega arith
 
-module _ (d : Direction) (set units : ℕ) (figures : List ℤ) (places : List ℕ) (raise lower : List ℤ) where
+module _ (units : ℕ) (l : Lent) (d : Direction) (set : ℕ) where
   abbrev region : ℕ → Member
-  region r = region-made d r units figures places raise lower
+  region r = region-made units l d r
 
   abbrev residual : ℕ → Member
-  residual n = residual-to d set units figures places raise lower n
+  residual n = residual-to units l d set n
+
+  abbrev in-region : ℕ → ℕ
+  in-region r = units-in-region (tally-of units 0 0) l r
 
   -- no region of the set fails the test
   abbrev sound : ℕ → Bool
-  sound r = not (bit r set) || flag d r figures
+  sound r = not (bit r set) || reliable-of l d r
 
   abbrev fine : ℕ → Bool
-  fine r = not (bit r set) || (leb 1 (good-there r units places) || eqb (rows-there r units places) 0)
+  fine r = not (bit r set) || some-good-or-none-of (tally-of units 0 0) l r
 
   standing-more : (n : ℕ) → residual (n + 1) .standing ≡ standing (every n sound && sound n) (every n fine && fine n) NoGoodUnit
   standing-more n = ap₂ (λ (a b : Bool). standing a b NoGoodUnit) (every-more n sound) (every-more n fine)
@@ -190,8 +208,7 @@ module _ (d : Direction) (set units : ℕ) (figures : List ℤ) (places : List �
   pub residual-more : (n : ℕ) → bit n set ≡ true → residual (n + 1) ≡ joined (residual n) (region n)
   residual-more n e =
       same-member
-      (standing-more n ∙ rw e (standing-joined (every n sound) (flag d n figures) (every n fine)
-      (leb 1 (good-there n units places) || eqb (rows-there n units places) 0)))
+      (standing-more n ∙ rw e (standing-joined (every n sound) (reliable-of l d n) (every n fine) (some-good-or-none-of (tally-of units 0 0) l n)))
       (sum-step n (λ r. when (bit r set) (region r .payment)) ∙ rw e)
       (sum-step n (λ r. when (bit r set) (region r .used)) ∙ rw e)
       (sum-step n (λ r. when (bit r set) (region r .unused)) ∙ rw e)
@@ -209,46 +226,43 @@ module _ (d : Direction) (set units : ℕ) (figures : List ℤ) (places : List �
       and-true true = refl
       and-true false = refl
 
-  module _ (h : RegionsFit units figures places raise lower) where
-    default-within :
-        (d : Direction) (r f : ℕ) → r < regions → f < 3 → Within residual-default-limit (getD figures (figures-each * r + (3 + defaults-at d + f)) (pos 0))
-    default-within Raise r f l k = h .defaults r f l (omega arith)
-    default-within Lower r f l k =
-        let e : figures-each * r + (3 + 3 + f) ≡ figures-each * r + (3 + (3 + f)) = omega arith in rw e (h .defaults r (3 + f) l (omega arith))
+  module _ (h : RegionsWithin units l) where
+    default-within : (d : Direction) (r f : ℕ) → r < regions → f < 3 → Within residual-default-limit (residual-default l d f r)
+    default-within Raise r f b k = h .defaults r f b (omega arith)
+    default-within Lower r f b k = let e : 7 + f ≡ 4 + (3 + f) = omega arith in rw e (h .defaults r (3 + f) b (omega arith))
 
-    turned-size : (r : ℕ) → natAbs (negℤ (performances-there r units places (side d raise lower))) ≤ rows-there r units places * performance-limit
-    turned-size r = rw abs-neg (held-size (column-fits d (h .raise) (h .lower)) r units (omega arith))
+    turned-size : (d : Direction) (r : ℕ) → natAbs (residual-of (tally-of units 0 0) l d r) ≤ in-region r * performance-limit
+    turned-size Raise r = rw abs-neg (held-size (h .raise) r units (omega arith))
+    turned-size Lower r = rw abs-neg (held-size (h .lower) r units (omega arith))
 
     -- each number of a region is within a unit's limit for each of its units and a residual's default limit
     abbrev pub Sized : (Member → ℤ) → Type 0
-    Sized pick = (r : ℕ) → r < regions → natAbs (pick (region r)) ≤ rows-there r units places * performance-limit + residual-default-limit
+    Sized pick = (r : ℕ) → r < regions → natAbs (pick (region r)) ≤ in-region r * performance-limit + residual-default-limit
 
     payment-sized : Sized (λ m. m .payment)
-    payment-sized r l =
-        let e : figures-each * r + (3 + defaults-at d + 0) ≡ figures-each * r + (3 + defaults-at d) = omega arith in
-        either-size (region r .standing) _ _ _ (turned-size r) (rw e at (default-within d r 0 l (omega arith)))
+    payment-sized r b = either-size (region r .standing) _ _ _ (turned-size d r) (default-within d r 0 b (omega arith))
 
     used-sized : Sized (λ m. m .used)
-    used-sized r l = either-size (region r .standing) _ _ _ (turned-size r) (default-within d r 1 l (omega arith))
+    used-sized r b = either-size (region r .standing) _ _ _ (turned-size d r) (default-within d r 1 b (omega arith))
 
     unused-sized : Sized (λ m. m .unused)
-    unused-sized r l = omega (arith, default-within d r 2 l (omega arith) .size)
+    unused-sized r b = omega (arith, default-within d r 2 b (omega arith) .size)
 
     -- and all regions together
     regions-within :
         (pick : Member → ℤ) → Sized pick → (n : ℕ) → n ≤ regions → Within 3_130_000_000_000_000_000 (sum n (λ r. when (bit r set) (pick (region r))))
     unfolding sumℕ
-    regions-within pick s n l =
+    regions-within pick s n b =
         record {
           size =
               omega (
                 arith,
-                sum-size n (λ r. when (bit r set) (pick (region r))) (λ r. rows-there r units places * performance-limit + residual-default-limit)
+                sum-size n (λ r. when (bit r set) (pick (region r))) (λ r. in-region r * performance-limit + residual-default-limit)
                     (λ r k. when-≤ (bit r set) (pick (region r)) _ (s r (omega arith))),
-                sumℕ-prefix n regions (λ r. rows-there r units places * performance-limit + residual-default-limit) l,
-                sumℕ-plus regions (λ r. rows-there r units places * performance-limit) (λ r. residual-default-limit),
-                sumℕ-times regions performance-limit (λ r. rows-there r units places),
-                mul-le-mul-right performance-limit (in-one-region units places),
+                sumℕ-prefix n regions (λ r. in-region r * performance-limit + residual-default-limit) b,
+                sumℕ-plus regions (λ r. in-region r * performance-limit) (λ r. residual-default-limit),
+                sumℕ-times regions performance-limit in-region,
+                mul-le-mul-right performance-limit (in-one-region units l),
                 h .raise .few,
               );
         }
@@ -256,11 +270,11 @@ module _ (d : Direction) (set units : ℕ) (figures : List ℤ) (places : List �
     adding :
         (pick : Member → ℤ) → Sized pick → (n : ℕ) → n < regions → bit n set ≡ true →
         Fitting (sum n (λ r. when (bit r set) (pick (region r)))) (pick (region n))
-    adding pick s n l e =
+    adding pick s n b e =
         let more : sum (n + 1) (λ r. when (bit r set) (pick (region r))) ≡ sum n (λ r. when (bit r set) (pick (region r))) +ℤ pick (region n) = sum-step n
         (λ r. when (bit r set) (pick (region r))) ∙ rw e in
         let size : Within 3_130_000_000_000_000_000 (pick (region n)) =
-        record { size = omega (arith, s n l, count-≤ units (λ i. eqb n (place-region i places)), h .raise .few) } in
+        record { size = omega (arith, s n b, count-≤ units (λ i. eqb n (region-of l i)), h .raise .few) } in
         record {
           first = fits-within tt (regions-within pick s n (omega arith));
           second = fits-within tt size;
@@ -275,12 +289,12 @@ module _ (d : Direction) (set units : ℕ) (figures : List ℤ) (places : List �
 
     -- a region of the set joins the residual of those before it
     pub joins : (n : ℕ) {m next : Member} → n < regions → bit n set ≡ true → m ≡ residual n → next ≡ region n → Joins n m next
-    joins n l e em en =
+    joins n b e em en =
         rw (em, en)
         (record {
-          payment = adding (λ m. m .payment) payment-sized n l e;
-          used = adding (λ m. m .used) used-sized n l e;
-          unused = adding (λ m. m .unused) unused-sized n l e;
+          payment = adding (λ m. m .payment) payment-sized n b e;
+          used = adding (λ m. m .used) used-sized n b e;
+          unused = adding (λ m. m .unused) unused-sized n b e;
           is = sym (residual-more n e);
         })
 

@@ -1,9 +1,8 @@
 -- What proofs/BookAnswered.antt speaks of.
 use mathlib.Core.Path.{_≡_}
-use mathlib.Core.Bool.{false}
+use mathlib.Core.Bool.{true, false}
 use mathlib.Core.List.{List, [], _∷_, _++_, map}
 use Prim.Native.Nat.{ℕ, _+_, _≤_, _<_}
-use lib.IntN.{ℤ}
 use lib.ListN.{length, getD}
 use Rattle.rules.specs.Refusals.{taken}
 use Rattle.rules.specs.Book.{Requirement, covers, Book}
@@ -13,49 +12,24 @@ use Rattle.rules.specs.Members.{unit, residual}
 use Rattle.rules.specs.Answer.{Line, answered, answer, Answer as Full}
 use Rattle.interval.specs.declared.Tally.{Tally}
 use Rattle.interval.specs.Tally.{before-units}
+use Rattle.interval.specs.Lent.{Lent}
 use Rattle.kept.specs.Kept.{region-of, row-standing, residual-row}
 use Rattle.chain.specs.Taken.{counts-in}
-use Rattle.chain.specs.Chain.{Lent, Chain}
+use Rattle.chain.specs.Chain.{Chain}
 use Rattle.chain.specs.BookWay.{records-in, Takes}
-use Rattle.chain.specs.Keeps.{kept-of, BookMeans}
+use Rattle.chain.specs.Keeps.{BookMeans}
 use Rattle.chain.specs.Spelled.{spelled}
 use Rattle.answer.specs.declared.Row.{Row}
-use Rattle.answer.specs.Lists.{headed, gathered}
-use Rattle.answer.specs.Roster.{Named, row-of, MemberPromise}
+use Rattle.answer.specs.Lists.{gathered}
+use Rattle.answer.specs.Roster.{Named, row-says, MemberPromise}
 use Rattle.answer.specs.declared.Answered.{Answered}
 use Rattle.answer.specs.declared.Answered.the-variants.{Given}
-use Rattle.answer.specs.Promises.{shown, AnswerPromise}
-
--- ---- the answer call over a part, by its promise, with the lent lists as a chain of calls left them
-pub record Columns : Type 0 where
-  pub performances : List ℤ
-  pub factors : List ℤ
-  pub payments : List ℤ
-  pub used : List ℤ
-  pub unused : List ℤ
-
-pub record AnswerCall (t : Tally) (part : List ℕ) (l : Lent) (old : Columns) (r : Answered) (new : Columns) : Type 0 where
-  pub promise :
-      AnswerPromise t part (l .measures) (l .positive) (l .negative) (l .figures) (l .places) (l .raise) (l .lower) (l .defaults)
-      (old .performances) (old .factors) (old .payments) (old .used) (old .unused) r
-      (new .performances) (new .factors) (new .payments) (new .used) (new .unused)
-
--- each column takes one number more than there are units
-pub record ColumnsLong (units : ℕ) (old : Columns) : Type 0 where
-  pub performances : units < length (old .performances)
-  pub factors : units < length (old .factors)
-  pub payments : units < length (old .payments)
-  pub used : units < length (old .used)
-  pub unused : units < length (old .unused)
+use Rattle.answer.specs.Promises.{Columns, columns-long, shown, with-lines, AnswerPromise}
 
 -- an answer's figures, and from the front of each column on a number of each of its lines
-pub record Answers (a : Full) (old : Columns) (r : Answered) (new : Columns) : Type 0 where
-  pub reply : r ≡ Given (shown a)
-  pub performances : new .performances ≡ headed (map (λ l. l .performance) (a .lines)) (old .performances)
-  pub factors : new .factors ≡ headed (map (λ l. l .factor) (a .lines)) (old .factors)
-  pub payments : new .payments ≡ headed (map (λ l. l .payment) (a .lines)) (old .payments)
-  pub used : new .used ≡ headed (map (λ l. l .used) (a .lines)) (old .used)
-  pub unused : new .unused ≡ headed (map (λ l. l .unused) (a .lines)) (old .unused)
+pub record Answers (q : Requirement) (a : Full) (old : Columns) (r : Answered) (new : Columns) : Type 0 where
+  pub reply : r ≡ Given (shown q a)
+  pub written : new ≡ with-lines a old
 
 -- a line's name and standing
 abbrev pub line-named : Line → Named
@@ -64,17 +38,16 @@ line-named l = record { name = l .name; standing = l .standing }
 -- ---- THE RULES' ANSWER about a book, to a requirement whose record starts a part: what the calls give that are handed this part
 pub record RulesAnswer (b : Book) (t : Tally) (l : Lent) (part : List ℕ) (q : Requirement) : Type 0 where
   -- `answer` gives its figures and its lines' numbers, and refuses nothing
-  pub answered : {old new : Columns} {r : Answered} → ColumnsLong (t .units) old → AnswerCall t part l old r new → Answers (answer b q) old r new
+  pub answered : {old new : Columns} {r : Answered} → columns-long (t .units) old ≡ true → AnswerPromise t part l old r new → Answers q (answer b q) old r new
   -- `member` tells of each row: a unit of the requirement's regions, with its number and standing, or one of another region
   pub rows :
-      (j : ℕ) → j < t .units → {r : Row} → MemberPromise j (t .units) (q .direction) (q .set) (l .figures) (l .numbers) (l .places) r →
-      r ≡ row-of (kept-of t l) q j
+      (j : ℕ) → j < t .units → {r : Row} → MemberPromise t j (q .direction) (q .set) l r → r ≡ row-says l (q .direction) (q .set) j
   -- and those units in their order, then the residual, have the names and standings of its lines
   pub lines :
       map line-named (answer b q .lines) ≡
-      gathered (λ j. covers q (region-of (kept-of t l) j))
-      (λ j. record { name = unit (getD (l .numbers) j 0); standing = row-standing (kept-of t l) (q .direction) j }) (t .units)
-      ++ (record { name = residual; standing = residual-row (kept-of t l) q .standing } ∷ [])
+      gathered (λ j. covers q (region-of l j))
+      (λ j. record { name = unit (getD (l .numbers) j 0); standing = row-standing l (q .direction) j }) (t .units)
+      ++ (record { name = residual; standing = residual-row t l q .standing } ∷ [])
 
 -- to every requirement, asked for with any part that its record starts, cut or not, of the book or any other
 abbrev pub RulesAnswers : Book → Tally → Lent → Type 0

@@ -5,13 +5,13 @@ pub mod Lists
 pub mod Promises
 pub mod Lent
 pub mod Made
-pub mod Rcr
 pub mod Residual
 pub mod Values
+pub mod Rcr
 pub mod Roster
 pub mod Pools
 pub mod Shares
 pub mod Tested
 pub mod Charges
-pub mod Given
+pub mod Worked
 pub mod BookAnswered

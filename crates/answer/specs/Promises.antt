@@ -7,7 +7,7 @@ use Prim.Native.Nat.{ℕ}
 use lib.Dec.{ltb}
 use lib.IntN.{ℤ}
 use lib.ListN.{length}
-use Rattle.rules.specs.declared.Refusal.the-variants.{OutOfTurn, TooShort}
+use Rattle.rules.specs.declared.Refusal.the-variants.{WrongState, TooShort}
 use Rattle.rules.specs.declared.Standing.{Standing}
 use Rattle.rules.specs.declared.Standing.the-variants.{Live}
 use Rattle.rules.specs.Refusals.{Reply, taken, refused, unless}
@@ -45,9 +45,9 @@ columns-long units c =
 -- ---- the requirement, as its record says, wherever it stands; before it 11 out of turn, 12 for a short list, 11 for a lent number out of range
 unfoldable pub answer-reply : Tally → List ℕ → Lent → Columns → Reply Requirement
 answer-reply t part l c =
-    unless (in-range t && answer-turn t) OutOfTurn
+    unless (in-range t && answer-turn t) WrongState
     (unless ((regions-long l && rows-long (t .units) l) && columns-long (t .units) c) TooShort
-    (unless (kept-fine t l) OutOfTurn
+    (unless (kept-fine t l) WrongState
     (requirement-record 0 false part)))
 
 -- the standing of the last line, the residual's

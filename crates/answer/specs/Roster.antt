@@ -2,82 +2,66 @@
 use mathlib.Core.Path.{_≡_}
 use mathlib.Core.Bool.{Bool, cond, _&&_}
 use mathlib.Core.List.{List, []}
-use Prim.Native.Nat.{ℕ, _+_, _*_, _/_, _%_}
+use Prim.Native.Nat.{ℕ, _*_, _/_, _%_}
 use lib.Dec.{eqb, leb, ltb}
-use lib.IntN.{ℤ, pos}
+use lib.IntN.{ℤ}
 use lib.ListN.{length, getD}
-use lib.Signed.{leZ}
 use Rattle.rules.specs.declared.Direction.{Direction}
 use Rattle.rules.specs.declared.Reason.the-variants.{BadUnit}
-use Rattle.rules.specs.declared.Refusal.the-variants.{OutOfTurn, TooShort}
+use Rattle.rules.specs.declared.Refusal.the-variants.{WrongState, TooShort}
 use Rattle.rules.specs.declared.Standing.{Standing}
-use Rattle.rules.specs.Quantities.{regions, most-units}
+use Rattle.rules.specs.Quantities.{regions}
 use Rattle.rules.specs.Refusals.{Reply, taken, refused, unless}
 use Rattle.rules.specs.Bytes.{bit}
-use Rattle.rules.specs.Book.{Requirement, covers}
 use Rattle.rules.specs.RequirementRecord.{set-fine}
 use Rattle.rules.specs.Standings.{standing}
 use Rattle.rules.specs.Members.{Name}
-use Rattle.interval.specs.Lent.{figures-each, figures-length}
-use Rattle.kept.specs.Kept.{Kept, region-of, row-standing}
-use Rattle.answer.specs.Asked.{asked}
+use Rattle.interval.specs.declared.Tally.{Tally}
+use Rattle.interval.specs.Tally.{in-range, answer-turn}
+use Rattle.interval.specs.Lent.{Lent, figures-length, of-interval}
+use Rattle.kept.specs.Kept.{figure, reliable-of, region-of, row-standing}
+use Rattle.kept.specs.Range.{from-0}
+use Rattle.answer.specs.Asked.{lent-members}
 use Rattle.answer.specs.declared.Row.{Row}
 use Rattle.answer.specs.declared.Row.the-variants.{Unit, Other, Refused}
-use Rattle.answer.specs.Made.{reliable-at, flag}
+use Rattle.answer.specs.Made.{reliable-at}
 
--- room, by the lengths of the lists
-abbrev pub roster-room : ℕ → ℕ → ℕ → ℕ → Bool
-roster-room units figures numbers places = leb figures-length figures && (leb units numbers && leb units places)
+-- long enough for the figures of five regions, the numbers and homes of n units
+abbrev pub member-long : ℕ → Lent → Bool
+member-long n l = leb figures-length (length (l .figures)) && (leb n (length (l .numbers)) && leb n (length (l .homes)))
 
--- a place names a region, whose reliability is 0 or 1
-abbrev pub place-fine : Direction → ℕ → List ℤ → Bool
-place-fine d place figures =
-    ltb place (2 * regions)
-    && (leZ (pos 0) (getD figures (figures-each * (place / 2) + reliable-at d) (pos 0))
-    && leZ (getD figures (figures-each * (place / 2) + reliable-at d) (pos 0)) (pos 1))
+-- a home names a region, whose reliability is 0 or 1
+abbrev pub home-fine : Direction → ℕ → List ℤ → Bool
+home-fine d home figures =
+    let l = lent-members figures [] [] in
+    ltb home (2 * regions) && from-0 1 (figure l (home / 2) (reliable-at d))
 
--- a unit of the requirement's regions, or of another
-abbrev pub row-of : Kept → Requirement → ℕ → Row
-row-of k q i = cond (covers q (region-of k i)) (Unit (getD (k .numbers) i 0) (row-standing k (q .direction) i)) Other
+-- who stands in row i: a unit of the set's regions, or of another
+abbrev pub row-says : Lent → Direction → ℕ → ℕ → Row
+row-says l d set i = cond (bit (region-of l i) set) (Unit (getD (l .numbers) i 0) (row-standing l d i)) Other
 
--- 11 for fields that break their rule or a row that no unit has, 12 for a short list, 11 for a lent number out of range
-unfoldable pub member-reply : Kept → Requirement → ℕ → Reply Row
-member-reply k q i =
-    unless (leb (k .units) most-units && set-fine (q .set)) OutOfTurn
-    (unless (ltb i (k .units)) OutOfTurn
-    (unless (roster-room (k .units) (length (k .figures)) (length (k .numbers)) (length (k .places))) TooShort
-    (unless (place-fine (q .direction) (getD (k .places) i 0) (k .figures)) OutOfTurn (taken (row-of k q i)))))
+-- 11 for a tally that is out of range or whose units are not all in, for a set out of range or a row that no unit has; 12 for a short list; 11 for a lent
+-- number out of range
+unfoldable pub member-reply : Tally → ℕ → Direction → ℕ → Lent → Reply Row
+member-reply t i d set l =
+    unless (in-range t && answer-turn t) WrongState
+    (unless (set-fine set && ltb i (t .units)) WrongState
+    (unless (member-long (t .units) l) TooShort
+    (unless (of-interval (t .interval) (l .figures) && home-fine d (getD (l .homes) i 0) (l .figures)) WrongState
+    (taken (row-says l d set i)))))
 
--- by the unit's number and place
+-- by the unit's number and home
 abbrev pub row-told : Direction → ℕ → ℕ → ℕ → List ℤ → Reply Row
-row-told d set number place figures =
-    unless (place-fine d place figures) OutOfTurn
-    (taken (cond (bit (place / 2) set) (Unit number (standing (flag d (place / 2) figures) (eqb (place % 2) 1) BadUnit)) Other))
+row-told d set number home figures =
+    unless (home-fine d home figures) WrongState
+    (taken (cond (bit (home / 2) set) (Unit number (standing (reliable-of (lent-members figures [] []) d (home / 2)) (eqb (home % 2) 1) BadUnit)) Other))
 
 abbrev pub row-answer : Reply Row → Row
 row-answer (taken r) = r
 row-answer (refused r) = Refused r
 
--- what is lent, as what is kept: no other column is read
-abbrev pub kept-roster : ℕ → List ℤ → List ℕ → List ℕ → Kept
-kept-roster units figures numbers places =
-    record {
-      percent = 0;
-      units = units;
-      measures = [];
-      positive = [];
-      negative = [];
-      figures = figures;
-      numbers = numbers;
-      places = places;
-      raise = [];
-      lower = [];
-      defaults = [];
-    }
-
-module _ (row units : ℕ) (d : Direction) (set : ℕ) (figures : List ℤ) (numbers places : List ℕ) where
-  pub record MemberPromise (r : Row) : Type 0 where
-    pub reply : r ≡ row-answer (member-reply (kept-roster units figures numbers places) (asked d set) row)
+pub record MemberPromise (t : Tally) (i : ℕ) (d : Direction) (set : ℕ) (l : Lent) (r : Row) : Type 0 where
+  pub reply : r ≡ row-answer (member-reply t i d set l)
 
 -- a member's name and standing; the rows' walk, in which those of other regions are passed over
 pub record Named : Type 0 where

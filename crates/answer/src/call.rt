@@ -1,8 +1,10 @@
 // The call that answers a requirement, by its record in the book.
-ghost use Rattle.answer.specs.Promises.{AnswerPromise};
+ghost use Rattle.interval.specs.Lent.{Lent, lent-answer};
+ghost use Rattle.answer.specs.Promises.{columns, AnswerPromise};
 use super::Answered;
-use super::given::given;
+use super::lent::columns_long;
 use super::tested::tested_requirement;
+use super::worked::work_out;
 use book::RequirementRead;
 use interval::Tally;
 
@@ -12,54 +14,39 @@ pub fn answer(
     tally: Tally,
     part: &[u8],
     measures: &[i32],
-    positive: &[i64],
-    negative: &[i64],
+    sums: &[i64],
     figures: &[i64],
-    places: &[u8],
-    raise: &[i64],
-    lower: &[i64],
-    defaults: &[i64],
+    homes: &[u8],
+    rows: &[i64],
     performances: &mut [i64],
     factors: &mut [i64],
     payments: &mut [i64],
     used: &mut [i64],
     unused: &mut [i64],
 ) -> Answered
-    ensures { λ r. ⌜ AnswerPromise tally (now (part .entry)) (now (measures .entry)) (now (positive .entry)) (now (negative .entry)) (now (figures .entry))
-        (now (places .entry)) (now (raise .entry)) (now (lower .entry)) (now (defaults .entry)) (now (performances .entry)) (now (factors .entry))
-        (now (payments .entry)) (now (used .entry)) (now (unused .entry)) r (now (performances .exit)) (now (factors .exit)) (now (payments .exit))
-        (now (used .exit)) (now (unused .exit)) ⌝ }
+    ensures { λ r. ⌜ ((rest : Lent) → AnswerPromise tally (now (part .entry))
+        (lent-answer rest (now (measures .entry)) (now (sums .entry)) (now (figures .entry)) (now (homes .entry)) (now (rows .entry)))
+        (columns (now (performances .entry)) (now (factors .entry)) (now (payments .entry)) (now (used .entry)) (now (unused .entry))) r
+        (columns (now (performances .exit)) (now (factors .exit)) (now (payments .exit)) (now (used .exit)) (now (unused .exit)))) ⌝ }
 {
-    let read = tested_requirement(
-        tally,
-        part,
-        measures,
-        positive,
-        negative,
-        figures,
-        places,
-        raise,
-        lower,
-        defaults,
+    let long = columns_long(
+        tally.units,
         performances.len(),
         factors.len(),
         payments.len(),
         used.len(),
         unused.len(),
     );
+    let read = tested_requirement(tally, part, measures, sums, figures, homes, rows, long);
     match read {
-        RequirementRead::Taken(fields) => given(
+        RequirementRead::Taken(fields) => work_out(
+            tally,
             fields,
-            tally.units as usize,
-            tally.percent,
             measures,
-            positive,
-            negative,
+            sums,
             figures,
-            places,
-            raise,
-            lower,
-            defaults,
+            homes,
+            rows,
             performances,
             factors,
             payments,

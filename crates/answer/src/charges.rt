@@ -1,6 +1,7 @@
 // A requirement's cost, charged to its members: the used part, and what is left of it.
 ghost use lib.ListN.{length};
-ghost use Rattle.answer.specs.Charges.{CostReady, CostCharged};
+ghost use Rattle.answer.specs.Asked.{lent-members};
+ghost use Rattle.answer.specs.Charges.{CostTested, CostCharged};
 use super::Field;
 use super::Member;
 use super::pools::used_pool;
@@ -27,19 +28,17 @@ pub(crate) fn charge_cost(
     units: usize,
     residual: Member,
     figures: &[i64],
-    places: &[u8],
-    raise: &[i64],
-    lower: &[i64],
-    defaults: &[i64],
+    homes: &[u8],
+    rows: &[i64],
     values: &mut [i64],
     used: &mut [i64],
     unused: &mut [i64],
 ) -> Charges
-    requires { ⌜ CostReady fields units (now figures) (now places) (now raise) (now lower) (now defaults) residual (length (now values)) (length (now used))
-        (length (now unused)) ⌝ }
-    ensures { λ r. ⌜ CostCharged fields reliable units (now (figures .entry)) (now (places .entry)) (now (raise .entry)) (now (lower .entry))
-        (now (defaults .entry)) (now (values .entry)) (now (used .entry)) (now (unused .entry)) r (now (values .exit)) (now (used .exit)) (now (unused .exit))
-        ⌝ }
+    requires { ⌜ CostTested fields units (lent-members (now figures) (now homes) (now rows)) residual
+        (length (now values)) (length (now used)) (length (now unused)) ⌝ }
+    ensures { λ r. ⌜ CostCharged fields reliable units
+        (lent-members (now (figures .entry)) (now (homes .entry)) (now (rows .entry)))
+        (now (values .entry)) (now (used .entry)) (now (unused .entry)) r (now (values .exit)) (now (used .exit)) (now (unused .exit)) ⌝ }
 {
     let direction = fields.direction;
     let set = fields.set;
@@ -53,10 +52,8 @@ pub(crate) fn charge_cost(
         set,
         residual,
         figures,
-        places,
-        raise,
-        lower,
-        defaults,
+        homes,
+        rows,
         values,
         unused,
     );
@@ -68,10 +65,8 @@ pub(crate) fn charge_cost(
         set,
         residual,
         figures,
-        places,
-        raise,
-        lower,
-        defaults,
+        homes,
+        rows,
         values,
         used,
     );

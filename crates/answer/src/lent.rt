@@ -1,55 +1,49 @@
 // Which lent lists an answer is worked out from: long enough, else 12, and of numbers in range, else 11.
 ghost use mathlib.Core.Path.{_≡_};
-ghost use mathlib.Core.List.{[]};
+ghost use mathlib.Core.Bool.{_&&_};
+ghost use lib.Dec.{ltb};
+ghost use Rattle.interval.specs.Lent.{regions-long, rows-long};
 ghost use Rattle.kept.specs.Range.{kept-fine};
+ghost use Rattle.answer.specs.Asked.{lent};
 ghost use Rattle.answer.specs.Lent.{Long};
-ghost use Rattle.answer.specs.Promises.{lists-long, columns-long, kept-lists};
 use super::figures::figures_in_range;
 use super::rows::rows_in_range;
 use super::series::series_in_range;
 use interval::FIGURES_LENGTH;
+use interval::ROW_EACH;
 use interval::SERIES_LENGTH;
+use interval::SUMS_LENGTH;
+use interval::Tally;
 
-// The series and figures of five regions, and a row for each unit: by the lengths of the lists.
+// The measures, sums and figures of five regions, a home and a row for each unit.
 pub(crate) fn lists_long(
     units: u16,
-    measures: usize,
-    positive: usize,
-    negative: usize,
-    figures: usize,
-    places: usize,
-    raise: usize,
-    lower: usize,
-    defaults: usize,
+    measures: &[i32],
+    sums: &[i64],
+    figures: &[i64],
+    homes: &[u8],
+    rows: &[i64],
 ) -> bool
-    ensures { λ r. ⌜ r ≡ lists-long units measures positive negative figures places raise lower defaults ⌝ }
+    ensures { λ r. ⌜ r ≡ (regions-long (lent (now (measures .entry)) (now (sums .entry)) (now (figures .entry)) (now (homes .entry)) (now (rows .entry)))
+        && rows-long units (lent (now (measures .entry)) (now (sums .entry)) (now (figures .entry)) (now (homes .entry)) (now (rows .entry)))) ⌝ }
 {
-    let rows = units as usize;
-    if measures < SERIES_LENGTH {
+    let many = units as usize;
+    if measures.len() < SERIES_LENGTH {
         return false;
     }
-    if positive < SERIES_LENGTH {
+    if sums.len() < SUMS_LENGTH {
         return false;
     }
-    if negative < SERIES_LENGTH {
+    if figures.len() < FIGURES_LENGTH {
         return false;
     }
-    if figures < FIGURES_LENGTH {
+    if homes.len() < many {
         return false;
     }
-    if places < rows {
-        return false;
-    }
-    if raise < rows {
-        return false;
-    }
-    if lower < rows {
-        return false;
-    }
-    6 * rows <= defaults
+    ROW_EACH * many <= rows.len()
 }
 
-// One number more than units in each of the five columns.
+// One number more than units in each of the five columns, by their lengths.
 pub(crate) fn columns_long(
     units: u16,
     performances: usize,
@@ -58,45 +52,42 @@ pub(crate) fn columns_long(
     used: usize,
     unused: usize,
 ) -> bool
-    ensures { λ r. ⌜ r ≡ columns-long units performances factors payments used unused ⌝ }
+    ensures { λ r. ⌜ r ≡ (ltb units performances && (ltb units factors && (ltb units payments && (ltb units used && ltb units unused)))) ⌝ }
 {
-    let rows = units as usize;
-    if performances <= rows {
+    let many = units as usize;
+    if performances <= many {
         return false;
     }
-    if factors <= rows {
+    if factors <= many {
         return false;
     }
-    if payments <= rows {
+    if payments <= many {
         return false;
     }
-    if used <= rows {
+    if used <= many {
         return false;
     }
-    rows < unused
+    many < unused
 }
 
 // Every number that is read.
 pub(crate) fn lent_in_range(
-    units: u16,
+    tally: Tally,
     measures: &[i32],
-    positive: &[i64],
-    negative: &[i64],
+    sums: &[i64],
     figures: &[i64],
-    places: &[u8],
-    raise: &[i64],
-    lower: &[i64],
-    defaults: &[i64],
+    homes: &[u8],
+    rows: &[i64],
 ) -> bool
-    requires { ⌜ Long (kept-lists units 0 (now measures) (now positive) (now negative) (now figures) [] (now places) (now raise) (now lower) (now defaults)) ⌝ }
-    ensures { λ r. ⌜ r ≡ kept-fine (kept-lists units 0 (now (measures .entry)) (now (positive .entry)) (now (negative .entry)) (now (figures .entry)) []
-        (now (places .entry)) (now (raise .entry)) (now (lower .entry)) (now (defaults .entry))) ⌝ }
+    requires { ⌜ Long (tally .units) (lent (now measures) (now sums) (now figures) (now homes) (now rows)) ⌝ }
+    ensures { λ r. ⌜ r ≡ kept-fine tally
+        (lent (now (measures .entry)) (now (sums .entry)) (now (figures .entry)) (now (homes .entry)) (now (rows .entry))) ⌝ }
 {
-    if !series_in_range(units, measures, positive, negative) {
+    if !series_in_range(tally.units, measures, sums) {
         return false;
     }
-    if !figures_in_range(figures) {
+    if !figures_in_range(tally.interval, figures) {
         return false;
     }
-    rows_in_range(units as usize, places, raise, lower, defaults)
+    rows_in_range(tally.units as usize, homes, rows)
 }

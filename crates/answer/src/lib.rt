@@ -9,10 +9,9 @@ pub mod call;
 mod charges;
 mod defaults;
 mod figures;
-mod given;
+mod homes;
 mod lent;
 mod made;
-mod places;
 mod points;
 mod pools;
 mod rcr;
@@ -26,14 +25,26 @@ mod sizes;
 mod tested;
 mod units;
 mod values;
+mod worked;
 
-// A region has nine figures: its generation, whether raise and lower are reliable, six defaults.
-const FIGURES: usize = 9;
+// Two homes for each region: of its bad units and of its good ones.
+const HOMES: u8 = 10;
 
-const GENERATION: usize = 0;
+// Where a region's numbers stand among its ten figures, past the interval number; from DEFAULTS on its residual's six defaults.
+const GENERATION: usize = 1;
 
-// Two places for each region: of its bad units and of its good ones.
-const PLACES: u8 = 10;
+const RAISE_RELIABLE: usize = 2;
+
+const LOWER_RELIABLE: usize = 3;
+
+const DEFAULTS: usize = 4;
+
+// And a unit's in its row of eight; from ROW_DEFAULTS on its six defaults.
+const RAISE_PERFORMANCE: usize = 0;
+
+const LOWER_PERFORMANCE: usize = 1;
+
+const ROW_DEFAULTS: usize = 2;
 
 // Which number of a member a share goes by.
 pub(crate) enum Field {
@@ -67,6 +78,7 @@ pub struct Charge {
 pub struct Answer {
     pub number: u16,
     pub direction: Direction,
+    pub set: u8,
     pub members: u16,
     pub residual: Standing,
     pub rcr: u64,

@@ -1,18 +1,21 @@
 // RCR's 75 points. Every number has been tested, so these ask for bounds and test none again.
 ghost use mathlib.Core.Path.{_≡_};
+ghost use mathlib.Core.List.{[]};
 ghost use Prim.Native.Nat.{_<_, max};
 ghost use lib.IntN.{pos};
 ghost use lib.Signed.{ltZ};
 ghost use Rattle.rules.specs.Book.{toward};
-ghost use Rattle.answer.specs.Rcr.{Ready, Summed, point-response, points-largest};
-use super::FIGURES;
+ghost use Rattle.answer.specs.Asked.{lent};
+ghost use Rattle.answer.specs.Rcr.{PointsInRange, Summed, point-response, points-largest};
 use super::GENERATION;
 use super::regions::covers;
 use super::sizes::above;
 use super::sizes::below;
-use super::sizes::part;
+use super::sizes::if_counted;
 use book::POINTS;
 use book::REGIONS;
+use interval::FIGURES_EACH;
+use interval::SUMS_EACH;
 use rules::Direction;
 
 // Over the set's regions, at one point: generation times FM, and the sums of positive and of negative deviations.
@@ -41,30 +44,23 @@ fn larger(a: u64, b: u64) -> u64
     a
 }
 
-fn sums_at(
-    set: u8,
-    t: usize,
-    measures: &[i32],
-    positive: &[i64],
-    negative: &[i64],
-    figures: &[i64],
-) -> Sums
-    requires { ⌜ (t < 75) × Ready (now measures) (now positive) (now negative) (now figures) ⌝ }
-    ensures { λ r. ⌜ Summed set t (now (measures .entry)) (now (positive .entry)) (now (negative .entry)) (now (figures .entry)) r ⌝ }
+fn sums_at(set: u8, t: usize, measures: &[i32], sums: &[i64], figures: &[i64]) -> Sums
+    requires { ⌜ (t < 75) × PointsInRange (lent (now measures) (now sums) (now figures) [] []) ⌝ }
+    ensures { λ r. ⌜ Summed set t (lent (now (measures .entry)) (now (sums .entry)) (now (figures .entry)) [] []) r ⌝ }
 {
     let mut weighed: i64 = 0;
     let mut risen: i64 = 0;
     let mut fallen: i64 = 0;
     let mut region: usize = 0;
     while region < REGIONS {
-        let at = POINTS * region + t;
+        let start = SUMS_EACH * region;
         let counts = covers(set, region);
-        weighed += part(
+        weighed += if_counted(
             counts,
-            figures[FIGURES * region + GENERATION] * (measures[at] as i64),
+            figures[FIGURES_EACH * region + GENERATION] * (measures[POINTS * region + t] as i64),
         );
-        risen += part(counts, positive[at]);
-        fallen += part(counts, negative[at]);
+        risen += if_counted(counts, sums[start + t]);
+        fallen += if_counted(counts, sums[start + (POINTS + t)]);
         region += 1;
     }
     Sums {
@@ -80,37 +76,35 @@ fn response_at(
     set: u8,
     t: usize,
     measures: &[i32],
-    positive: &[i64],
-    negative: &[i64],
+    sums: &[i64],
     figures: &[i64],
 ) -> u64
-    requires { ⌜ (t < 75) × Ready (now measures) (now positive) (now negative) (now figures) ⌝ }
-    ensures { λ r. ⌜ r ≡ point-response direction set (now (measures .entry)) (now (positive .entry)) (now (negative .entry)) (now (figures .entry)) t ⌝ }
+    requires { ⌜ (t < 75) × PointsInRange (lent (now measures) (now sums) (now figures) [] []) ⌝ }
+    ensures { λ r. ⌜ r ≡ point-response direction set (lent (now (measures .entry)) (now (sums .entry)) (now (figures .entry)) [] []) t ⌝ }
 {
-    let sums = sums_at(set, t, measures, positive, negative, figures);
-    if !right_sign(direction, sums.weighed) {
+    let found = sums_at(set, t, measures, sums, figures);
+    if !right_sign(direction, found.weighed) {
         return 0;
     }
-    larger(above(sums.positive), below(sums.negative))
+    larger(above(found.positive), below(found.negative))
 }
 
 pub(crate) fn largest_response(
     direction: Direction,
     set: u8,
     measures: &[i32],
-    positive: &[i64],
-    negative: &[i64],
+    sums: &[i64],
     figures: &[i64],
 ) -> u64
-    requires { ⌜ Ready (now measures) (now positive) (now negative) (now figures) ⌝ }
-    ensures { λ r. ⌜ r ≡ points-largest direction set (now (measures .entry)) (now (positive .entry)) (now (negative .entry)) (now (figures .entry)) ⌝ }
+    requires { ⌜ PointsInRange (lent (now measures) (now sums) (now figures) [] []) ⌝ }
+    ensures { λ r. ⌜ r ≡ points-largest direction set (lent (now (measures .entry)) (now (sums .entry)) (now (figures .entry)) [] []) ⌝ }
 {
     let mut largest: u64 = 0;
     let mut t: usize = 0;
     while t < POINTS {
         largest = larger(
             largest,
-            response_at(direction, set, t, measures, positive, negative, figures),
+            response_at(direction, set, t, measures, sums, figures),
         );
         t += 1;
     }

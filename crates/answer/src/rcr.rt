@@ -1,7 +1,9 @@
 // RCR, the requirement for corrective response, from what the calls of `interval` have kept of a book (document 01, RCR): the reliability of
 // the set's regions, their bad units, and last the 75 points.
 ghost use mathlib.Core.Path.{_≡_};
-ghost use Rattle.answer.specs.Rcr.{FoundReady, found-is};
+ghost use mathlib.Core.List.{[]};
+ghost use Rattle.answer.specs.Asked.{lent};
+ghost use Rattle.answer.specs.Rcr.{RcrTested, found-is};
 use super::points::largest_response;
 use super::regions::all_reliable;
 use super::units::few_bad;
@@ -19,14 +21,13 @@ pub(crate) fn rcr(
     direction: Direction,
     set: u8,
     measures: &[i32],
-    positive: &[i64],
-    negative: &[i64],
+    sums: &[i64],
     figures: &[i64],
-    places: &[u8],
+    homes: &[u8],
 ) -> Found
-    requires { ⌜ FoundReady units percent (now measures) (now positive) (now negative) (now figures) (now places) ⌝ }
-    ensures { λ r. ⌜ r ≡ found-is units percent direction set (now (measures .entry)) (now (positive .entry)) (now (negative .entry))
-        (now (figures .entry)) (now (places .entry)) ⌝ }
+    requires { ⌜ RcrTested units percent (lent (now measures) (now sums) (now figures) (now homes) []) ⌝ }
+    ensures { λ r. ⌜ r ≡ found-is units percent direction set
+        (lent (now (measures .entry)) (now (sums .entry)) (now (figures .entry)) (now (homes .entry)) []) ⌝ }
 {
     if !all_reliable(direction, set, figures) {
         return Found {
@@ -34,14 +35,14 @@ pub(crate) fn rcr(
             reliable: false,
         };
     }
-    if !few_bad(units, percent, set, places) {
+    if !few_bad(units, percent, set, homes) {
         return Found {
             rcr: 0,
             reliable: true,
         };
     }
     Found {
-        rcr: largest_response(direction, set, measures, positive, negative, figures),
+        rcr: largest_response(direction, set, measures, sums, figures),
         reliable: true,
     }
 }

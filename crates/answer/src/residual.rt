@@ -1,19 +1,24 @@
 // The residual of a requirement: the sums of its regions' residuals, live or default. It counts as default if any is.
 ghost use mathlib.Core.Path.{_≡_};
 ghost use mathlib.Core.Bool.{_||_};
+ghost use mathlib.Core.List.{[]};
 ghost use Prim.Native.Nat.{_+_, _<_, _≤_};
 ghost use lib.Dec.{eqb, leb};
 ghost use lib.ListN.{length};
-ghost use Rattle.answer.specs.Made.{side, region-made, worse-of, residual-to};
-ghost use Rattle.answer.specs.Residual.{RowsFit, Holds, RegionsFit};
-use super::FIGURES;
+ghost use Rattle.answer.specs.Asked.{lent-members};
+ghost use Rattle.answer.specs.Residual.{RowsWithin, Holds, residual-made, region-made, worse-of, RegionsWithin, residual-to};
+use super::DEFAULTS;
 use super::Member;
-use super::made::member_at;
+use super::homes::is_good;
+use super::made::defaults_place;
+use super::made::member_of;
+use super::made::performance_place;
 use super::made::standing_of;
-use super::places::is_good;
 use super::regions::covers;
 use super::regions::reliable;
 use book::REGIONS;
+use interval::FIGURES_EACH;
+use interval::ROW_EACH;
 use rules::Direction;
 use rules::Reason;
 use rules::Standing;
@@ -25,17 +30,19 @@ struct Held {
     sum: i64,
 }
 
-// What the rows before one hold, with it. A unit of another region adds nothing, and a bad one no performance.
-fn with_row(held: Held, region: usize, row: usize, places: &[u8], performances: &[i64]) -> Held
-    requires { ⌜ RowsFit (row + 1) (now places) (now performances) × Holds region row (now places) (now performances) held ⌝ }
-    ensures { λ r. ⌜ Holds region (row + 1) (now (places .entry)) (now (performances .entry)) r ⌝ }
+// What the rows before one hold, with it; `at` is where performances stand in a row. A unit of another region adds nothing, and a bad one no
+// performance.
+fn with_row(held: Held, at: usize, region: usize, row: usize, homes: &[u8], rows: &[i64]) -> Held
+    requires { ⌜ RowsWithin at (row + 1) (lent-members [] (now homes) (now rows))
+        × Holds at region row (lent-members [] (now homes) (now rows)) held ⌝ }
+    ensures { λ r. ⌜ Holds at region (row + 1) (lent-members [] (now (homes .entry)) (now (rows .entry))) r ⌝ }
 {
-    let place = places[row];
-    if region != (place / 2) as usize {
+    let home = homes[row];
+    if region != (home / 2) as usize {
         return held;
     }
     let units = held.units + 1;
-    if !is_good(place) {
+    if !is_good(home) {
         return Held {
             units: units,
             good: held.good,
@@ -45,13 +52,13 @@ fn with_row(held: Held, region: usize, row: usize, places: &[u8], performances: 
     Held {
         units: units,
         good: held.good + 1,
-        sum: held.sum + performances[row],
+        sum: held.sum + rows[ROW_EACH * row + at],
     }
 }
 
-fn rows_held(region: usize, units: usize, places: &[u8], performances: &[i64]) -> Held
-    requires { ⌜ RowsFit units (now places) (now performances) ⌝ }
-    ensures { λ r. ⌜ Holds region units (now (places .entry)) (now (performances .entry)) r ⌝ }
+fn rows_held(at: usize, region: usize, units: usize, homes: &[u8], rows: &[i64]) -> Held
+    requires { ⌜ RowsWithin at units (lent-members [] (now homes) (now rows)) ⌝ }
+    ensures { λ r. ⌜ Holds at region units (lent-members [] (now (homes .entry)) (now (rows .entry))) r ⌝ }
 {
     let mut held = Held {
         units: 0,
@@ -60,27 +67,10 @@ fn rows_held(region: usize, units: usize, places: &[u8], performances: &[i64]) -
     };
     let mut row: usize = 0;
     while row < units {
-        held = with_row(held, region, row, places, performances);
+        held = with_row(held, at, region, row, homes, rows);
         row += 1;
     }
     held
-}
-
-fn rows_toward(
-    direction: Direction,
-    region: usize,
-    units: usize,
-    places: &[u8],
-    raise: &[i64],
-    lower: &[i64],
-) -> Held
-    requires { ⌜ RowsFit units (now places) (now raise) × RowsFit units (now places) (now lower) ⌝ }
-    ensures { λ r. ⌜ Holds region units (now (places .entry)) (side direction (now (raise .entry)) (now (lower .entry))) r ⌝ }
-{
-    match direction {
-        Direction::Raise => rows_held(region, units, places, raise),
-        Direction::Lower => rows_held(region, units, places, lower),
-    }
 }
 
 fn some_good_or_none(good: u32, units: u32) -> bool
@@ -92,25 +82,45 @@ fn some_good_or_none(good: u32, units: u32) -> bool
     units == 0
 }
 
+// A residual with its region's three defaults of the direction.
+fn with_defaults(
+    direction: Direction,
+    standing: Standing,
+    performance: i64,
+    region: usize,
+    figures: &[i64],
+) -> Member
+    requires { ⌜ (region < 5) × (50 ≤ length (now figures)) ⌝ }
+    ensures { λ r. ⌜ r ≡ residual-made (lent-members (now (figures .entry)) [] []) direction standing performance region ⌝ }
+{
+    let start = FIGURES_EACH * region;
+    let at = DEFAULTS + defaults_place(direction);
+    member_of(
+        standing,
+        performance,
+        figures[start + (at + 0)],
+        figures[start + (at + 1)],
+        figures[start + (at + 2)],
+    )
+}
+
 // A region's residual: minus the performances of its good units.
 fn region_member(
     direction: Direction,
     region: usize,
     units: usize,
     figures: &[i64],
-    places: &[u8],
-    raise: &[i64],
-    lower: &[i64],
+    homes: &[u8],
+    rows: &[i64],
 ) -> Member
-    requires { ⌜ (region < 5) × (45 ≤ length (now figures)) × RowsFit units (now places) (now raise) × RowsFit units (now places) (now lower) ⌝ }
-    ensures { λ r. ⌜ r ≡ region-made direction region units (now (figures .entry)) (now (places .entry)) (now (raise .entry)) (now (lower .entry)) ⌝ }
+    requires { ⌜ (region < 5) × RegionsWithin units (lent-members (now figures) (now homes) (now rows)) ⌝ }
+    ensures { λ r. ⌜ r ≡ region-made units (lent-members (now (figures .entry)) (now (homes .entry)) (now (rows .entry))) direction region ⌝ }
 {
-    let rows = rows_toward(direction, region, units, places, raise, lower);
+    let held = rows_held(performance_place(direction), region, units, homes, rows);
     let sound = reliable(direction, region, figures);
-    let fine = some_good_or_none(rows.good, rows.units);
+    let fine = some_good_or_none(held.good, held.units);
     let standing = standing_of(sound, fine, Reason::NoGoodUnit);
-    let start = FIGURES * region + 3;
-    member_at(direction, standing, -rows.sum, start, figures)
+    with_defaults(direction, standing, -held.sum, region, figures)
 }
 
 // The worse of two standings.
@@ -138,18 +148,17 @@ fn with_region(
     region: usize,
     units: usize,
     figures: &[i64],
-    places: &[u8],
-    raise: &[i64],
-    lower: &[i64],
+    homes: &[u8],
+    rows: &[i64],
 ) -> Member
-    requires { ⌜ (region < 5) × RegionsFit units (now figures) (now places) (now raise) (now lower)
-        × (sum ≡ residual-to direction set units (now figures) (now places) (now raise) (now lower) region) ⌝ }
-    ensures { λ r. ⌜ r ≡ residual-to direction set units (now (figures .entry)) (now (places .entry)) (now (raise .entry)) (now (lower .entry)) (region + 1) ⌝ }
+    requires { ⌜ (region < 5) × RegionsWithin units (lent-members (now figures) (now homes) (now rows))
+        × (sum ≡ residual-to units (lent-members (now figures) (now homes) (now rows)) direction set region) ⌝ }
+    ensures { λ r. ⌜ r ≡ residual-to units (lent-members (now (figures .entry)) (now (homes .entry)) (now (rows .entry))) direction set (region + 1) ⌝ }
 {
     if !covers(set, region) {
         return sum;
     }
-    let next = region_member(direction, region, units, figures, places, raise, lower);
+    let next = region_member(direction, region, units, figures, homes, rows);
     let before = sum.standing;
     let after = next.standing;
     Member {
@@ -165,12 +174,11 @@ pub(crate) fn residual_member(
     set: u8,
     units: usize,
     figures: &[i64],
-    places: &[u8],
-    raise: &[i64],
-    lower: &[i64],
+    homes: &[u8],
+    rows: &[i64],
 ) -> Member
-    requires { ⌜ RegionsFit units (now figures) (now places) (now raise) (now lower) ⌝ }
-    ensures { λ r. ⌜ r ≡ residual-to direction set units (now (figures .entry)) (now (places .entry)) (now (raise .entry)) (now (lower .entry)) 5 ⌝ }
+    requires { ⌜ RegionsWithin units (lent-members (now figures) (now homes) (now rows)) ⌝ }
+    ensures { λ r. ⌜ r ≡ residual-to units (lent-members (now (figures .entry)) (now (homes .entry)) (now (rows .entry))) direction set 5 ⌝ }
 {
     let mut sum = Member {
         standing: Standing::Live,
@@ -180,17 +188,7 @@ pub(crate) fn residual_member(
     };
     let mut region: usize = 0;
     while region < REGIONS {
-        sum = with_region(
-            sum,
-            direction,
-            set,
-            region,
-            units,
-            figures,
-            places,
-            raise,
-            lower,
-        );
+        sum = with_region(sum, direction, set, region, units, figures, homes, rows);
         region += 1;
     }
     sum

@@ -1,11 +1,17 @@
-// The rows of the units: of each a place, a performance for raise and for lower, and six defaults.
+// The homes and rows of the units: of each a home, a performance for raise and for lower, and six defaults.
 ghost use mathlib.Core.Path.{_≡_};
-ghost use Prim.Native.Nat.{_*_, _≤_};
+ghost use mathlib.Core.List.{[]};
+ghost use Prim.Native.Nat.{_+_, _*_, _≤_, _<_};
 ghost use lib.ListN.{length};
-ghost use Rattle.answer.specs.Ranges.{RowRoom, row-fine, rows-here};
-use super::PLACES;
+ghost use Rattle.kept.specs.Range.{row-fine, rows-fine};
+ghost use Rattle.answer.specs.Asked.{tally-of, lent-members};
+use super::HOMES;
+use super::LOWER_PERFORMANCE;
+use super::RAISE_PERFORMANCE;
+use super::ROW_DEFAULTS;
 use super::defaults::six_in_range;
-use super::sizes::between;
+use super::sizes::within_bounds;
+use interval::ROW_EACH;
 
 const LEAST_PERFORMANCE: i64 = -5_625_000_000_000_000;
 
@@ -13,37 +19,39 @@ const MOST_PERFORMANCE: i64 = 5_625_000_000_000_000;
 
 const LEAST_DEFAULT: i64 = -5_625_000_000_000_000;
 
-fn row_in_range(row: usize, places: &[u8], raise: &[i64], lower: &[i64], defaults: &[i64]) -> bool
-    requires { ⌜ RowRoom row (now places) (now raise) (now lower) (now defaults) ⌝ }
-    ensures { λ r. ⌜ r ≡ row-fine row (now (places .entry)) (now (raise .entry)) (now (lower .entry)) (now (defaults .entry)) ⌝ }
+fn row_in_range(row: usize, homes: &[u8], rows: &[i64]) -> bool
+    requires { ⌜ (row < 512) × (row < length (now homes)) × (8 * row + 8 ≤ length (now rows)) ⌝ }
+    ensures { λ r. ⌜ r ≡ row-fine (lent-members [] (now (homes .entry)) (now (rows .entry))) row ⌝ }
 {
-    if PLACES <= places[row] {
+    if HOMES <= homes[row] {
         return false;
     }
-    if !between(LEAST_PERFORMANCE, MOST_PERFORMANCE, raise[row]) {
+    let start = ROW_EACH * row;
+    if !within_bounds(
+        LEAST_PERFORMANCE,
+        MOST_PERFORMANCE,
+        rows[start + RAISE_PERFORMANCE],
+    ) {
         return false;
     }
-    if !between(LEAST_PERFORMANCE, MOST_PERFORMANCE, lower[row]) {
+    if !within_bounds(
+        LEAST_PERFORMANCE,
+        MOST_PERFORMANCE,
+        rows[start + LOWER_PERFORMANCE],
+    ) {
         return false;
     }
-    six_in_range(LEAST_DEFAULT, 6 * row, defaults)
+    six_in_range(LEAST_DEFAULT, start + ROW_DEFAULTS, rows)
 }
 
 // Is every number of these rows in range?
-pub(crate) fn rows_in_range(
-    units: usize,
-    places: &[u8],
-    raise: &[i64],
-    lower: &[i64],
-    defaults: &[i64],
-) -> bool
-    requires { ⌜ (units ≤ 512) × (units ≤ length (now places)) × (units ≤ length (now raise)) × (units ≤ length (now lower))
-        × (6 * units ≤ length (now defaults)) ⌝ }
-    ensures { λ r. ⌜ r ≡ rows-here units (now (places .entry)) (now (raise .entry)) (now (lower .entry)) (now (defaults .entry)) ⌝ }
+pub(crate) fn rows_in_range(units: usize, homes: &[u8], rows: &[i64]) -> bool
+    requires { ⌜ (units ≤ 512) × (units ≤ length (now homes)) × (8 * units ≤ length (now rows)) ⌝ }
+    ensures { λ r. ⌜ r ≡ rows-fine (tally-of units 0 0) (lent-members [] (now (homes .entry)) (now (rows .entry))) ⌝ }
 {
     let mut row: usize = 0;
     while row < units {
-        if !row_in_range(row, places, raise, lower, defaults) {
+        if !row_in_range(row, homes, rows) {
             return false;
         }
         row += 1;

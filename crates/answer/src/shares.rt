@@ -3,8 +3,9 @@
 ghost use Prim.Native.Nat.{_≤_, _<_};
 ghost use lib.ListN.{length, take};
 ghost use Rattle.integers.specs.Pairs.{gain, loss};
-ghost use Rattle.answer.specs.Values.{MembersReady};
-ghost use Rattle.answer.specs.Shares.{WeightsFit, Charged, SignsShared, MembersCharged, PoolPaid, MembersPaid};
+ghost use Rattle.answer.specs.Asked.{lent-members};
+ghost use Rattle.answer.specs.Values.{MembersThere};
+ghost use Rattle.answer.specs.Shares.{Shareable, Charged, SignsShared, MembersCharged, PoolPaid, MembersPaid};
 use super::Field;
 use super::Member;
 use super::pools::pool;
@@ -19,7 +20,7 @@ const BILLION: u64 = 1_000_000_000;
 
 // A pool over the first n numbers below zero, as charges.
 fn charge(pool: u64, n: usize, values: &[i64], amounts: &mut [i64]) -> Shared
-    requires { ⌜ (n ≤ length (now values)) × WeightsFit pool loss (take n (now values)) (length (now amounts)) ⌝ }
+    requires { ⌜ (n ≤ length (now values)) × Shareable pool loss (take n (now values)) (length (now amounts)) ⌝ }
     ensures { λ r. ⌜ Charged pool (take n (now (values .entry))) (now (amounts .entry)) r (now (amounts .exit)) ⌝ }
 {
     share::share_unhelpful(pool, &values[..n], amounts)
@@ -27,8 +28,8 @@ fn charge(pool: u64, n: usize, values: &[i64], amounts: &mut [i64]) -> Shared
 
 // A total over both signs of the first n numbers.
 fn share_both(total: u64, n: usize, values: &[i64], amounts: &mut [i64]) -> SharedSigns
-    requires { ⌜ (n ≤ length (now values)) × WeightsFit total gain (take n (now values)) (length (now amounts))
-        × WeightsFit total loss (take n (now values)) (length (now amounts)) ⌝ }
+    requires { ⌜ (n ≤ length (now values)) × Shareable total gain (take n (now values)) (length (now amounts))
+        × Shareable total loss (take n (now values)) (length (now amounts)) ⌝ }
     ensures { λ r. ⌜ SignsShared total (take n (now (values .entry))) (now (amounts .entry)) r (now (amounts .exit)) ⌝ }
 {
     share::share_signs(total, &values[..n], amounts)
@@ -43,17 +44,16 @@ pub(crate) fn charge_members(
     set: u8,
     residual: Member,
     figures: &[i64],
-    places: &[u8],
-    raise: &[i64],
-    lower: &[i64],
-    defaults: &[i64],
+    homes: &[u8],
+    rows: &[i64],
     values: &mut [i64],
     amounts: &mut [i64],
 ) -> Shared
     requires { ⌜ (pool ≤ 1_000_000_000_000) × (units < length (now amounts))
-        × MembersReady units direction set (now figures) (now places) (now raise) (now lower) (now defaults) residual (length (now values)) ⌝ }
-    ensures { λ r. ⌜ MembersCharged field pool units direction set (now (figures .entry)) (now (places .entry)) (now (raise .entry)) (now (lower .entry))
-        (now (defaults .entry)) (now (values .entry)) (now (amounts .entry)) r (now (values .exit)) (now (amounts .exit)) ⌝ }
+        × MembersThere units direction set (lent-members (now figures) (now homes) (now rows)) residual (length (now values)) ⌝ }
+    ensures { λ r. ⌜ MembersCharged field pool units direction set
+        (lent-members (now (figures .entry)) (now (homes .entry)) (now (rows .entry)))
+        (now (values .entry)) (now (amounts .entry)) r (now (values .exit)) (now (amounts .exit)) ⌝ }
 {
     let n = put_members(
         field,
@@ -62,10 +62,8 @@ pub(crate) fn charge_members(
         units,
         residual,
         figures,
-        places,
-        raise,
-        lower,
-        defaults,
+        homes,
+        rows,
         values,
     );
     charge(pool, n, values, amounts)
@@ -85,8 +83,8 @@ pub(crate) enum Paying {
 
 // The pool over both signs of the first n numbers.
 fn pay_pool(pool: u64, n: usize, performances: &[i64], payments: &mut [i64]) -> Paying
-    requires { ⌜ (n ≤ 513) × (n ≤ length (now performances)) × WeightsFit pool gain (take n (now performances)) (length (now payments))
-        × WeightsFit pool loss (take n (now performances)) (length (now payments)) ⌝ }
+    requires { ⌜ (n ≤ 513) × (n ≤ length (now performances)) × Shareable pool gain (take n (now performances)) (length (now payments))
+        × Shareable pool loss (take n (now performances)) (length (now payments)) ⌝ }
     ensures { λ r. ⌜ PoolPaid n pool (take n (now (performances .entry))) (now (payments .entry)) r (now (payments .exit)) ⌝ }
 {
     let sides = share_both(pool, n, performances, payments);
@@ -108,19 +106,18 @@ pub(crate) fn pay(
     set: u8,
     residual: Member,
     figures: &[i64],
-    places: &[u8],
-    raise: &[i64],
-    lower: &[i64],
-    defaults: &[i64],
+    homes: &[u8],
+    rows: &[i64],
     performances: &mut [i64],
     factors: &mut [i64],
     payments: &mut [i64],
 ) -> Paying
     requires { ⌜ (price ≤ 10_000_000) × (rcr ≤ 7_680_000_000) × (units < length (now factors)) × (units < length (now payments))
-        × MembersReady units direction set (now figures) (now places) (now raise) (now lower) (now defaults) residual (length (now performances)) ⌝ }
-    ensures { λ r. ⌜ MembersPaid price rcr units direction set (now (figures .entry)) (now (places .entry)) (now (raise .entry)) (now (lower .entry))
-        (now (defaults .entry)) (now (performances .entry)) (now (factors .entry)) (now (payments .entry)) r (now (performances .exit)) (now (factors .exit))
-        (now (payments .exit)) ⌝ }
+        × MembersThere units direction set (lent-members (now figures) (now homes) (now rows)) residual (length (now performances)) ⌝ }
+    ensures { λ r. ⌜ MembersPaid price rcr units direction set
+        (lent-members (now (figures .entry)) (now (homes .entry)) (now (rows .entry)))
+        (now (performances .entry)) (now (factors .entry)) (now (payments .entry)) r
+        (now (performances .exit)) (now (factors .exit)) (now (payments .exit)) ⌝ }
 {
     let n = put_members(
         Field::Payment,
@@ -129,10 +126,8 @@ pub(crate) fn pay(
         units,
         residual,
         figures,
-        places,
-        raise,
-        lower,
-        defaults,
+        homes,
+        rows,
         performances,
     );
     let sides = share_both(BILLION, n, performances, factors);

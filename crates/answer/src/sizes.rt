@@ -1,4 +1,4 @@
-// What counts, parts and sizes of a number, and the numbers from one to another.
+// What counts, the sizes of a number, and the numbers from one to another.
 ghost use mathlib.Core.Path.{_≡_};
 ghost use mathlib.Core.Bool.{_&&_};
 ghost use lib.IntN.{natAbs};
@@ -13,7 +13,7 @@ pub(crate) fn counted(test: bool) -> u32
 }
 
 // A number that counts, or 0.
-pub(crate) fn part(counts: bool, x: i64) -> i64
+pub(crate) fn if_counted(counts: bool, x: i64) -> i64
     ensures { λ r. ⌜ r ≡ when counts x ⌝ }
 {
     if counts { x } else { 0 }
@@ -49,7 +49,7 @@ pub(crate) fn size(x: i64) -> u64
 }
 
 // Is a number from `low` to `high`?
-pub(crate) fn between(low: i64, high: i64, x: i64) -> bool
+pub(crate) fn within_bounds(low: i64, high: i64, x: i64) -> bool
     ensures { λ r. ⌜ r ≡ (leZ low x && leZ x high) ⌝ }
 {
     if x < low {

@@ -1,13 +1,14 @@
-// The units of a requirement's regions, by their places.
+// The units of a requirement's regions, by their homes.
 ghost use mathlib.Core.Path.{_≡_};
 ghost use mathlib.Core.Bool.{not, _&&_};
-ghost use Prim.Native.Nat.{_<_, _≤_, _*_, _/_, _%_};
-ghost use lib.Dec.{eqb, leb};
-ghost use lib.ListN.{length};
+ghost use mathlib.Core.List.{[]};
+ghost use Prim.Native.Nat.{_<_, _≤_, _/_, _%_};
+ghost use lib.Dec.{eqb};
 ghost use Rattle.rules.specs.Bytes.{bit};
-ghost use Rattle.answer.specs.Rcr.{PlacesFine, units-there, bad-there, Counted};
-use super::places::in_set;
-use super::places::is_good;
+ghost use Rattle.answer.specs.Asked.{lent-members};
+ghost use Rattle.answer.specs.Rcr.{HomesNamed, few-bad, Counted};
+use super::homes::in_set;
+use super::homes::is_good;
 use super::sizes::counted;
 
 // How many of the set's units there are, and how many of them are bad.
@@ -16,37 +17,37 @@ pub(crate) struct Units {
     pub bad: u32,
 }
 
-fn bad_in_set(set: u8, place: u8) -> bool
-    requires { ⌜ place < 10 ⌝ }
-    ensures { λ r. ⌜ r ≡ (bit (place / 2) set && not (eqb (place % 2) 1)) ⌝ }
+fn bad_in_set(set: u8, home: u8) -> bool
+    requires { ⌜ home < 10 ⌝ }
+    ensures { λ r. ⌜ r ≡ (bit (home / 2) set && not (eqb (home % 2) 1)) ⌝ }
 {
-    if !in_set(set, place) {
+    if !in_set(set, home) {
         return false;
     }
-    !is_good(place)
+    !is_good(home)
 }
 
-fn count_units(units: usize, set: u8, places: &[u8]) -> Units
-    requires { ⌜ (units ≤ 512) × (units ≤ length (now places)) × PlacesFine units (now places) ⌝ }
-    ensures { λ r. ⌜ Counted units set (now (places .entry)) r ⌝ }
+fn count_units(units: usize, set: u8, homes: &[u8]) -> Units
+    requires { ⌜ (units ≤ 512) × HomesNamed units (lent-members [] (now homes) []) ⌝ }
+    ensures { λ r. ⌜ Counted units set (lent-members [] (now (homes .entry)) []) r ⌝ }
 {
     let mut all: u32 = 0;
     let mut bad: u32 = 0;
     let mut row: usize = 0;
     while row < units {
-        let place = places[row];
-        all += counted(in_set(set, place));
-        bad += counted(bad_in_set(set, place));
+        let home = homes[row];
+        all += counted(in_set(set, home));
+        bad += counted(bad_in_set(set, home));
         row += 1;
     }
     Units { all: all, bad: bad }
 }
 
 // 100 times the bad units is not more than percent times the units, both counted over the set's regions.
-pub(crate) fn few_bad(units: usize, percent: u8, set: u8, places: &[u8]) -> bool
-    requires { ⌜ (units ≤ 512) × (percent ≤ 100) × (units ≤ length (now places)) × PlacesFine units (now places) ⌝ }
-    ensures { λ r. ⌜ r ≡ leb (100 * bad-there units set (now (places .entry))) (percent * units-there units set (now (places .entry))) ⌝ }
+pub(crate) fn few_bad(units: usize, percent: u8, set: u8, homes: &[u8]) -> bool
+    requires { ⌜ (units ≤ 512) × (percent ≤ 100) × HomesNamed units (lent-members [] (now homes) []) ⌝ }
+    ensures { λ r. ⌜ r ≡ few-bad units percent set (lent-members [] (now (homes .entry)) []) ⌝ }
 {
-    let found = count_units(units, set, places);
+    let found = count_units(units, set, homes);
     100 * found.bad <= (percent as u32) * found.all
 }

@@ -1,13 +1,14 @@
 // The values of a requirement's members, by which a share goes: those of the rows of its regions in roster order, then the residual's.
 ghost use Prim.Native.Nat.{_<_};
 ghost use lib.ListN.{length};
-ghost use Rattle.answer.specs.Made.{RowReady};
-ghost use Rattle.answer.specs.Values.{RowsReady, RowPut, RowsPut, MembersReady, Listed};
+ghost use Rattle.answer.specs.Asked.{lent-members};
+ghost use Rattle.answer.specs.Made.{RowThere};
+ghost use Rattle.answer.specs.Values.{RowsThere, RowPut, RowsPut, MembersThere, Listed};
 use super::Field;
 use super::Member;
+use super::homes::in_set;
 use super::made::row_value;
 use super::made::value;
-use super::places::in_set;
 use rules::Direction;
 
 // A row's value behind those that are there, if its region is one of the set's: how many there are then.
@@ -18,29 +19,18 @@ fn put_row(
     row: usize,
     at: usize,
     figures: &[i64],
-    places: &[u8],
-    raise: &[i64],
-    lower: &[i64],
-    defaults: &[i64],
+    homes: &[u8],
+    rows: &[i64],
     column: &mut [i64],
 ) -> usize
-    requires { ⌜ (at < length (now column)) × RowReady row (now figures) (now places) (now raise) (now lower) (now defaults) ⌝ }
-    ensures { λ r. ⌜ RowPut field direction set row at (now (figures .entry)) (now (places .entry)) (now (raise .entry)) (now (lower .entry))
-        (now (defaults .entry)) (now (column .entry)) r (now (column .exit)) ⌝ }
+    requires { ⌜ (at < length (now column)) × RowThere row (lent-members (now figures) (now homes) (now rows)) ⌝ }
+    ensures { λ r. ⌜ RowPut field direction set row at
+        (lent-members (now (figures .entry)) (now (homes .entry)) (now (rows .entry))) (now (column .entry)) r (now (column .exit)) ⌝ }
 {
-    if !in_set(set, places[row]) {
+    if !in_set(set, homes[row]) {
         return at;
     }
-    column[at] = row_value(
-        field,
-        direction,
-        row,
-        figures,
-        places,
-        raise,
-        lower,
-        defaults,
-    );
+    column[at] = row_value(field, direction, row, figures, homes, rows);
     at + 1
 }
 
@@ -50,32 +40,18 @@ fn put_rows(
     set: u8,
     units: usize,
     figures: &[i64],
-    places: &[u8],
-    raise: &[i64],
-    lower: &[i64],
-    defaults: &[i64],
+    homes: &[u8],
+    rows: &[i64],
     column: &mut [i64],
 ) -> usize
-    requires { ⌜ (units < length (now column)) × RowsReady units (now figures) (now places) (now raise) (now lower) (now defaults) ⌝ }
-    ensures { λ r. ⌜ RowsPut field direction set units (now (figures .entry)) (now (places .entry)) (now (raise .entry)) (now (lower .entry))
-        (now (defaults .entry)) (now (column .entry)) r (now (column .exit)) ⌝ }
+    requires { ⌜ (units < length (now column)) × RowsThere units (lent-members (now figures) (now homes) (now rows)) ⌝ }
+    ensures { λ r. ⌜ RowsPut field direction set units
+        (lent-members (now (figures .entry)) (now (homes .entry)) (now (rows .entry))) (now (column .entry)) r (now (column .exit)) ⌝ }
 {
     let mut at: usize = 0;
     let mut row: usize = 0;
     while row < units {
-        at = put_row(
-            field,
-            direction,
-            set,
-            row,
-            at,
-            figures,
-            places,
-            raise,
-            lower,
-            defaults,
-            column,
-        );
+        at = put_row(field, direction, set, row, at, figures, homes, rows, column);
         row += 1;
     }
     at
@@ -89,28 +65,15 @@ pub(crate) fn put_members(
     units: usize,
     residual: Member,
     figures: &[i64],
-    places: &[u8],
-    raise: &[i64],
-    lower: &[i64],
-    defaults: &[i64],
+    homes: &[u8],
+    rows: &[i64],
     column: &mut [i64],
 ) -> usize
-    requires { ⌜ MembersReady units direction set (now figures) (now places) (now raise) (now lower) (now defaults) residual (length (now column)) ⌝ }
-    ensures { λ r. ⌜ Listed field units direction set (now (figures .entry)) (now (places .entry)) (now (raise .entry)) (now (lower .entry))
-        (now (defaults .entry)) (now (column .entry)) r (now (column .exit)) ⌝ }
+    requires { ⌜ MembersThere units direction set (lent-members (now figures) (now homes) (now rows)) residual (length (now column)) ⌝ }
+    ensures { λ r. ⌜ Listed field units direction set
+        (lent-members (now (figures .entry)) (now (homes .entry)) (now (rows .entry))) (now (column .entry)) r (now (column .exit)) ⌝ }
 {
-    let last = put_rows(
-        field,
-        direction,
-        set,
-        units,
-        figures,
-        places,
-        raise,
-        lower,
-        defaults,
-        column,
-    );
+    let last = put_rows(field, direction, set, units, figures, homes, rows, column);
     column[last] = value(field, residual);
     last + 1
 }

@@ -64,7 +64,7 @@ pub struct Three {
     pub unused: i64,
 }
 
-// A frequency record without its points, which go to a lent slice.
+// A frequency record without its points, which are read where they stand.
 pub struct FrequencyFields {
     pub separation: bool,
     pub before: i32,
@@ -78,7 +78,7 @@ pub enum FrequencyRead {
     Refused(Refusal),
 }
 
-// A unit record without its readings, which go to a lent slice; `good` says that none of them is bad.
+// A unit record without its readings; `good` says that none of them is bad.
 pub struct UnitFields {
     pub number: u16,
     pub region: u8,

@@ -25,12 +25,11 @@ use Rattle.interval.specs.declared.Tally.{Tally}
 use Rattle.interval.specs.declared.Opened.{Opened}
 use Rattle.interval.specs.declared.Step.{Step}
 use Rattle.interval.specs.Tally.{next-region, book-end}
-use Rattle.interval.specs.Lent.{named-region}
+use Rattle.interval.specs.Lent.{Lent, named-region}
 use Rattle.interval.specs.Calls.{settings-reply, frequency-reply, unit-reply, requirement-reply}
-use Rattle.interval.specs.Promises.{ContentsPromise, SettingsPromise, RequirementPromise}
+use Rattle.interval.specs.Promises.{ContentsPromise, SettingsPromise, FrequencyPromise, UnitPromise, RequirementPromise}
 use Rattle.chain.proofs.ChainLaws.{listed-ext}
 use Rattle.chain.specs.Taken.{counts-in}
-use Rattle.chain.specs.Chain.{Lent, FrequencyCall, UnitCall, frequency-read, unit-read}
 use Rattle.chain.specs.Alike.{Alike}
 
 pub alike-back : {bytes : ℕ} {p q : List ℕ} → Alike bytes p q → Alike bytes q p
@@ -219,54 +218,16 @@ module _ {k : ℕ} {p q : List ℕ} (a : Alike k p q) where
         {r : Step} → requirement-size + cond (eqb (t .records + 1) (book-end t)) 1 0 ≤ k → RequirementPromise t p r → RequirementPromise t q r
     requirement-alike h w = record { reply = rw (requirement-reply-same h) at (w .reply) }
 
-    frequency-read-same : (l : Lent) → frequency-size ≤ k → frequency-read t p l ≡ frequency-read t q l
+    frequency-reply-same : (l : Lent) → frequency-size ≤ k → frequency-reply t p l ≡ frequency-reply t q l
     unfolding frequency-reply
-    frequency-read-same l h = rw (frequency-same (next-region t) h)
+    frequency-reply-same l h = rw (frequency-same (next-region t) h)
 
-    pub frequency-alike : {l l′ : Lent} {r : Step} → frequency-size ≤ k → FrequencyCall t p l r l′ → FrequencyCall t q l r l′
-    frequency-alike {l} h w =
-        let same = frequency-read-same l h in
-        record {
-          promise =
-              record {
-                reply = rw same at (w .promise .reply);
-                frequencies = rw same at (w .promise .frequencies);
-                measures = rw same at (w .promise .measures);
-                positive = rw same at (w .promise .positive);
-                negative = rw same at (w .promise .negative);
-                figures = rw same at (w .promise .figures);
-              };
-          readings = w .readings;
-          deviations = w .deviations;
-          numbers = w .numbers;
-          places = w .places;
-          raise = w .raise;
-          lower = w .lower;
-          defaults = w .defaults;
-        }
+    pub frequency-alike : {l l′ : Lent} {r : Step} → frequency-size ≤ k → FrequencyPromise t p l r l′ → FrequencyPromise t q l r l′
+    frequency-alike {l} h w = let same = frequency-reply-same l h in record { reply = rw same at (w .reply); lent = rw same at (w .lent) }
 
-    unit-read-same : (l : Lent) → unit-size ≤ k → unit-read t p l ≡ unit-read t q l
+    unit-reply-same : (l : Lent) → unit-size ≤ k → unit-reply t p l ≡ unit-reply t q l
     unfolding unit-reply
-    unit-read-same l h = rw (named-same (omega arith), unit-same (t .least) h)
+    unit-reply-same l h = rw (named-same (omega arith), unit-same (t .least) h)
 
-    pub unit-alike : {l l′ : Lent} {r : Step} → unit-size ≤ k → UnitCall t p l r l′ → UnitCall t q l r l′
-    unit-alike {l} h w =
-        let same = unit-read-same l h in
-        record {
-          promise =
-              record {
-                reply = rw same at (w .promise .reply);
-                readings = rw same at (w .promise .readings);
-                deviations = rw same at (w .promise .deviations);
-                positive = rw same at (w .promise .positive);
-                negative = rw same at (w .promise .negative);
-                numbers = rw same at (w .promise .numbers);
-                places = rw same at (w .promise .places);
-                raise = rw same at (w .promise .raise);
-                lower = rw same at (w .promise .lower);
-                defaults = rw same at (w .promise .defaults);
-              };
-          frequencies = w .frequencies;
-          measures = w .measures;
-          figures = w .figures;
-        }
+    pub unit-alike : {l l′ : Lent} {r : Step} → unit-size ≤ k → UnitPromise t p l r l′ → UnitPromise t q l r l′
+    unit-alike {l} h w = let same = unit-reply-same l h in record { reply = rw same at (w .reply); lent = rw same at (w .lent) }

@@ -32,7 +32,7 @@ use Rattle.rules.specs.declared.Reason.the-variants.{BadUnit, NoGoodUnit}
 use Rattle.rules.specs.declared.Standing.{Standing}
 use Rattle.rules.specs.Quantities.{points, regions}
 use Rattle.rules.specs.Bytes.{listed}
-use Rattle.rules.specs.Book.{by, toward, Defaults, Unit, Requirement, covers, Book, regionOf}
+use Rattle.rules.specs.Book.{by, toward, Settings, Defaults, Unit, Requirement, covers, Book, regionOf}
 use Rattle.rules.specs.Measure.{measure-in}
 use Rattle.rules.specs.Reliability.{reliable, reliable-in}
 use Rattle.rules.specs.Deviation.{deviation, good, good-units}
@@ -43,10 +43,10 @@ use Rattle.rules.specs.Members.{Name, unit, Member, unit-member, over-regions, 
 use Rattle.rules.specs.Rcr.{weighed-measure, response, all-reliable, few-bad, rcr}
 use Rattle.laws.proofs.RcrLaws.{response-is}
 use Rattle.rules.specs.Answer.{answered, answer}
-use Rattle.interval.specs.Lent.{series-start}
+use Rattle.interval.specs.declared.Tally.{Tally}
+use Rattle.interval.specs.Lent.{Lent}
 use Rattle.chain.proofs.ChainLaws.{listed-shift}
 use Rattle.kept.specs.Kept.{
-  Kept,
   reliable-of,
   residual-default,
   region-of,
@@ -59,9 +59,10 @@ use Rattle.kept.specs.Kept.{
   residual-of,
   residual-value,
   residual-row,
-  rows,
+  rows-of,
   kept-members,
   kept-weighed,
+  kept-sum,
   kept-response,
   kept-reliable,
   kept-few-bad,
@@ -88,14 +89,14 @@ indexed-those {A} {B} e p f q g (x ∷ xs) hp hf =
     go is false true c h ih = absurd (false≢true c)
     go is false false c h ih = ih
 
--- ---- a place is twice the region, and 1 more where the unit is good
-place-region : (r : ℕ) (t : Bool) → (2 * r + one t) / 2 ≡ r
-place-region r true = omega arith
-place-region r false = omega arith
+-- ---- a home is twice the region, and 1 more where the unit is good
+home-region : (r : ℕ) (t : Bool) → (2 * r + one t) / 2 ≡ r
+home-region r true = omega arith
+home-region r false = omega arith
 
-place-good : (r : ℕ) (t : Bool) → eqb ((2 * r + one t) % 2) 1 ≡ t
-place-good r true = let e : (2 * r + 1) % 2 ≡ 1 = omega arith in ap (λ (n : ℕ). eqb n 1) e
-place-good r false = let e : (2 * r + 0) % 2 ≡ 0 = omega arith in ap (λ (n : ℕ). eqb n 1) e
+home-good : (r : ℕ) (t : Bool) → eqb ((2 * r + one t) % 2) 1 ≡ t
+home-good r true = let e : (2 * r + 1) % 2 ≡ 1 = omega arith in ap (λ (n : ℕ). eqb n 1) e
+home-good r false = let e : (2 * r + 0) % 2 ≡ 0 = omega arith in ap (λ (n : ℕ). eqb n 1) e
 
 figure-reliable : (t : Bool) → ltZ (pos 0) (pos (one t)) ≡ t
 figure-reliable true = refl
@@ -150,78 +151,79 @@ larger Lower us t =
     max-swap : (m n : ℕ) → max m n ≡ max n m
     max-swap m n = omega arith
 
-module _ (k : Kept) (b : Book) (h : Keeps k b) (inside : All (λ u. u .region < regions) (b .roster)) where
+module _ (t : Tally) (l : Lent) (b : Book) (h : Keeps t l b) (inside : All (λ u. u .region < regions) (b .roster)) where
   -- ---- a row is its unit
   inside-at : (j : ℕ) (z : Unit) → j < length (b .roster) → getD (b .roster) j z .region < regions
-  inside-at j z l = all-at (λ u. u .region < regions) (b .roster) inside j z l
+  inside-at j z i = all-at (λ u. u .region < regions) (b .roster) inside j z i
 
-  region-is : (j : ℕ) (z : Unit) → j < length (b .roster) → region-of k j ≡ getD (b .roster) j z .region
-  region-is j z l = ap (λ (n : ℕ). n / 2) (h .places j z l) ∙ place-region (getD (b .roster) j z .region) (good (getD (b .roster) j z))
+  region-is : (j : ℕ) (z : Unit) → j < length (b .roster) → region-of l j ≡ getD (b .roster) j z .region
+  region-is j z i = ap (λ (n : ℕ). n / 2) (h .homes j z i) ∙ home-region (getD (b .roster) j z .region) (good (getD (b .roster) j z))
 
-  good-is : (j : ℕ) (z : Unit) → j < length (b .roster) → good-of k j ≡ good (getD (b .roster) j z)
-  good-is j z l = ap (λ (n : ℕ). eqb (n % 2) 1) (h .places j z l) ∙ place-good (getD (b .roster) j z .region) (good (getD (b .roster) j z))
+  good-is : (j : ℕ) (z : Unit) → j < length (b .roster) → good-of l j ≡ good (getD (b .roster) j z)
+  good-is j z i = ap (λ (n : ℕ). eqb (n % 2) 1) (h .homes j z i) ∙ home-good (getD (b .roster) j z .region) (good (getD (b .roster) j z))
 
-  performance-is : (d : Direction) (j : ℕ) (z : Unit) → j < length (b .roster) → performance-of k d j ≡ unit-performance b d (getD (b .roster) j z)
-  performance-is Raise j z l = h .raise j z l
-  performance-is Lower j z l = h .lower j z l
+  performance-is : (d : Direction) (j : ℕ) (z : Unit) → j < length (b .roster) → performance-of l d j ≡ unit-performance b d (getD (b .roster) j z)
+  unfolding unit-performance
+  performance-is Raise j z i = h .rows j 0 z i (omega arith)
+  performance-is Lower j z i = h .rows j 1 z i (omega arith)
 
   unit-defaults-are : (d : Direction) (j : ℕ) (z : Unit) → j < length (b .roster) →
-      (unit-default k d 0 j ≡ by d (getD (b .roster) j z .defaults) .payment) × (unit-default k d 1 j ≡ by d (getD (b .roster) j z .defaults) .used) ×
-      (unit-default k d 2 j ≡ by d (getD (b .roster) j z .defaults) .unused)
-  unit-defaults-are Raise j z l = (h .defaults j 0 z l (omega arith), h .defaults j 1 z l (omega arith), h .defaults j 2 z l (omega arith))
-  unit-defaults-are Lower j z l = (h .defaults j 3 z l (omega arith), h .defaults j 4 z l (omega arith), h .defaults j 5 z l (omega arith))
+      (unit-default l d 0 j ≡ by d (getD (b .roster) j z .defaults) .payment) × (unit-default l d 1 j ≡ by d (getD (b .roster) j z .defaults) .used) ×
+      (unit-default l d 2 j ≡ by d (getD (b .roster) j z .defaults) .unused)
+  unit-defaults-are Raise j z i = (h .rows j 2 z i (omega arith), h .rows j 3 z i (omega arith), h .rows j 4 z i (omega arith))
+  unit-defaults-are Lower j z i = (h .rows j 5 z i (omega arith), h .rows j 6 z i (omega arith), h .rows j 7 z i (omega arith))
 
   -- ---- figures are their region's
-  reliable-at : (d : Direction) (r : ℕ) → r < regions → reliable-of k d r ≡ reliable-in b d r
+  reliable-at : (d : Direction) (r : ℕ) → r < regions → reliable-of l d r ≡ reliable-in b d r
   unfolding reliable-in
-  reliable-at Raise r l = ap (λ (x : ℤ). ltZ (pos 0) x) (h .figures r 1 l (omega arith)) ∙ figure-reliable (reliable (b .settings) (regionOf b r) Raise)
-  reliable-at Lower r l = ap (λ (x : ℤ). ltZ (pos 0) x) (h .figures r 2 l (omega arith)) ∙ figure-reliable (reliable (b .settings) (regionOf b r) Lower)
+  reliable-at Raise r i = ap (λ (x : ℤ). ltZ (pos 0) x) (h .figures r 2 i (omega arith)) ∙ figure-reliable (reliable (b .settings) (regionOf b r) Raise)
+  reliable-at Lower r i = ap (λ (x : ℤ). ltZ (pos 0) x) (h .figures r 3 i (omega arith)) ∙ figure-reliable (reliable (b .settings) (regionOf b r) Lower)
 
-  residual-defaults-are : (d : Direction) (r : ℕ) → r < regions → (residual-default k d 0 r ≡ by d (regionOf b r .defaults) .payment) ×
-      (residual-default k d 1 r ≡ by d (regionOf b r .defaults) .used) × (residual-default k d 2 r ≡ by d (regionOf b r .defaults) .unused)
-  residual-defaults-are Raise r l = (h .figures r 3 l (omega arith), h .figures r 4 l (omega arith), h .figures r 5 l (omega arith))
-  residual-defaults-are Lower r l = (h .figures r 6 l (omega arith), h .figures r 7 l (omega arith), h .figures r 8 l (omega arith))
+  residual-defaults-are : (d : Direction) (r : ℕ) → r < regions → (residual-default l d 0 r ≡ by d (regionOf b r .defaults) .payment) ×
+      (residual-default l d 1 r ≡ by d (regionOf b r .defaults) .used) × (residual-default l d 2 r ≡ by d (regionOf b r .defaults) .unused)
+  residual-defaults-are Raise r i = (h .figures r 4 i (omega arith), h .figures r 5 i (omega arith), h .figures r 6 i (omega arith))
+  residual-defaults-are Lower r i = (h .figures r 7 i (omega arith), h .figures r 8 i (omega arith), h .figures r 9 i (omega arith))
 
   -- ---- a row's member
-  standing-is : (d : Direction) (j : ℕ) (z : Unit) → j < length (b .roster) → row-standing k d j ≡ unit-standing b d (getD (b .roster) j z)
-  standing-is d j z l =
-      ap₂ (λ (s t : Bool). standing s t BadUnit) (ap (λ (r : ℕ). reliable-of k d r) (region-is j z l)
-      ∙ reliable-at d (getD (b .roster) j z .region) (inside-at j z l)) (good-is j z l)
+  standing-is : (d : Direction) (j : ℕ) (z : Unit) → j < length (b .roster) → row-standing l d j ≡ unit-standing b d (getD (b .roster) j z)
+  standing-is d j z i =
+      ap₂ (λ (s t : Bool). standing s t BadUnit) (ap (λ (r : ℕ). reliable-of l d r) (region-is j z i)
+      ∙ reliable-at d (getD (b .roster) j z .region) (inside-at j z i)) (good-is j z i)
 
-  row-is : (d : Direction) (j : ℕ) (z : Unit) → j < length (b .roster) → row-member k d j ≡ unit-member b d (getD (b .roster) j z)
+  row-is : (d : Direction) (j : ℕ) (z : Unit) → j < length (b .roster) → row-member l d j ≡ unit-member b d (getD (b .roster) j z)
   unfolding unit-member
-  row-is d j z l =
-      let s = standing-is d j z l in
-      let p = performance-is d j z l in
-      let f = unit-defaults-are d j z l in
-      member-same (ap (λ (n : ℕ). unit n) (h .numbers j z l)) s (live-or-same s p (f .0)) (live-or-same s p (f .1)) (f .2)
+  row-is d j z i =
+      let s = standing-is d j z i in
+      let p = performance-is d j z i in
+      let f = unit-defaults-are d j z i in
+      member-same (ap (λ (n : ℕ). unit n) (h .numbers j z i)) s (live-or-same s p (f .0)) (live-or-same s p (f .1)) (f .2)
 
-  rows-are : (q : Requirement) → map (row-member k (q .direction)) (rows k q) ≡ map (unit-member b (q .direction)) (unit-members b q)
+  rows-are : (q : Requirement) → map (row-member l (q .direction)) (rows-of t l q) ≡ map (unit-member b (q .direction)) (unit-members b q)
   rows-are q =
-      ap (λ (n : ℕ). map (row-member k (q .direction)) (those (λ i. covers q (region-of k i)) (listed 0 n (λ i. i)))) (h .units)
-      ∙ indexed-those (λ i. i) (λ i. covers q (region-of k i)) (row-member k (q .direction)) (λ u. covers q (u .region)) (unit-member b (q .direction))
-      (b .roster) (λ j z l. ap (λ (r : ℕ). covers q r) (region-is j z l)) (λ j z l. row-is (q .direction) j z l)
+      ap (λ (n : ℕ). map (row-member l (q .direction)) (those (λ i. covers q (region-of l i)) (listed 0 n (λ i. i)))) (h .units)
+      ∙ indexed-those (λ i. i) (λ i. covers q (region-of l i)) (row-member l (q .direction)) (λ u. covers q (u .region)) (unit-member b (q .direction))
+      (b .roster) (λ j z i. ap (λ (r : ℕ). covers q r) (region-is j z i)) (λ j z i. row-is (q .direction) j z i)
 
   -- ---- the residual
   -- as many rows pass a test as units do
-  counted : (p : ℕ → Bool) (t : Unit → Bool) → ((j : ℕ) (z : Unit) → j < length (b .roster) → p j ≡ t (getD (b .roster) j z)) →
-      count (k .units) p ≡ length (those t (b .roster))
-  counted p t e = ap (λ (n : ℕ). count n p) (h .units) ∙ indexed-count p t (b .roster) e
+  counted : (p : ℕ → Bool) (passes : Unit → Bool) → ((j : ℕ) (z : Unit) → j < length (b .roster) → p j ≡ passes (getD (b .roster) j z)) →
+      count (t .units) p ≡ length (those passes (b .roster))
+  counted p passes e = ap (λ (n : ℕ). count n p) (h .units) ∙ indexed-count p passes (b .roster) e
 
-  some-good-is : (r : ℕ) → some-good-or-none-of k r ≡ some-good-or-none b r
+  some-good-is : (r : ℕ) → some-good-or-none-of t l r ≡ some-good-or-none b r
   unfolding some-good-or-none
   some-good-is r =
       ap₂ (λ (g n : ℕ). leb 1 g || eqb n 0)
-      (counted (λ i. eqb r (region-of k i) && good-of k i) (λ u. eqb r (u .region) && good u)
-      (λ j z l. ap₂ (λ (s : ℕ) (t : Bool). eqb r s && t) (region-is j z l) (good-is j z l))
+      (counted (λ i. eqb r (region-of l i) && good-of l i) (λ u. eqb r (u .region) && good u)
+      (λ j z i. ap₂ (λ (s : ℕ) (t : Bool). eqb r s && t) (region-is j z i) (good-is j z i))
       ∙ ap length (sym (those-those good (λ u. eqb r (u .region)) (b .roster))))
-      (counted (λ i. eqb r (region-of k i)) (λ u. eqb r (u .region)) (λ j z l. ap (λ (s : ℕ). eqb r s) (region-is j z l)))
+      (counted (λ i. eqb r (region-of l i)) (λ u. eqb r (u .region)) (λ j z i. ap (λ (s : ℕ). eqb r s) (region-is j z i)))
 
-  residual-at : (d : Direction) (r : ℕ) → residual-of k d r ≡ residual-performance b d r
+  residual-at : (d : Direction) (r : ℕ) → residual-of t l d r ≡ residual-performance b d r
   unfolding residual-performance unit-performance
   residual-at d r =
-      ap negℤ (ap (λ (n : ℕ). sum n (λ i. when (eqb r (region-of k i)) (when (good-of k i) (performance-of k d i)))) (h .units)
-      ∙ indexed-total (λ i. when (eqb r (region-of k i)) (when (good-of k i) (performance-of k d i))) (λ u. when (eqb r (u .region)) (when (good u) (at r u)))
+      ap negℤ (ap (λ (n : ℕ). sum n (λ i. when (eqb r (region-of l i)) (when (good-of l i) (performance-of l d i)))) (h .units)
+      ∙ indexed-total (λ i. when (eqb r (region-of l i)) (when (good-of l i) (performance-of l d i))) (λ u. when (eqb r (u .region)) (when (good u) (at r u)))
       (b .roster) each
       ∙ sym (total-those (λ u. eqb r (u .region)) (λ u. when (good u) (at r u)) (b .roster))
       ∙ sym (total-those good (at r) (units-of b r)))
@@ -230,75 +232,73 @@ module _ (k : Kept) (b : Book) (h : Keeps k b) (inside : All (λ u. u .region < 
       at : ℕ → Unit → ℤ
       at s u = performance d (measure-in b s) (deviation u)
 
-      each : (j : ℕ) (z : Unit) → j < length (b .roster) → when (eqb r (region-of k j)) (when (good-of k j) (performance-of k d j)) ≡
+      each : (j : ℕ) (z : Unit) → j < length (b .roster) → when (eqb r (region-of l j)) (when (good-of l j) (performance-of l d j)) ≡
           when (eqb r (getD (b .roster) j z .region)) (when (good (getD (b .roster) j z)) (at r (getD (b .roster) j z)))
-      each j z l =
-          ap₂ (λ (s : ℕ) (t : Bool). when (eqb r s) (when t (performance-of k d j))) (region-is j z l) (good-is j z l)
-          ∙ ap (λ (x : ℤ). when (eqb r (getD (b .roster) j z .region)) (when (good (getD (b .roster) j z)) x)) (performance-is d j z l)
+      each j z i =
+          ap₂ (λ (s : ℕ) (t : Bool). when (eqb r s) (when t (performance-of l d j))) (region-is j z i) (good-is j z i)
+          ∙ ap (λ (x : ℤ). when (eqb r (getD (b .roster) j z .region)) (when (good (getD (b .roster) j z)) x)) (performance-is d j z i)
           ∙ when-there (λ s. when (good (getD (b .roster) j z)) (at s (getD (b .roster) j z))) r (getD (b .roster) j z .region)
 
-  value-is : (d : Direction) (field : ℕ) (pick : Defaults → ℤ) (r : ℕ) → r < regions → residual-default k d field r ≡ pick (by d (regionOf b r .defaults)) →
-      residual-value k d field r ≡ residual-or b d pick r
-  value-is d field pick r l e =
-      live-or-same (ap₂ (λ (s t : Bool). standing s t NoGoodUnit) (reliable-at d r l) (some-good-is r)) (residual-at d r) e
+  value-is : (d : Direction) (field : ℕ) (pick : Defaults → ℤ) (r : ℕ) → r < regions → residual-default l d field r ≡ pick (by d (regionOf b r .defaults)) →
+      residual-value t l d field r ≡ residual-or b d pick r
+  value-is d field pick r i e =
+      live-or-same (ap₂ (λ (s t : Bool). standing s t NoGoodUnit) (reliable-at d r i) (some-good-is r)) (residual-at d r) e
 
-  residual-row-is : (q : Requirement) → residual-row k q ≡ residual-member b q
+  residual-row-is : (q : Requirement) → residual-row t l q ≡ residual-member b q
   unfolding residual-member
   residual-row-is q =
       let d = q .direction in
-      member-same refl (ap₂ (λ (s t : Bool). standing s t NoGoodUnit) (each-same q _ _ (reliable-at d)) (each-same q _ _ (λ r l. some-good-is r)))
-      (over-same q _ _ (λ r l. value-is d 0 (λ f. f .payment) r l (residual-defaults-are d r l .0)))
-      (over-same q _ _ (λ r l. value-is d 1 (λ f. f .used) r l (residual-defaults-are d r l .1)))
-      (over-same q _ _ (λ r l. residual-defaults-are d r l .2))
+      member-same refl (ap₂ (λ (s t : Bool). standing s t NoGoodUnit) (each-same q _ _ (reliable-at d)) (each-same q _ _ (λ r i. some-good-is r)))
+      (over-same q _ _ (λ r i. value-is d 0 (λ f. f .payment) r i (residual-defaults-are d r i .0)))
+      (over-same q _ _ (λ r i. value-is d 1 (λ f. f .used) r i (residual-defaults-are d r i .1)))
+      (over-same q _ _ (λ r i. residual-defaults-are d r i .2))
 
-  pub members-are : (q : Requirement) → kept-members k q ≡ members b q
+  pub members-are : (q : Requirement) → kept-members t l q ≡ members b q
   unfolding kept-members members
   members-are q = ap₂ (λ (ms : List Member) (m : Member). ms ++ (m ∷ [])) (rows-are q) (residual-row-is q)
 
   -- ---- RCR
-  pub reliable-is : (q : Requirement) → kept-reliable k q ≡ all-reliable b q
+  pub reliable-is : (q : Requirement) → kept-reliable l q ≡ all-reliable b q
   unfolding all-reliable
   reliable-is q = each-same q _ _ (reliable-at (q .direction))
 
-  few-bad-is : (q : Requirement) → kept-few-bad k q ≡ few-bad (b .settings .percent) (unit-members b q)
+  few-bad-is : (q : Requirement) → kept-few-bad t l q ≡ few-bad (b .settings .percent) (unit-members b q)
   few-bad-is q =
       ap₂ (λ (m n : ℕ). leb (100 * m) n)
-      (counted (λ i. covers q (region-of k i) && not (good-of k i)) (λ u. covers q (u .region) && not (good u))
-      (λ j z l. ap₂ (λ (s : ℕ) (t : Bool). covers q s && not t) (region-is j z l) (good-is j z l))
+      (counted (λ i. covers q (region-of l i) && not (good-of l i)) (λ u. covers q (u .region) && not (good u))
+      (λ j z i. ap₂ (λ (s : ℕ) (t : Bool). covers q s && not t) (region-is j z i) (good-is j z i))
       ∙ ap length (sym (those-those (λ u. not (good u)) (λ u. covers q (u .region)) (b .roster))))
-      (ap₂ _*_ (h .percent) (counted (λ i. covers q (region-of k i)) (λ u. covers q (u .region)) (λ j z l. ap (λ (s : ℕ). covers q s) (region-is j z l))))
+      (ap₂ _*_ (ap (λ (s : Settings). s .percent) (h .settings))
+      (counted (λ i. covers q (region-of l i)) (λ u. covers q (u .region)) (λ j z i. ap (λ (s : ℕ). covers q s) (region-is j z i))))
 
-  weighed-is : (q : Requirement) (t : ℕ) → t < points → kept-weighed k q t ≡ weighed-measure b q t
+  weighed-is : (q : Requirement) (p : ℕ) → p < points → kept-weighed l q p ≡ weighed-measure b q p
   unfolding weighed-measure
-  weighed-is q t l = over-same q _ _ (λ r m. ap₂ _*ℤ_ (h .figures r 0 m (omega arith)) (h .measures r t m l))
+  weighed-is q p i = over-same q _ _ (λ r m. ap₂ _*ℤ_ (h .figures r 1 m (omega arith)) (h .measures r p m i))
 
   -- the sums of its regions are the sums over its units
-  sums-are : (d : Direction) (q : Requirement) (t : ℕ) (f : ℕ → ℤ) → ((r : ℕ) → r < regions →
-      f r ≡ total (λ u. wanted d (deviation u t)) (good-units (units-of b r))) →
-      over-regions q f ≡ total (λ u. wanted d (deviation u t)) (good-units (unit-members b q))
-  sums-are d q t f e =
-      over-same q f (λ r. total (λ u. when (good u) (wanted d (deviation u t))) (units-of b r))
-      (λ r l. e r l ∙ total-those good (λ u. wanted d (deviation u t)) (units-of b r))
-      ∙ total-classes regions (λ r. covers q r) (λ u. u .region) (λ u. when (good u) (wanted d (deviation u t))) (b .roster) inside
-      ∙ sym (total-those good (λ u. wanted d (deviation u t)) (unit-members b q))
+  sums-are : (d : Direction) (q : Requirement) (p : ℕ) → p < points → kept-sum l d q p ≡ total (λ u. wanted d (deviation u p)) (good-units (unit-members b q))
+  sums-are d q p i =
+      over-same q _ (λ r. total (λ u. when (good u) (wanted d (deviation u p))) (units-of b r))
+      (λ r m. h .sums d r p m i ∙ total-those good (λ u. wanted d (deviation u p)) (units-of b r))
+      ∙ total-classes regions (λ r. covers q r) (λ u. u .region) (λ u. when (good u) (wanted d (deviation u p))) (b .roster) inside
+      ∙ sym (total-those good (λ u. wanted d (deviation u p)) (unit-members b q))
 
-  response-at : (q : Requirement) (t : ℕ) → t < points → kept-response k q t ≡ response (q .direction) (unit-members b q) t
-  response-at q t l =
-      ap₂ (λ (x y : ℤ). max (gain x) (loss y)) (sums-are Raise q t (λ r. getD (k .positive) (series-start r + t) (pos 0)) (λ r m. h .positive r t m l))
-      (sums-are Lower q t (λ r. getD (k .negative) (series-start r + t) (pos 0)) (λ r m. h .negative r t m l))
-      ∙ ap₂ max (gains (λ u. deviation u t) (good-units (unit-members b q))) (losses (λ u. deviation u t) (good-units (unit-members b q)))
-      ∙ larger (q .direction) (unit-members b q) t
+  response-at : (q : Requirement) (p : ℕ) → p < points → kept-response l q p ≡ response (q .direction) (unit-members b q) p
+  response-at q p i =
+      ap₂ (λ (x y : ℤ). max (gain x) (loss y)) (sums-are Raise q p i) (sums-are Lower q p i)
+      ∙ ap₂ max (gains (λ u. deviation u p) (good-units (unit-members b q))) (losses (λ u. deviation u p) (good-units (unit-members b q)))
+      ∙ larger (q .direction) (unit-members b q) p
 
-  pub rcr-is : (q : Requirement) → kept-rcr k q ≡ rcr b q
+  pub rcr-is : (q : Requirement) → kept-rcr t l q ≡ rcr b q
   unfolding kept-rcr rcr
   rcr-is q =
       ap₂ (λ (s : Bool) (n : ℕ). cond s n 0) (ap₂ _&&_ (reliable-is q) (few-bad-is q))
-      (largest-ext points _ _ (λ t l. ap₂ (λ (s : Bool) (n : ℕ). cond s n 0) (ap (λ (z : ℤ). ltZ (pos 0) (toward (q .direction) z)) (weighed-is q t l))
-      (response-at q t l)))
+      (largest-ext points _ _ (λ p i. ap₂ (λ (s : Bool) (n : ℕ). cond s n 0) (ap (λ (z : ℤ). ltZ (pos 0) (toward (q .direction) z)) (weighed-is q p i))
+      (response-at q p i)))
 
   -- ---- the answer
-  pub answer-is : (q : Requirement) → kept-answer k q ≡ answer b q
+  pub answer-is : (q : Requirement) → kept-answer t l q ≡ answer b q
   unfolding kept-answer answer
   answer-is q =
-      ap₂ (λ (n : ℕ) (s : Bool). answered q n s (kept-members k q)) (rcr-is q) (reliable-is q)
+      ap₂ (λ (n : ℕ) (s : Bool). answered q n s (kept-members t l q)) (rcr-is q) (reliable-is q)
       ∙ ap (λ (ms : List Member). answered q (rcr b q) (all-reliable b q) ms) (members-are q)

@@ -6,11 +6,8 @@ use mathlib.Core.List.{List, []}
 use Prim.Native.Nat.{ℕ, zero, suc, _+_, _*_, _≤_, _<_}
 use native.Mathlib.Omega.{arith}
 use lib.Dec.{eqb}
-use lib.IntN.{ℤ}
 use lib.ListN.{length, getD, drop}
 use Rattle.integers.specs.Totals.{total, All}
-use Rattle.rules.specs.declared.Direction.{Direction}
-use Rattle.rules.specs.declared.Direction.the-variants.{Raise, Lower}
 use Rattle.rules.specs.Quantities.{regions}
 use Rattle.rules.specs.Bytes.{listed}
 use Rattle.laws.proofs.BytesLaws.{listed-from-zero}
@@ -23,26 +20,26 @@ use Rattle.rules.specs.WholeBook.{book}
 use Rattle.rules.specs.Book.{Settings, Region, Unit, Requirement, Book, regionOf, no-region}
 use Rattle.laws.proofs.Limits.{UnitFits, BookFits}
 use Rattle.laws.proofs.LimitsLaws.{settings-fit, region-fits}
-use Rattle.rules.specs.Measure.{measure}
+use Rattle.rules.specs.Measure.{measure, measure-in}
 use Rattle.rules.specs.Deviation.{deviation, good-units, units-in}
-use Rattle.rules.specs.Performance.{wanted, performance, unit-performance}
+use Rattle.rules.specs.Performance.{wanted}
 use Rattle.rules.specs.Answer.{answer}
 use Rattle.interval.specs.declared.Tally.{Tally}
 use Rattle.interval.specs.Tally.{before-units}
-use Rattle.interval.specs.Lent.{figures-of, place-of, six}
+use Rattle.interval.specs.Lent.{Lent, figures-of, home-of, row-of}
 use Rattle.kept.specs.Kept.{kept-answer}
 use Rattle.kept.specs.Range.{kept-fine}
 use Rattle.chain.proofs.ChainLaws.{listed-ext, listed-length, listed-shift}
 use Rattle.chain.specs.Taken.{counts-in}
 use Rattle.chain.proofs.Taken.{contents-is, settings-is}
-use Rattle.chain.specs.Chain.{Lent, Chain, Means, regions-among, units-among, the-settings, region, unit}
+use Rattle.chain.specs.Chain.{Chain, Means, regions-among, units-among, the-settings, region, unit, roster}
 use Rattle.chain.proofs.ChainTheorem.{chain}
-use Rattle.chain.proofs.ChainValues.{measures-are, positive-are, negative-are, figures-are, numbers-are, places-are, raise-are, lower-are, defaults-are}
-use Rattle.chain.proofs.Honest.{unit-within}
+use Rattle.chain.proofs.ChainValues.{measures-are, sums-are, figures-are, numbers-are, homes-are, rows-are}
+use Rattle.chain.proofs.Judged.{unit-within}
 use Rattle.chain.specs.BookRecords.{part-of, Read}
 use Rattle.chain.proofs.BookRecords.{settings-part, frequency-place, unit-place, book-read, frequencies-each, units-each, requirements-each}
-use Rattle.chain.specs.Keeps.{kept-of, Keeps}
-use Rattle.chain.proofs.Fine.{kept-in-range}
+use Rattle.chain.specs.Keeps.{Keeps}
+use Rattle.chain.proofs.KeptInRange.{kept-in-range}
 use Rattle.chain.proofs.AnswerIs.{answer-is}
 use Rattle.chain.specs.BookChain.{book-of}
 
@@ -61,7 +58,7 @@ module _
   b = book-of many part qs
 
   m : Means head part l₀ n t l
-  m = chain head part l₀ d
+  m = chain d
 
   region-there : (r : ℕ) → r < regions → r < regions-among n
   region-there r h = go (counts-in head .units) all
@@ -86,40 +83,35 @@ module _
   unit-is j z h = sym (listed-from-zero many (unit part) j z (rw (listed-length 0 many (unit part)) at h))
 
   unit-fine : (i : ℕ) → i < many → UnitFits (unit part i)
-  unit-fine i h = unit-within head part l₀ d i (rw units-there h)
+  unit-fine i h = unit-within d i (rw units-there h)
 
-  performed :
-      (e : Direction) (j : ℕ) (z : Unit) → j < length (b .roster) →
-      performance e (measure (the-settings part) (region part (unit part j .region))) (deviation (unit part j)) ≡ unit-performance b e (getD (b .roster) j z)
-  unfolding unit-performance
-  performed e j z h =
+  -- a row is by the measures of its unit's region
+  row-is :
+      (j i : ℕ) (z : Unit) → j < length (b .roster) →
+      row-of (measure (the-settings part) (region part (unit part j .region))) (unit part j) i ≡
+      row-of (measure-in b (getD (b .roster) j z .region)) (getD (b .roster) j z) i
+  row-is j i z h =
       let inside = unit-fine j (rw (listed-length 0 many (unit part)) at h) .region in
-      ap (λ (x : Region). performance e (measure (the-settings part) x) (deviation (unit part j))) (region-is (unit part j .region) inside)
-      ∙ ap (unit-performance b e) (unit-is j z h)
+      ap (λ (x : Region). row-of (measure (the-settings part) x) (unit part j) i) (region-is (unit part j .region) inside)
+      ∙ ap (λ (u : Unit). row-of (measure-in b (u .region)) u i) (unit-is j z h)
 
-  pub chain-keeps : Keeps (kept-of t l) b
+  pub chain-keeps : Keeps t l b
   chain-keeps =
       record {
-        percent = ap (λ (s : Settings). s .percent) (m .kept (omega arith));
+        settings = m .kept (omega arith);
         units = m .units ∙ sym (listed-length 0 many (unit part));
-        measures =
-            λ r i h k. measures-are head part l₀ d r (region-there r h) i k ∙ ap (λ (x : Region). measure (the-settings part) x i) (region-is r h);
-        positive = λ r i h k. positive-are head part l₀ d r (region-there r h) i k ∙ ap (summed Raise r i) units-there;
-        negative = λ r i h k. negative-are head part l₀ d r (region-there r h) i k ∙ ap (summed Lower r i) units-there;
-        figures = λ r i h k. figures-are head part l₀ d r (region-there r h) i k ∙ ap (λ (x : Region). figures-of (the-settings part) x i) (region-is r h);
-        numbers = λ j z h. numbers-are head part l₀ d j (unit-there j h) ∙ ap (λ (u : Unit). u .number) (unit-is j z h);
-        places = λ j z h. places-are head part l₀ d j (unit-there j h) ∙ ap place-of (unit-is j z h);
-        raise = λ j z h. raise-are head part l₀ d j (unit-there j h) ∙ performed Raise j z h;
-        lower = λ j z h. lower-are head part l₀ d j (unit-there j h) ∙ performed Lower j z h;
-        defaults = λ j i z h k. defaults-are head part l₀ d j (unit-there j h) i k ∙ ap (λ (u : Unit). six (u .defaults) i) (unit-is j z h);
+        measures = λ r i h k. measures-are d r (region-there r h) i k ∙ ap (λ (x : Region). measure (the-settings part) x i) (region-is r h);
+        sums = λ e r p h k. sums-are d r (region-there r h) e p k ∙ ap (λ (u : ℕ). total (λ u. wanted e (deviation u p))
+            (good-units (units-in (eqb r) (roster part u)))) units-there;
+        figures = λ r i h k. figures-are d r (region-there r h) i k ∙ ap (λ (x : Region). figures-of (the-settings part) x i) (region-is r h);
+        numbers = λ j z h. numbers-are d j (unit-there j h) ∙ ap (λ (u : Unit). u .number) (unit-is j z h);
+        homes = λ j z h. homes-are d j (unit-there j h) ∙ ap home-of (unit-is j z h);
+        rows = λ j i z h k. rows-are d j (unit-there j h) i k ∙ row-is j i z h;
       }
-    where
-      summed : Direction → ℕ → ℕ → ℕ → ℤ
-      summed e r i u = total (λ u. wanted e (deviation u i)) (good-units (units-in (eqb r) (listed 0 u (unit part))))
 
   -- so it gives the rules' answer to any requirement
-  pub chain-answers : (q : Requirement) → kept-answer (kept-of t l) q ≡ answer b q
-  chain-answers = answer-is (kept-of t l) b chain-keeps (all-listed (λ u. u .region < regions) many (unit part) (λ i h. unit-fine i h .region))
+  pub chain-answers : (q : Requirement) → kept-answer t l q ≡ answer b q
+  chain-answers = answer-is t l b chain-keeps (all-listed (λ u. u .region < regions) many (unit part) (λ i h. unit-fine i h .region))
 
 -- and it is in range, which the requirements have no part in
 module _
@@ -128,7 +120,7 @@ module _
   taken-fits : BookFits (book-of (counts-in head .units) part [])
   unfolding All
   taken-fits =
-      let m = chain head part l₀ d in
+      let m = chain d in
       record {
         settings = settings-fit (part 0) _ (m .taken-each 0 (omega arith) .as-settings refl);
         region =
@@ -139,8 +131,8 @@ module _
         requirements = tt;
       }
 
-  pub chain-fine : kept-fine (kept-of t l) ≡ true
-  chain-fine = kept-in-range (kept-of t l) _ (chain-keeps d all []) taken-fits
+  pub chain-kept-in-range : kept-fine t l ≡ true
+  chain-kept-in-range = kept-in-range t l _ (chain-keeps d all []) taken-fits
 
 -- ---- a book that the format takes is the book of its parts
 module _ (bs : List ℕ) (b : Book) (e : book bs ≡ taken b) where

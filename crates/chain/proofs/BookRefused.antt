@@ -21,13 +21,14 @@ use Rattle.interval.specs.declared.Tally.{Tally}
 use Rattle.interval.specs.declared.Opened as o
 use Rattle.interval.specs.Tally.{before-units}
 use Rattle.interval.specs.declared.Step.{Step}
-use Rattle.interval.specs.Calls.{opened, settled, counted, unit-counted, settings-reply, requirement-reply}
+use Rattle.interval.specs.Lent.{Lent}
+use Rattle.interval.specs.Calls.{opened, settled, counted, unit-counted, settings-reply, frequency-reply, unit-reply, requirement-reply}
 use Rattle.chain.specs.Taken.{counts-in}
 use Rattle.chain.proofs.Taken.{step-refused}
-use Rattle.chain.specs.Chain.{Lent, Refused, Chain, Means, frequency-read, unit-read}
+use Rattle.chain.specs.Chain.{Refused, Chain, Means}
 use Rattle.chain.proofs.ChainTheorem.{chain}
-use Rattle.chain.specs.Honest.{Enough}
-use Rattle.chain.proofs.Honest.{honest-settings, honest-frequency, honest-unit, honest-requirement}
+use Rattle.chain.specs.Long.{Long}
+use Rattle.chain.proofs.Judged.{settings-judged, frequency-judged, unit-judged, requirement-judged}
 use Rattle.chain.specs.BookRecords.{part-of, least-from}
 use Rattle.chain.proofs.BookRecords.{
   settings-part,
@@ -52,11 +53,11 @@ use Rattle.chain.proofs.BookWay.{hands-counts, hands-chain, hands-call,
 
 -- ---- a book by its bodies
 abbrev assembled : Reply Settings → Reply (List Region) → Reply (List Unit) → Reply (List Requirement) → Reply Book
-assembled settings-reply frequency-reply unit-reply requirement-reply = do
-  s ← settings-reply
-  rs ← frequency-reply
-  us ← unit-reply
-  qs ← requirement-reply
+assembled settings-body regions-body roster-body requirements-body = do
+  s ← settings-body
+  rs ← regions-body
+  us ← roster-body
+  qs ← requirements-body
   taken (record { settings = s; regions = rs; roster = us; requirements = qs })
 
 module _ (bs : List ℕ) where
@@ -93,7 +94,7 @@ module _ (bs : List ℕ) where
 -- ---- where a chain stands: the bodies that it has taken, and the one in which the next record is refused
 module _ (bs : List ℕ) (l₀ : Lent) {n : ℕ} {t : Tally} {l : Lent} (d : Chain bs (part-of bs) l₀ n t l) where
   w : Means bs (part-of bs) l₀ n t l
-  w = chain bs (part-of bs) l₀ d
+  w = chain d
 
   settings-there : 0 < n → settings (settings-bytes bs) ≡ taken (settings-in (settings-bytes bs))
   settings-there h = rw (settings-part bs) at (w .taken-each 0 h .as-settings refl)
@@ -141,35 +142,35 @@ module _ (bs : List ℕ) (l₀ : Lent) {n : ℕ} {t : Tally} {l : Lent} (d : Cha
 
   -- where the next call refuses, the format has refused the book with the same number
   record-refused :
-      {r : Step} {l′ : Lent} {why : Refusal} → Enough l₀ (counts-in bs .units) → ((i : ℕ) → getD bs i 0 < 256) →
+      {r : Step} {l′ : Lent} {why : Refusal} → Long l₀ (counts-in bs .units) → ((i : ℕ) → getD bs i 0 < 256) →
       Call (counts-in bs) (part-of bs n) n t l r l′ → Refused r why → book bs ≡ refused why
-  record-refused {why = why} enough bytes (for-settings z p _) e =
+  record-refused {why = why} long bytes (for-settings z p _) e =
       let answer = step-refused (settled t) t (settings-reply t (part-of bs n)) (p .reply) e .0 in
-      let judged = honest-settings bs (part-of bs) l₀ d (λ m i _. part-bytes bs bytes m i) z (part-of bs n) in
+      let judged = settings-judged d (λ m i _. part-bytes bs bytes m i) z (part-of bs n) in
       let here : settings (settings-bytes bs) ≡ refused why = ap settings (sym (ap (part-of bs) z ∙ settings-part bs)) ∙ sym judged ∙ answer in
       book-is bs (w .table) ∙ rw here
-  record-refused {why = why} enough bytes (for-frequency first last c) e =
-      let answer = step-refused (λ _. counted 0 t) t (frequency-read t (part-of bs n) l) (c .promise .reply) e .0 in
-      let judged = honest-frequency bs (part-of bs) l₀ d (λ m i _. part-bytes bs bytes m i) first last enough (part-of bs n) in
+  record-refused {why = why} long bytes (for-frequency first last c) e =
+      let answer = step-refused (λ _. counted 0 t) t (frequency-reply t (part-of bs n) l) (c .reply) e .0 in
+      let judged = frequency-judged d (λ m i _. part-bytes bs bytes m i) first last long (part-of bs n) in
       let here = sym (frequency-at bs n (n - 1) (omega arith) (omega arith)) ∙ sym judged ∙ answer in
       let stops =
       frequency-body-is regions 0 _
       ∙ body-stops (λ i. region-in (frequency-bytes bs i)) regions (n - 1) _ why (omega arith) (λ i h. frequency-there i (omega arith) (omega arith)) here in
       book-is bs (w .table) ∙ rw (settings-there (omega arith), stops)
-  record-refused {why = why} enough bytes (for-unit first last c) e =
+  record-refused {why = why} long bytes (for-unit first last c) e =
       let many = counts-in bs .units in
-      let answer = step-refused (unit-counted t) t (unit-read t (part-of bs n) l) (c .promise .reply) e .0 in
-      let judged = honest-unit bs (part-of bs) l₀ d (λ m i _. part-bytes bs bytes m i) first last enough (part-of bs n) in
+      let answer = step-refused (unit-counted t) t (unit-reply t (part-of bs n) l) (c .reply) e .0 in
+      let judged = unit-judged d (λ m i _. part-bytes bs bytes m i) first last long (part-of bs n) in
       let here = sym (unit-at bs n (n - before-units) (omega arith) (omega arith)) ∙ sym judged ∙ answer in
       let stops =
       unit-body-is many 0 _
       ∙ body-stops (λ i. unit-in (unit-bytes bs i)) many (n - before-units) _ why (omega arith) (λ i h. unit-there i (omega arith) (omega arith)) here in
       book-is bs (w .table) ∙ rw (settings-there (omega arith), frequencies-there first, stops)
-  record-refused {why = why} enough bytes (for-requirement first last p _) e =
+  record-refused {why = why} long bytes (for-requirement first last p _) e =
       let j = n - (before-units + counts-in bs .units) in
       let many = counts-in bs .requirements in
       let answer = step-refused (λ q. counted (q .number + 1) t) t (requirement-reply t (part-of bs n)) (p .reply) e .0 in
-      let judged = honest-requirement bs (part-of bs) l₀ d (λ m i _. part-bytes bs bytes m i) first last (part-of bs n) in
+      let judged = requirement-judged d (λ m i _. part-bytes bs bytes m i) first last (part-of bs n) in
       let here = sym (requirement-at bs n j (omega arith) (omega arith)) ∙ sym judged ∙ answer in
       let stops =
       requirement-body-is many 0 _
@@ -187,17 +188,17 @@ opened-refused (refused x) e = cc
 pub not-both : {A B : Type 0} {x : Reply A} {a : A} {why : Refusal} → x ≡ taken a → x ≡ refused why → B
 not-both e f = let z : _≡_ {A = ℕ} 0 1 = cc in absurd (omega arith)
 
--- ---- of a caller who hands on the bytes of a book, and lends lists that are long enough for the units of a table of contents that is taken
+-- ---- of a caller who hands on the bytes of a book, and lends lists that are long long for the units of a table of contents that is taken
 module _
     {bs head : List ℕ} {part : ℕ → List ℕ} (l₀ : Lent) (hands : Hands bs head part)
-    (enough : contents bs ≡ taken (counts-in bs) → Enough l₀ (counts-in bs .units)) (bytes : (i : ℕ) → getD bs i 0 < 256) where
+    (long : contents bs ≡ taken (counts-in bs) → Long l₀ (counts-in bs .units)) (bytes : (i : ℕ) → getD bs i 0 < 256) where
   -- whatever was refused before, the refusal of the call for the next record is the format's
   pub refused-here :
       {n : ℕ} {t : Tally} {l l′ : Lent} {r : Step} {why : Refusal} → Chain head part l₀ n t l → n < records-in head →
       Call (counts-in head) (part n) n t l r l′ → Refused r why → book bs ≡ refused why
   refused-here d h c e =
       let d′ = hands-chain hands d in
-      record-refused bs l₀ d′ (enough (chain bs (part-of bs) l₀ d′ .table)) bytes (hands-call hands d h c) e
+      record-refused bs l₀ d′ (long (chain d′ .table)) bytes (hands-call hands d h c) e
 
   pub refused-book : {why : Refusal} → Meets head part l₀ why → book bs ≡ refused why
   refused-book {why} (at-contents p) = contents-refused bs why (opened-refused (contents bs) (contents-alike (hands .contents) (omega arith) p .reply))

@@ -14,13 +14,14 @@ use Rattle.interval.specs.declared.Opened as o
 use Rattle.interval.specs.declared.Taking as k
 use Rattle.interval.specs.declared.Taking.{Taking}
 use Rattle.interval.specs.declared.Step.{Step}
+use Rattle.interval.specs.Lent.{Lent}
 use Rattle.interval.specs.Calls.{opened, refused-step, stepped, settled, counted, unit-counted}
 use Rattle.chain.specs.Taken.{counts-in}
-use Rattle.chain.specs.Chain.{Lent, Taken, Refused, Chain, RecordTaken}
+use Rattle.chain.specs.Chain.{Taken, Refused, Chain, RecordTaken}
 use Rattle.chain.proofs.ChainTheorem.{chain}
 use Rattle.chain.proofs.ChainValues.{chain-only}
-use Rattle.chain.specs.Honest.{Enough}
-use Rattle.chain.proofs.Honest.{honest-settings, honest-frequency, honest-unit, honest-requirement}
+use Rattle.chain.specs.Long.{Long}
+use Rattle.chain.proofs.Judged.{settings-judged, frequency-judged, unit-judged, requirement-judged}
 use Rattle.chain.specs.BookRecords.{part-of}
 use Rattle.chain.specs.Alike.{Alike}
 use Rattle.chain.proofs.Alike.{whole, cut-behind, counts-same}
@@ -32,18 +33,18 @@ use Rattle.chain.specs.BookWay.{Hands, Takes, Walked, arrived, at-conten
 -- mid-book lets the same step be tried again with other bytes); `part n` is what it is handed now
 module _
     (head : List ℕ) (part : ℕ → List ℕ) (l₀ : Lent) {n : ℕ} {t : Tally} {l : Lent} (d : Chain head part l₀ n t l)
-    (enough : Enough l₀ (counts-in head .units)) (bytes : (m i : ℕ) → m < n → getD (part m) i 0 < 256) (w : RecordTaken part (counts-in head) n) where
+    (long : Long l₀ (counts-in head .units)) (bytes : (m i : ℕ) → m < n → getD (part m) i 0 < 256) (w : RecordTaken part (counts-in head) n) where
   taken-is : {A : Type 0} (next : A → Tally) (reply : Reply A) {r : Step} {a : A} → r ≡ stepped next reply t → reply ≡ taken a → Taken r
   taken-is next reply e f = ap (λ (r : Step). r .taking) (e ∙ ap (λ (x : Reply _). stepped next x t) f)
 
   pub next-taken : {r : Step} {l′ : Lent} → Call (counts-in head) (part n) n t l r l′ → Taken r
-  next-taken (for-settings z p _) = taken-is (settled t) _ (p .reply) (honest-settings head part l₀ d bytes z (part n) ∙ w .as-settings z)
+  next-taken (for-settings z p _) = taken-is (settled t) _ (p .reply) (settings-judged d bytes z (part n) ∙ w .as-settings z)
   next-taken (for-frequency first last c) =
-      taken-is (λ _. counted 0 t) _ (c .promise .reply) (honest-frequency head part l₀ d bytes first last enough (part n) ∙ w .as-frequency first last)
+      taken-is (λ _. counted 0 t) _ (c .reply) (frequency-judged d bytes first last long (part n) ∙ w .as-frequency first last)
   next-taken (for-unit first last c) =
-      taken-is (unit-counted t) _ (c .promise .reply) (honest-unit head part l₀ d bytes first last enough (part n) ∙ w .as-unit first last)
+      taken-is (unit-counted t) _ (c .reply) (unit-judged d bytes first last long (part n) ∙ w .as-unit first last)
   next-taken (for-requirement first last p _) =
-      taken-is (λ q. counted (q .number + 1) t) _ (p .reply) (honest-requirement head part l₀ d bytes first last (part n) ∙ w .as-requirement first)
+      taken-is (λ q. counted (q .number + 1) t) _ (p .reply) (requirement-judged d bytes first last (part n) ∙ w .as-requirement first)
 
 -- a caller who cuts nothing off, and one who cuts off all that no call looks at
 pub hands-whole : (bs : List ℕ) → Hands bs bs (part-of bs)
@@ -68,7 +69,7 @@ module _ {bs head : List ℕ} {part : ℕ → List ℕ} (hands : Hands bs head p
   -- a chain over what is handed on is one over the book's parts
   pub hands-chain : {l₀ : Lent} {n : ℕ} {t : Tally} {l : Lent} → Chain head part l₀ n t l → Chain bs (part-of bs) l₀ n t l
   hands-chain {l₀} d =
-      let most = chain head part l₀ d .most in
+      let most = chain d .most in
       way-chain bs (part-of bs) l₀ (way-alike (hands .contents) (λ m h. hands .records m (omega arith)) (chain-way head part l₀ d))
 
   pub hands-call :
@@ -86,7 +87,7 @@ module _ (head : List ℕ) (part : ℕ → List ℕ) (l₀ : Lent) where
       {n : ℕ} {t t′ : Tally} {l l′ m m′ : Lent} {r r′ : Step} → Chain head part l₀ n t l → Chain head part l₀ n t′ l′ →
       Call (counts-in head) (part n) n t l r m → Call (counts-in head) (part n) n t′ l′ r′ m′ → r ≡ r′
   same-answer {n} {t} {t′} {l} {l′} {m} {m′} {r} d d′ c c′ =
-      let e = chain-only head part l₀ d d′ in
+      let e = chain-only d d′ in
       call-only (subst₂ (λ (t : Tally) (l : Lent). Call (counts-in head) (part n) n t l r m) (e .0) (e .1) c) c′ .0
 
   taken-before :

@@ -1,29 +1,39 @@
 -- Laws of lists and sums that the chain stands on: parts of a list that are placed one behind the other or inside what is filled, what a unit adds to
--- the sums of all regions, and lists of values by index.
+-- the sums of all regions, its row, whose figures they are, and lists of values by index.
 use mathlib.Core.Path.{_≡_, refl, sym, _∙_, ap, ap₂}
 use mathlib.Core.Bool.{Bool, true, false, cond, _||_}
 use mathlib.Core.List.{List, [], _∷_, _++_}
 use Prim.Native.Nat.{ℕ, zero, suc, _+_, _*_, _/_, _%_, _≤_, _<_}
-use native.Mathlib.Nat.{zero-add, suc-add, mul-suc}
+use native.Mathlib.Nat.{
+  zero-add,
+  add-zero,
+  suc-add,
+  mul-suc,
+  mul-add-div,
+  div-eq-of-lt,
+  mul-add-mod-self-left,
+  mod-eq-of-lt,
+  mul-le-mul-left,
+}
 use native.Mathlib.Omega.{arith}
 use lib.Dec.{eqb}
 use lib.IntN.{ℤ, pos, _+ℤ_, _*ℤ_, +ℤ-idr}
 use lib.ListN.{length, getD}
 use borrow.Author.Tests.{eq-eqb, ne-eqb}
 use Rattle.integers.specs.Sums.{sum, when}
-use Rattle.integers.proofs.Sums.{sum-ext, none-below}
+use Rattle.integers.proofs.Sums.{sum-ext, none-below, every-all, every-fails}
 use Rattle.integers.specs.Totals.{total}
 use Rattle.integers.proofs.Totals.{total-more}
 use Rattle.integers.specs.Fills.{filled}
-use Rattle.integers.proofs.Fills.{filled-none, filled-ext, filled-at, filled-length}
-use Rattle.rules.specs.declared.Direction.{Direction}
+use Rattle.integers.proofs.Fills.{filled-none, filled-ext, filled-at}
+use Rattle.rules.specs.declared.Direction.the-variants.{Raise, Lower}
 use Rattle.rules.specs.Quantities.{points, regions}
 use Rattle.rules.specs.Bytes.{listed}
 use Rattle.rules.specs.Book.{Unit}
 use Rattle.rules.specs.Deviation.{deviation, good}
 use Rattle.rules.specs.Performance.{wanted, performance}
-use Rattle.interval.specs.Lent.{placed, series-start, series-length, summed}
-use Rattle.chain.specs.ChainLaws.{adds, latest}
+use Rattle.interval.specs.Lent.{put-from, sums-each, sums-start, sums-length, side-part, summed, row-of, figures-each, is-number, of-interval}
+use Rattle.chain.specs.Chain.{adds}
 
 pub or-true : (b : Bool) → b || true ≡ true
 or-true true = refl
@@ -33,25 +43,27 @@ or-true false = refl
 module _ {A : Type 0} where
   -- behind what is filled
   pub placed-next : (place n : ℕ) (g G : ℕ → A) (xs : List A) → ((i : ℕ) → i < n → g i ≡ G (place + i)) →
-      placed place n g (filled place G xs) ≡ filled (place + n) G xs
+      put-from place n g (filled place G xs) ≡ filled (place + n) G xs
   unfolding filled
   placed-next zero n g G xs e = rw (filled-none G xs, zero-add n) (filled-ext n g G xs (λ i h. e i h ∙ ap G (zero-add i)))
   placed-next (suc place) n g G [] e = refl
   placed-next (suc place) n g G (x ∷ xs) e =
       rw (suc-add place n) (ap (λ (l : List A). G 0 ∷ l) (placed-next place n g (λ i. G (suc i)) xs (λ i h. e i h ∙ ap G (suc-add place i))))
 
-  -- the next block of n
-  pub block-next : (n k : ℕ) (g G : ℕ → A) (xs : List A) → ((i : ℕ) → i < n → g i ≡ G (n * k + i)) →
-      placed (n * k) n g (filled (n * k) G xs) ≡ filled (n * suc k) G xs
-  block-next n k g G xs e = placed-next (n * k) n g G xs e ∙ ap (λ (m : ℕ). filled m G xs) (sym (mul-suc n k))
+  -- ---- blocks of n numbers: the i-th of block k stands at n * k + i
+  pub in-block : (n : ℕ) (f : ℕ → ℕ → A) (k i : ℕ) → i < n → f ((n * k + i) / n) ((n * k + i) % n) ≡ f k i
+  in-block n f k i h =
+      ap₂ f (mul-add-div (omega arith) k i ∙ ap (λ (q : ℕ). k + q) (div-eq-of-lt h) ∙ add-zero k) (mul-add-mod-self-left n k i ∙ mod-eq-of-lt h)
 
-  -- over what was filled before
-  pub filled-again : (n : ℕ) (g h : ℕ → A) (xs : List A) → filled n g (filled n h xs) ≡ filled n g xs
-  unfolding filled
-  filled-again zero g h [] = refl
-  filled-again (suc n) g h [] = refl
-  filled-again zero g h (x ∷ xs) = refl
-  filled-again (suc n) g h (x ∷ xs) = ap (λ (l : List A). g 0 ∷ l) (filled-again n (λ i. g (suc i)) (λ i. h (suc i)) xs)
+  -- read from the first m blocks
+  pub block-at : (n m : ℕ) (G : ℕ → A) (xs : List A) (k i : ℕ) (z : A) → i < n → k < m → n * suc k ≤ length xs →
+      getD (filled (n * m) G xs) (n * k + i) z ≡ G (n * k + i)
+  block-at n m G xs k i z b h l = filled-at (n * m) G xs (n * k + i) z (omega (arith, mul-le-mul-left n h)) (omega arith)
+
+  -- the next one
+  pub block-next : (n k : ℕ) (g G : ℕ → A) (xs : List A) → ((i : ℕ) → i < n → g i ≡ G (n * k + i)) →
+      put-from (n * k) n g (filled (n * k) G xs) ≡ filled (n * suc k) G xs
+  block-next n k g G xs e = placed-next (n * k) n g G xs e ∙ ap (λ (m : ℕ). filled m G xs) (sym (mul-suc n k))
 
   filled-inside : (n m : ℕ) (g G H : ℕ → A) (xs : List A) → n ≤ m → ((i : ℕ) → i < n → H i ≡ g i) → ((j : ℕ) → n ≤ j → H j ≡ G j) →
       filled n g (filled m G xs) ≡ filled m H xs
@@ -66,7 +78,7 @@ module _ {A : Type 0} where
 
   -- inside what is filled
   pub placed-inside : (place n m : ℕ) (g G H : ℕ → A) (xs : List A) → place + n ≤ m → ((i : ℕ) → i < n → H (place + i) ≡ g i) →
-      ((j : ℕ) → j < place → H j ≡ G j) → ((j : ℕ) → place + n ≤ j → H j ≡ G j) → placed place n g (filled m G xs) ≡ filled m H xs
+      ((j : ℕ) → j < place → H j ≡ G j) → ((j : ℕ) → place + n ≤ j → H j ≡ G j) → put-from place n g (filled m G xs) ≡ filled m H xs
   unfolding filled
   placed-inside zero n m g G H xs l at before past =
       filled-inside n m g G H xs (omega arith) (λ i h. ap H (sym (zero-add i)) ∙ at i h) (λ j h. past j (omega arith))
@@ -77,52 +89,52 @@ module _ {A : Type 0} where
       (placed-inside place n m g (λ i. G (suc i)) (λ i. H (suc i)) xs (omega arith) (λ i h. ap H (sym (suc-add place i)) ∙ at i h)
       (λ j h. before (suc j) (omega arith)) (λ j h. past (suc j) (omega arith)))
 
-  pub latest-next : (n k : ℕ) (g : ℕ → ℕ → A) (xs : List A) → filled n (g k) (latest n k g xs) ≡ latest n (suc k) g xs
-  unfolding latest
-  latest-next n zero g xs = refl
-  latest-next n (suc k) g xs = filled-again n (g (suc k)) (g k) xs
-
-  pub latest-length : (n k : ℕ) (g : ℕ → ℕ → A) (xs : List A) → length (latest n k g xs) ≡ length xs
-  unfolding latest
-  latest-length n zero g xs = refl
-  latest-length n (suc k) g xs = filled-length n (g k) xs
-
-pub summed-adds : (d : Direction) (u : Unit) (G : ℕ → ℤ) (xs : List ℤ) → u .region < regions → series-length ≤ length xs →
-    summed d u (filled series-length G xs) ≡ filled series-length (λ j. G j +ℤ adds d u j) xs
+-- ---- a unit's deviations, added to the sums of all regions
+pub summed-adds : (u : Unit) (G : ℕ → ℤ) (xs : List ℤ) → u .region < regions → sums-length ≤ length xs →
+    summed u (filled sums-length G xs) ≡ filled sums-length (λ j. G j +ℤ adds u j) xs
 unfolding adds
-summed-adds d u G xs h l = go (good u)
+summed-adds u G xs h l = go (good u)
   where
     r : ℕ
     r = u .region
 
     old : List ℤ
-    old = filled series-length G xs
+    old = filled sums-length G xs
 
     w : ℕ → ℤ
-    w j = when (eqb (j / points) (u .region)) (wanted d (deviation u (j % points)))
+    w j = when (eqb (j / sums-each) (u .region)) (side-part u (j % sums-each))
 
-    inside : (i : ℕ) → i < points → w (series-start r + i) ≡ wanted d (deviation u i)
-    inside i h =
-        let q : (series-start r + i) / points ≡ r = omega arith in
-        let m : (series-start r + i) % points ≡ i = omega arith in
-        rw (q, m, eq-eqb r r refl)
+    inside : (i : ℕ) → i < sums-each → w (sums-start r + i) ≡ side-part u i
+    inside i h = in-block sums-each (λ s i. when (eqb s (u .region)) (side-part u i)) r i h ∙ rw (eq-eqb r r refl)
 
-    outside : (j : ℕ) → (j / points ≡ r → ⊥) → G j +ℤ w j ≡ G j
-    outside j f = rw (ne-eqb (j / points) r f) (+ℤ-idr (G j))
+    outside : (j : ℕ) → (j / sums-each ≡ r → ⊥) → G j +ℤ w j ≡ G j
+    outside j f = rw (ne-eqb (j / sums-each) r f) (+ℤ-idr (G j))
 
-    go : (t : Bool) → cond t (placed (series-start r) points (λ i. getD old (series-start r + i) (pos 0) +ℤ wanted d (deviation u i)) old) old ≡
-        filled series-length (λ j. G j +ℤ when t (w j)) xs
+    go : (t : Bool) → cond t (put-from (sums-start r) sums-each (λ i. getD old (sums-start r + i) (pos 0) +ℤ side-part u i) old) old ≡
+        filled sums-length (λ j. G j +ℤ when t (w j)) xs
     go true =
-        placed-inside (series-start r) points series-length _ G (λ j. G j +ℤ w j) xs (omega arith)
-        (λ i b. ap₂ _+ℤ_ (sym (filled-at series-length G xs (series-start r + i) (pos 0) (omega arith) (omega arith))) (inside i b))
+        placed-inside (sums-start r) sums-each sums-length _ G (λ j. G j +ℤ w j) xs (omega arith)
+        (λ i b. ap₂ _+ℤ_ (sym (filled-at sums-length G xs (sums-start r + i) (pos 0) (omega arith) (omega arith))) (inside i b))
         (λ j b. outside j (λ e. omega arith))
         (λ j b. outside j (λ e. omega arith))
-    go false = filled-ext series-length G _ xs (λ j b. sym (+ℤ-idr (G j)))
+    go false = filled-ext sums-length G _ xs (λ j b. sym (+ℤ-idr (G j)))
 
--- ---- a performance looks at the measures of the 75 points alone
-pub performance-same : (d : Direction) (fm fm′ dev : ℕ → ℤ) → ((t : ℕ) → t < points → fm t ≡ fm′ t) → performance d fm dev ≡ performance d fm′ dev
+-- ---- a row looks at the measures of the 75 points alone
+pub row-same : (fm fm′ : ℕ → ℤ) (u : Unit) → ((t : ℕ) → t < points → fm t ≡ fm′ t) → (i : ℕ) → row-of fm u i ≡ row-of fm′ u i
 unfolding performance
-performance-same d fm fm′ dev h = sum-ext points _ _ (λ t l. ap (λ (z : ℤ). wanted d z *ℤ dev t) (h t l))
+row-same fm fm′ u h zero = sum-ext points _ _ (λ t l. ap (λ (z : ℤ). wanted Raise z *ℤ deviation u t) (h t l))
+row-same fm fm′ u h (suc zero) = sum-ext points _ _ (λ t l. ap (λ (z : ℤ). wanted Lower z *ℤ deviation u t) (h t l))
+row-same fm fm′ u h (suc (suc i)) = refl
+
+-- ---- whose figures they are: of a book where all regions have its number, and of none that has another number than some region
+module _ (n : ℕ) (xs : List ℤ) where
+  pub of-interval-all : ((r : ℕ) → r < regions → getD xs (figures-each * r) (pos 0) ≡ pos n) → of-interval n xs ≡ true
+  unfolding of-interval
+  of-interval-all e = every-all regions _ (λ r h. ap (is-number n) (e r h) ∙ eq-eqb n n refl)
+
+  pub of-interval-none : (r m : ℕ) → r < regions → getD xs (figures-each * r) (pos 0) ≡ pos m → (n ≡ m → ⊥) → of-interval n xs ≡ false
+  unfolding of-interval
+  of-interval-none r m h e other = every-fails regions _ r h (ap (is-number n) e ∙ ne-eqb m n (λ f. other (sym f)))
 
 -- ---- a list of values by index
 module _ {A : Type 0} where

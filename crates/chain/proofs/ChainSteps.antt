@@ -1,7 +1,7 @@
--- One record more: what the lent lists hold after a frequency record and after a unit, and what a chain leaves after each call.
+-- One record more: what the lent lists hold after a frequency record and after a unit. Each list is as long as it was.
 use mathlib.Core.Path.{_≡_, refl, sym, _∙_, ap}
 use mathlib.Core.List.{List}
-use Prim.Native.Nat.{ℕ, suc, _+_, _*_, _/_, _%_, _≤_, _<_}
+use Prim.Native.Nat.{ℕ, suc, _+_, _*_, _<_}
 use native.Mathlib.Numerals.{add-one}
 use native.Mathlib.Omega.{arith}
 use lib.IntN.{ℤ, pos, _+ℤ_}
@@ -9,122 +9,87 @@ use lib.ListN.{length, getD, set}
 use Rattle.integers.specs.Sums.{sum}
 use Rattle.integers.proofs.Sums.{sum-none}
 use Rattle.integers.specs.Fills.{filled}
-use Rattle.integers.proofs.Fills.{filled-more, filled-at}
-use Rattle.rules.specs.declared.Direction.{Direction}
-use Rattle.rules.specs.declared.Direction.the-variants.{Raise, Lower}
+use Rattle.integers.proofs.Fills.{filled-more, filled-length}
 use Rattle.rules.specs.Quantities.{points, regions}
-use Rattle.rules.specs.Refusals.{taken}
 use Rattle.rules.specs.Measure.{measure}
-use Rattle.rules.specs.Deviation.{deviation}
-use Rattle.rules.specs.Performance.{performance}
 use Rattle.interval.specs.declared.Tally.{Tally}
-use Rattle.interval.specs.declared.Step.{Step}
 use Rattle.interval.specs.Tally.{settings-of, next-region, units-taken}
-use Rattle.interval.specs.Lent.{series-start, series-length, figures-each, figures-of, place-of, six}
-use Rattle.interval.specs.Calls.{frequency-reply, unit-reply}
-use Rattle.chain.proofs.ChainLaws.{block-next, summed-adds, latest-next, performance-same}
-use Rattle.chain.specs.ChainLaws.{adds}
-use Rattle.chain.specs.Chain.{
-  Lent,
-  FrequencyCall,
-  UnitCall,
-  the-settings,
-  region,
-  unit,
-  measure-at,
-  sum-at,
-  performance-of,
-  figure-at,
-  default-at,
-  Leaves,
-}
+use Rattle.interval.specs.Lent.{Lent, sums-each, sums-length, figures-each, figures-of, home-of, row-each, row-of}
+use Rattle.interval.specs.Calls.{unit-long}
+use Rattle.interval.specs.Promises.{region-kept, measured, unit-kept}
+use Rattle.chain.specs.Long.{Long}
+use Rattle.chain.proofs.Long.{long-passes, passes-long}
+use Rattle.chain.proofs.ChainLaws.{in-block, block-at, block-next, summed-adds, row-same}
+use Rattle.chain.specs.Chain.{the-settings, region, unit, measure-at, sum-at, figure-at, row-at, adds, Leaves}
 
--- ---- a frequency record
-module _ (part : ℕ → List ℕ) (l₀ : Lent) where
-  module _ {k : ℕ} {t : Tally} {l l′ : Lent} {r : Step} (c : FrequencyCall t (part (suc k)) l r l′) (w : Leaves part l₀ k 0 l)
-      (answer : frequency-reply t (part (suc k)) (l .frequencies) (l .measures) (l .positive) (l .negative) (l .figures) ≡ taken (region part k))
-      (at : next-region t ≡ k) (s : settings-of t ≡ the-settings part) where
-    pub frequency-leaves : Leaves part l₀ (suc k) 0 l′
-    frequency-leaves =
-        record {
-          measures = c .promise .measures ∙ rw answer (rw (at, s, w .measures) (block-next points k _ (measure-at part) (l₀ .measures) measure-here));
-          positive = c .promise .positive ∙ rw answer (rw (at, w .positive)
-              (block-next points k _ (sum-at part Raise 0) (l₀ .positive) (λ i h. sym (sum-none _))));
-          negative = c .promise .negative ∙ rw answer (rw (at, w .negative)
-              (block-next points k _ (sum-at part Lower 0) (l₀ .negative) (λ i h. sym (sum-none _))));
-          figures = c .promise .figures ∙ rw answer (rw (at, s, w .figures) (block-next figures-each k _ (figure-at part) (l₀ .figures) figure-here));
-          numbers = c .numbers ∙ w .numbers;
-          places = c .places ∙ w .places;
-          raise = c .raise ∙ w .raise;
-          lower = c .lower ∙ w .lower;
-          defaults = c .defaults ∙ w .defaults;
-          frequencies = c .promise .frequencies ∙ rw answer (rw (w .frequencies) (latest-next points k _ (l₀ .frequencies)));
-          readings = c .readings ∙ w .readings;
-          deviations = c .deviations ∙ w .deviations;
-        }
-      where
-        measure-here : (i : ℕ) → i < points → measure (the-settings part) (region part k) i ≡ measure-at part (points * k + i)
-        measure-here i h =
-            let q : (points * k + i) / points ≡ k = omega arith in
-            let m : (points * k + i) % points ≡ i = omega arith in
-            rw (q, m)
+module _ {part : ℕ → List ℕ} {l₀ : Lent} where
+  module _ {k m : ℕ} {l : Lent} (w : Leaves part l₀ k m l) where
+    lengths : (units : ℕ) → unit-long units l ≡ unit-long units l₀
+    lengths units =
+        rw (
+          ap length (w .measures) ∙ filled-length _ _ _,
+          ap length (w .sums) ∙ filled-length _ _ _,
+          ap length (w .figures) ∙ filled-length _ _ _,
+          ap length (w .numbers) ∙ filled-length _ _ _,
+          ap length (w .homes) ∙ filled-length _ _ _,
+          ap length (w .rows) ∙ filled-length _ _ _,
+        )
 
-        figure-here : (i : ℕ) → i < figures-each → figures-of (the-settings part) (region part k) i ≡ figure-at part (figures-each * k + i)
-        figure-here i h =
-            let q : (figures-each * k + i) / figures-each ≡ k = omega arith in
-            let m : (figures-each * k + i) % figures-each ≡ i = omega arith in
-            rw (q, m)
+    pub still-long : {units : ℕ} → Long l₀ units → Long l units
+    still-long {units} h = passes-long (lengths units ∙ long-passes h)
+
+    pub was-long : {units : ℕ} → Long l units → Long l₀ units
+    was-long {units} h = passes-long (sym (lengths units) ∙ long-passes h)
+
+  -- ---- a frequency record
+  pub region-leaves : {k : ℕ} (t : Tally) {l : Lent} → Leaves part l₀ k 0 l → next-region t ≡ k → settings-of t ≡ the-settings part →
+      Leaves part l₀ (suc k) 0 (region-kept t (region part k) l)
+  region-leaves {k} t w at s =
+      record {
+        measures = rw (at, s, w .measures) (block-next points k _ (measure-at part) (l₀ .measures) measure-here);
+        sums = rw (at, w .sums) (block-next sums-each k _ (sum-at part 0) (l₀ .sums) (λ i h. sym (sum-none _)));
+        figures = rw (at, s, w .figures) (block-next figures-each k _ (figure-at part) (l₀ .figures) figure-here);
+        numbers = w .numbers;
+        homes = w .homes;
+        rows = w .rows;
+      }
+    where
+      measure-here : (i : ℕ) → i < points → measure (the-settings part) (region part k) i ≡ measure-at part (points * k + i)
+      measure-here i h = sym (in-block points (λ r. measure (the-settings part) (region part r)) k i h)
+
+      figure-here : (i : ℕ) → i < figures-each → figures-of (the-settings part) (region part k) i ≡ figure-at part (figures-each * k + i)
+      figure-here i h = sym (in-block figures-each (λ r. figures-of (the-settings part) (region part r)) k i h)
 
   -- ---- a unit
-  module _ {m : ℕ} {t : Tally} {l l′ : Lent} {r : Step} (c : UnitCall t (part (6 + m)) l r l′) (w : Leaves part l₀ regions m l)
-      (answer : unit-reply t (part (6 + m)) (l .readings) (l .deviations) (l .measures) (l .positive) (l .negative) (l .numbers) (l .places) (l .raise)
-      (l .lower) (l .defaults) ≡ taken (unit part m)) (row : units-taken t ≡ m) (here : unit part m .region < regions)
-      (measures-room : series-length ≤ length (l₀ .measures)) (positive-room : series-length ≤ length (l₀ .positive))
-      (negative-room : series-length ≤ length (l₀ .negative)) where
+  module _
+      {m : ℕ} (t : Tally) {l : Lent} (w : Leaves part l₀ regions m l) (row : units-taken t ≡ m) (here : unit part m .region < regions) (long : Long l₀ m) where
     stored : {A : Type 0} (g : ℕ → A) (xs : List A) → set (filled m g xs) m (g m) ≡ filled (suc m) g xs
     stored g xs = filled-more m g xs ∙ ap (λ (n : ℕ). filled n g xs) (add-one m)
 
-    -- the unit's region holds its measures
-    measured : (i : ℕ) → i < points → getD (l .measures) (series-start (unit part m .region) + i) (pos 0) ≡
-        measure (the-settings part) (region part (unit part m .region)) i
-    measured i h =
-        let q : (series-start (unit part m .region) + i) / points ≡ unit part m .region = omega arith in
-        let n : (series-start (unit part m .region) + i) % points ≡ i = omega arith in
-        ap (λ (xs : List ℤ). getD xs (series-start (unit part m .region) + i) (pos 0)) (w .measures)
-        ∙ filled-at series-length (measure-at part) (l₀ .measures) (series-start (unit part m .region) + i) (pos 0) (omega arith) (omega arith)
-        ∙ rw (q, n)
-
-    performed : (d : Direction) → performance d (λ i. getD (l .measures) (series-start (unit part m .region) + i) (pos 0)) (deviation (unit part m)) ≡
-        performance-of part d m
-    performed d = performance-same d _ _ (deviation (unit part m)) measured
-
     -- one term more
-    one-more : (d : Direction) (xs : List ℤ) → filled series-length (λ j. sum-at part d m j +ℤ adds d (unit part m) j) xs ≡
-        filled series-length (sum-at part d (suc m)) xs
+    one-more : (xs : List ℤ) → filled sums-length (λ j. sum-at part m j +ℤ adds (unit part m) j) xs ≡ filled sums-length (sum-at part (suc m)) xs
     unfolding sum
-    one-more d xs = refl
+    one-more xs = refl
 
-    pub unit-leaves : Leaves part l₀ regions (suc m) l′
+    -- the unit's region holds its measures
+    region-measured : (i : ℕ) → i < points → measured l (unit part m) i ≡ measure (the-settings part) (region part (unit part m .region)) i
+    region-measured i h =
+        ap (λ (xs : List ℤ). getD xs (points * unit part m .region + i) (pos 0)) (w .measures)
+        ∙ block-at points regions (measure-at part) (l₀ .measures) (unit part m .region) i (pos 0) h here (omega (arith, long .measures))
+        ∙ in-block points (λ r. measure (the-settings part) (region part r)) (unit part m .region) i h
+
+    row-here : (i : ℕ) → i < row-each → row-of (measured l (unit part m)) (unit part m) i ≡ row-at part (row-each * m + i)
+    row-here i h =
+        row-same _ _ (unit part m) region-measured i
+        ∙ sym (in-block row-each (λ j. row-of (measure (the-settings part) (region part (unit part j .region))) (unit part j)) m i h)
+
+    pub unit-leaves : Leaves part l₀ regions (suc m) (unit-kept t (unit part m) l)
     unit-leaves =
         record {
-          measures = c .measures ∙ w .measures;
-          positive = c .promise .positive ∙ rw answer (rw (w .positive) (summed-adds Raise (unit part m) (sum-at part Raise m) (l₀ .positive) here positive-room
-              ∙ one-more Raise (l₀ .positive)));
-          negative = c .promise .negative ∙ rw answer (rw (w .negative) (summed-adds Lower (unit part m) (sum-at part Lower m) (l₀ .negative) here negative-room
-              ∙ one-more Lower (l₀ .negative)));
-          figures = c .figures ∙ w .figures;
-          numbers = c .promise .numbers ∙ rw answer (rw (row, w .numbers) (stored (λ i. unit part i .number) (l₀ .numbers)));
-          places = c .promise .places ∙ rw answer (rw (row, w .places) (stored (λ i. place-of (unit part i)) (l₀ .places)));
-          raise = c .promise .raise ∙ rw answer (rw (row, w .raise, performed Raise) (stored (performance-of part Raise) (l₀ .raise)));
-          lower = c .promise .lower ∙ rw answer (rw (row, w .lower, performed Lower) (stored (performance-of part Lower) (l₀ .lower)));
-          defaults = c .promise .defaults ∙ rw answer (rw (row, w .defaults) (block-next 6 m _ (default-at part) (l₀ .defaults) default-here));
-          frequencies = c .frequencies ∙ w .frequencies;
-          readings = c .promise .readings ∙ rw answer (rw (w .readings) (latest-next points m _ (l₀ .readings)));
-          deviations = c .promise .deviations ∙ rw answer (rw (w .deviations) (latest-next points m _ (l₀ .deviations)));
+          measures = w .measures;
+          sums = rw (w .sums) (summed-adds (unit part m) (sum-at part m) (l₀ .sums) here (long .sums) ∙ one-more (l₀ .sums));
+          figures = w .figures;
+          numbers = rw (row, w .numbers) (stored (λ i. unit part i .number) (l₀ .numbers));
+          homes = rw (row, w .homes) (stored (λ i. home-of (unit part i)) (l₀ .homes));
+          rows = rw (row, w .rows) (block-next row-each m _ (row-at part) (l₀ .rows) row-here);
         }
-      where
-        default-here : (i : ℕ) → i < 6 → six (unit part m .defaults) i ≡ default-at part (6 * m + i)
-        default-here i h =
-            let q : (6 * m + i) / 6 ≡ m = omega arith in
-            let n : (6 * m + i) % 6 ≡ i = omega arith in
-            rw (q, n)

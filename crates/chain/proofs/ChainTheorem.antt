@@ -7,16 +7,14 @@ use native.Mathlib.Numerals.{add-one}
 use native.Mathlib.Decide.{decLt}
 use native.Mathlib.Omega.{arith}
 use lib.Dec.{eqb, ltb}
-use lib.IntN.{ℤ}
-use lib.ListN.{length}
 use borrow.Author.Tests.{lt-ltb, le-ltb, ne-eqb}
 use Rattle.integers.proofs.Sums.{none-below}
-use Rattle.integers.proofs.Fills.{filled-none, filled-length}
+use Rattle.integers.proofs.Fills.{filled-none}
 use Rattle.rules.specs.declared.Refusal.{Refusal}
 use Rattle.rules.specs.Quantities.{regions}
 use Rattle.rules.specs.Bytes.{number-at}
 use Rattle.rules.specs.Refusals.{Reply, taken, refused}
-use Rattle.rules.specs.Book.{Unit, Requirement}
+use Rattle.rules.specs.Book.{Region, Unit, Requirement}
 use Rattle.rules.specs.Contents.{Counts, contents}
 use Rattle.rules.specs.UnitRecord.{unit-in}
 use Rattle.rules.specs.RequirementRecord.{requirement-in}
@@ -25,9 +23,10 @@ use Rattle.interval.specs.declared.Tally.{Tally}
 use Rattle.interval.specs.declared.Opened as o
 use Rattle.interval.specs.declared.Step.{Step}
 use Rattle.interval.specs.Tally.{settings-of, before-units, book-end, next-region, units-taken}
-use Rattle.interval.specs.Calls.{fresh, opened, settled, counted, unit-counted, settings-reply, frequency-reply, unit-reply, requirement-reply}
-use Rattle.interval.specs.Promises.{ContentsPromise, SettingsPromise, RequirementPromise}
-use Rattle.chain.specs.ChainLaws.{latest}
+use Rattle.interval.specs.Lent.{Lent}
+use Rattle.interval.specs.Calls.{fresh, opened, left, settled, counted, unit-counted, settings-reply, frequency-reply, unit-reply, requirement-reply}
+use Rattle.interval.specs.Promises.{ContentsPromise, SettingsPromise, FrequencyPromise, UnitPromise, RequirementPromise, region-kept, unit-kept}
+use Rattle.chain.specs.Long.{Long}
 use Rattle.chain.specs.Taken.{counts-in}
 use Rattle.chain.proofs.Taken.{
   contents-is,
@@ -43,9 +42,6 @@ use Rattle.chain.proofs.Taken.{
   requirement-passed,
 }
 use Rattle.chain.specs.Chain.{
-  Lent,
-  FrequencyCall,
-  UnitCall,
   Taken,
   Refused,
   Chain,
@@ -60,7 +56,6 @@ use Rattle.chain.specs.Chain.{
   refused-requirement,
   regions-among,
   units-among,
-  Room,
   the-settings,
   region,
   least-at,
@@ -68,55 +63,19 @@ use Rattle.chain.specs.Chain.{
   Leaves,
   Means,
 }
-use Rattle.chain.proofs.ChainSteps.{frequency-leaves, unit-leaves}
+use Rattle.chain.proofs.ChainSteps.{was-long, region-leaves, unit-leaves}
 
 -- ---- refused calls leave everything as it came
-lent-of : List ℕ → List ℤ → List ℤ → List ℤ → List ℤ → List ℤ → List ℤ → List ℕ → List ℕ → List ℤ → List ℤ → List ℤ → Lent
-lent-of fs ms ps ns gs rs ds us qs xs ys zs =
-    record {
-      frequencies = fs;
-      measures = ms;
-      positive = ps;
-      negative = ns;
-      figures = gs;
-      readings = rs;
-      deviations = ds;
-      numbers = us;
-      places = qs;
-      raise = xs;
-      lower = ys;
-      defaults = zs;
-    }
+pub frequency-stays : {t : Tally} {p : List ℕ} {l l′ : Lent} {r : Step} {why : Refusal} → FrequencyPromise t p l r l′ → Refused r why →
+    (r .tally ≡ t) × (l′ ≡ l)
+frequency-stays {t} {p} {l} c h =
+    let w = step-refused _ t (frequency-reply t p l) (c .reply) h in
+    (w .1, c .lent ∙ ap (λ (x : Reply Region). left (region-kept t) x l) (w .0))
 
-pub same-lent : (l l′ : Lent) → l .frequencies ≡ l′ .frequencies → l .measures ≡ l′ .measures → l .positive ≡ l′ .positive → l .negative ≡ l′ .negative →
-    l .figures ≡ l′ .figures → l .readings ≡ l′ .readings → l .deviations ≡ l′ .deviations → l .numbers ≡ l′ .numbers → l .places ≡ l′ .places →
-    l .raise ≡ l′ .raise → l .lower ≡ l′ .lower → l .defaults ≡ l′ .defaults → l ≡ l′
-unfolding lent-of
-same-lent l l′ fs ms ps ns gs rs ds us qs xs ys zs =
-    let e : lent-of (l .frequencies) (l .measures) (l .positive) (l .negative) (l .figures) (l .readings) (l .deviations) (l .numbers) (l .places) (l .raise)
-    (l .lower) (l .defaults) ≡ lent-of (l′ .frequencies) (l′ .measures) (l′ .positive) (l′ .negative) (l′ .figures) (l′ .readings) (l′ .deviations)
-    (l′ .numbers) (l′ .places) (l′ .raise) (l′ .lower) (l′ .defaults) = cc in
-    e
-
-pub frequency-kept : {t : Tally} {p : List ℕ} {l l′ : Lent} {r : Step} {why : Refusal} → FrequencyCall t p l r l′ → Refused r why → (r .tally ≡ t) × (l′ ≡ l)
-frequency-kept {t} {p} {l} {l′} c h =
-    let w = step-refused _ t (frequency-reply t p (l .frequencies) (l .measures) (l .positive) (l .negative) (l .figures)) (c .promise .reply) h in
-    let e = w .0 in (
-      w .1,
-      same-lent l′ l (c .promise .frequencies ∙ rw e) (c .promise .measures ∙ rw e) (c .promise .positive ∙ rw e) (c .promise .negative ∙ rw e)
-          (c .promise .figures ∙ rw e) (c .readings) (c .deviations) (c .numbers) (c .places) (c .raise) (c .lower) (c .defaults),
-    )
-
-pub unit-kept : {t : Tally} {p : List ℕ} {l l′ : Lent} {r : Step} {why : Refusal} → UnitCall t p l r l′ → Refused r why → (r .tally ≡ t) × (l′ ≡ l)
-unit-kept {t} {p} {l} {l′} c h =
-    let w = step-refused _ t (unit-reply t p (l .readings) (l .deviations) (l .measures) (l .positive) (l .negative) (l .numbers) (l .places) (l .raise)
-    (l .lower) (l .defaults)) (c .promise .reply) h in
-    let e = w .0 in (
-      w .1,
-      same-lent l′ l (c .frequencies) (c .measures) (c .promise .positive ∙ rw e) (c .promise .negative ∙ rw e) (c .figures) (c .promise .readings ∙ rw e)
-          (c .promise .deviations ∙ rw e) (c .promise .numbers ∙ rw e) (c .promise .places ∙ rw e) (c .promise .raise ∙ rw e) (c .promise .lower ∙ rw e)
-          (c .promise .defaults ∙ rw e),
-    )
+pub unit-stays : {t : Tally} {p : List ℕ} {l l′ : Lent} {r : Step} {why : Refusal} → UnitPromise t p l r l′ → Refused r why → (r .tally ≡ t) × (l′ ≡ l)
+unit-stays {t} {p} {l} c h =
+    let w = step-refused _ t (unit-reply t p l) (c .reply) h in
+    (w .1, c .lent ∙ ap (λ (x : Reply Unit). left (unit-kept t) x l) (w .0))
 
 -- ---- both kinds of record have their number in front
 pub unit-number : (bs : List ℕ) → unit-in bs .number ≡ number-at 2 0 bs
@@ -156,32 +115,15 @@ module _ (head : List ℕ) (part : ℕ → List ℕ) (l₀ : Lent) where
   c = counts-in head
 
   nothing-left : Leaves part l₀ 0 0 l₀
-  unfolding latest
   nothing-left =
       record {
         measures = sym (filled-none _ _);
-        positive = sym (filled-none _ _);
-        negative = sym (filled-none _ _);
+        sums = sym (filled-none _ _);
         figures = sym (filled-none _ _);
         numbers = sym (filled-none _ _);
-        places = sym (filled-none _ _);
-        raise = sym (filled-none _ _);
-        lower = sym (filled-none _ _);
-        defaults = sym (filled-none _ _);
-        frequencies = refl;
-        readings = refl;
-        deviations = refl;
+        homes = sym (filled-none _ _);
+        rows = sym (filled-none _ _);
       }
-
-  no-room : Room l₀ 0 0
-  no-room = record {
-    series = λ h. none-below 0 h;
-    numbers = omega arith;
-    places = omega arith;
-    raise = omega arith;
-    lower = omega arith;
-    defaults = omega arith;
-  }
 
   start : {t : Tally} → ContentsPromise head (o.the-variants.Taken t) → Means head part l₀ 0 t l₀
   unfolding least-at
@@ -199,7 +141,7 @@ module _ (head : List ℕ) (part : ℕ → List ℕ) (l₀ : Lent) where
         before = λ _. ap settings-of (a .2);
         kept = λ h. none-below 0 h;
         taken-each = λ m h. none-below m h;
-        room = rw none no-room;
+        long = λ h. absurd (omega arith);
         lent = rw none nothing-left;
       }
 
@@ -207,9 +149,9 @@ module _ (head : List ℕ) (part : ℕ → List ℕ) (l₀ : Lent) where
   module _ {n : ℕ} {t : Tally} {l : Lent} (w : Means head part l₀ n t l) where
     next : {t′ : Tally} {l′ : Lent} → t′ .units ≡ t .units → t′ .requirements ≡ t .requirements → t′ .records ≡ suc n →
         t′ .least ≡ least-at part (c .units) (suc n) → settings-of t′ ≡ the-settings part → n < before-units + c .units + c .requirements →
-        RecordTaken part c n → Room l₀ (regions-among (suc n)) (units-among (c .units) (suc n)) →
+        RecordTaken part c n → (1 < suc n → Long l₀ (units-among (c .units) (suc n))) →
         Leaves part l₀ (regions-among (suc n)) (units-among (c .units) (suc n)) l′ → Means head part l₀ (suc n) t′ l′
-    next us rs records least s more this room lent =
+    next us rs records least s more this long lent =
         record {
           table = w .table;
           units = us ∙ w .units;
@@ -220,13 +162,22 @@ module _ (head : List ℕ) (part : ℕ → List ℕ) (l₀ : Lent) where
           before = λ e. absurd (omega arith);
           kept = λ _. s;
           taken-each = λ m h. each m h (decLt m n);
-          room = room;
+          long = long;
           lent = lent;
         }
       where
         each : (m : ℕ) → m < suc n → Dec (m < n) → RecordTaken part c m
         each m h (yes l) = w .taken-each m l
         each m h (no l) = let e : n ≡ m = omega arith in subst (RecordTaken part c) e this
+
+    -- one that is counted, once the settings are in
+    counts : {least : ℕ} {t′ : Tally} {l′ : Lent} → 0 < n → t′ ≡ counted least t → least ≡ least-at part (c .units) (suc n) →
+        n < before-units + c .units + c .requirements → RecordTaken part c n → Long l₀ (units-among (c .units) (suc n)) →
+        Leaves part l₀ (regions-among (suc n)) (units-among (c .units) (suc n)) l′ → Means head part l₀ (suc n) t′ l′
+    counts h e least more this long =
+        next (ap (λ (t : Tally). t .units) e) (ap (λ (t : Tally). t .requirements) e)
+        (ap (λ (t : Tally). t .records) e ∙ ap (λ (m : ℕ). m + 1) (w .records) ∙ add-one n) (ap (λ (t : Tally). t .least) e ∙ least)
+        (ap settings-of e ∙ w .kept h) more this (λ _. long)
 
   settings-next : (n : ℕ) {t : Tally} {l : Lent} {r : Step} → Means head part l₀ n t l → SettingsPromise t (part n) r → Taken r →
       Means head part l₀ (suc n) (r .tally) l
@@ -244,104 +195,67 @@ module _ (head : List ℕ) (part : ℕ → List ℕ) (l₀ : Lent) where
         as-unit = λ f _. absurd (omega arith);
         as-requirement = λ f. absurd (omega arith);
       })
-      (w .room) (w .lent)
+      (λ h. none-below 0 (omega arith)) (w .lent)
   settings-next (suc n) {t} w p h =
       let a = step-taken (settled t) t (settings-reply t (part (suc n))) (p .reply) h in
       absurd (omega (arith, w .records, settings-passed t (part (suc n)) (a .0) (a .1) .0))
 
-  frequency-next : (n : ℕ) {t : Tally} {l l′ : Lent} {r : Step} → Means head part l₀ n t l → FrequencyCall t (part n) l r l′ → Taken r →
+  frequency-next : (n : ℕ) {t : Tally} {l l′ : Lent} {r : Step} → Means head part l₀ n t l → FrequencyPromise t (part n) l r l′ → Taken r →
       Means head part l₀ (suc n) (r .tally) l′
   unfolding least-at
   frequency-next zero {t} {l} w call h =
-      let a = step-taken (λ _. counted 0 t) t (frequency-reply t (part 0) (l .frequencies) (l .measures) (l .positive) (l .negative) (l .figures))
-      (call .promise .reply) h in
-      let f = frequency-passed t (part 0) (l .frequencies) (l .measures) (l .positive) (l .negative) (l .figures) (a .0) (a .1) in
-      absurd (omega (arith, w .records, f .first))
+      let a = step-taken (λ _. counted 0 t) t (frequency-reply t (part 0) l) (call .reply) h in
+      absurd (omega (arith, w .records, frequency-passed t (part 0) l (a .0) (a .1) .first))
   frequency-next (suc k) {t} {l} w call h =
-      let a = step-taken (λ _. counted 0 t) t (frequency-reply t (part (suc k)) (l .frequencies) (l .measures) (l .positive) (l .negative) (l .figures))
-      (call .promise .reply) h in
-      let f = frequency-passed t (part (suc k)) (l .frequencies) (l .measures) (l .positive) (l .negative) (l .figures) (a .0) (a .1) in
+      let a = step-taken (λ _. counted 0 t) t (frequency-reply t (part (suc k)) l) (call .reply) h in
+      let f = frequency-passed t (part (suc k)) l (a .0) (a .1) in
       let is = region-is (next-region t) (part (suc k)) (a .0) (f .record-taken) in
-      let e = a .2 in
-      let at : next-region t ≡ k = omega (arith, w .records) in
+      let leaves = call .lent ∙ ap (λ (x : Reply Region). left (region-kept t) x l) (a .1 ∙ ap taken (sym is)) in
       let few : k < regions = omega (arith, w .records, f .last) in
       let lent : Leaves part l₀ k 0 l = rw (regions-now k (omega arith), units-none (c .units) (suc k) (omega arith)) at (w .lent) in
-      let s : settings-of t ≡ the-settings part = w .kept (omega arith) in
       let before : ltb (suc k) before-units ≡ true = lt-ltb (suc k) before-units (omega arith) in
-      next w (ap (λ (t : Tally). t .units) e) (ap (λ (t : Tally). t .requirements) e)
-      (ap (λ (t : Tally). t .records) e ∙ ap (λ (m : ℕ). m + 1) (w .records) ∙ add-one (suc k)) (ap (λ (t : Tally). t .least) e ∙ rw before)
-      (ap settings-of e ∙ s) (omega arith)
+      counts w (omega arith) (a .2) (rw before) (omega arith)
       (record {
         as-settings = λ f. absurd (omega arith);
         as-frequency = λ _ _. rw (ap (λ (m : ℕ). m - 1) (w .records)) at (f .record-taken ∙ ap taken (sym is));
         as-unit = λ f _. absurd (omega arith);
         as-requirement = λ f. absurd (omega arith);
       })
-      (rw (regions-now (suc k) few, units-none (c .units) (suc (suc k)) (omega arith))
-      (record {
-        series =
-            λ _. (
-              rw (ap length (lent .measures) ∙ filled-length _ _ _) at (f .measures),
-              rw (ap length (lent .positive) ∙ filled-length _ _ _) at (f .positive),
-              rw (ap length (lent .negative) ∙ filled-length _ _ _) at (f .negative),
-              rw (ap length (lent .figures) ∙ filled-length _ _ _) at (f .figures),
-            );
-        numbers = omega arith;
-        places = omega arith;
-        raise = omega arith;
-        lower = omega arith;
-        defaults = omega arith;
-      }))
-      (rw (regions-now (suc k) few, units-none (c .units) (suc (suc k)) (omega arith)) (frequency-leaves part l₀ call lent (a .1 ∙ ap taken (sym is)) at s))
+      (rw (units-none (c .units) (suc (suc k)) (omega arith)) (was-long lent (f .long)))
+      (rw (regions-now (suc k) few, units-none (c .units) (suc (suc k)) (omega arith), leaves)
+      (region-leaves t lent (omega (arith, w .records)) (w .kept (omega arith))))
 
   unit-least : (n : ℕ) (t : Tally) (u : Unit) → t .records ≡ n → t .units ≡ c .units → before-units ≤ n → unit-in (part n) ≡ u →
       unit-counted t u .least ≡ least-at part (c .units) (suc n)
   unfolding least-at
   unit-least n t u records units first is = rw (records, units, le-ltb n before-units first, ← is, unit-number (part n))
 
-  unit-next : (n : ℕ) {t : Tally} {l l′ : Lent} {r : Step} → Means head part l₀ n t l → UnitCall t (part n) l r l′ → Taken r →
+  unit-next : (n : ℕ) {t : Tally} {l l′ : Lent} {r : Step} → Means head part l₀ n t l → UnitPromise t (part n) l r l′ → Taken r →
       Means head part l₀ (suc n) (r .tally) l′
   unfolding least-at
-  unit-next n {t} {l} {l′} {r} w call h =
-      let a = step-taken (unit-counted t) t (unit-reply t (part n) (l .readings) (l .deviations) (l .measures) (l .positive) (l .negative) (l .numbers)
-      (l .places) (l .raise) (l .lower) (l .defaults)) (call .promise .reply) h in
-      let f = unit-passed t (part n) (l .readings) (l .deviations) (l .measures) (l .positive) (l .negative) (l .numbers) (l .places) (l .raise) (l .lower)
-      (l .defaults) (a .0) (a .1) in
+  unit-next n {t} {l} {l′} w call h =
+      let a = step-taken (unit-counted t) t (unit-reply t (part n) l) (call .reply) h in
+      let f = unit-passed t (part n) l (a .0) (a .1) in
       let is = unit-is (t .least) (part n) (a .0) (f .record-taken) in
       let whole = f .record-taken ∙ ap taken (sym is) in
-      let e = a .2 in
+      let leaves : l′ ≡ unit-kept t (unit-in (part n)) l = call .lent ∙ ap (λ (x : Reply Unit). left (unit-kept t) x l) (a .1 ∙ ap taken (sym is)) in
       let first : before-units ≤ n = omega (arith, w .records, f .first) in
       let last : n < before-units + c .units = omega (arith, w .records, w .units, f .last) in
       let row : units-taken t ≡ n - before-units = ap (λ (m : ℕ). m - before-units) (w .records) in
       let place : n ≡ before-units + (n - before-units) = omega arith in
       let lent : Leaves part l₀ regions (n - before-units) l = rw (regions-all n first, units-now (c .units) n (omega arith)) at (w .lent) in
-      let room = (rw (regions-all n first) at (w .room)) .series (omega arith) in
-      let answer = a .1 ∙ ap taken (sym is) in
-      next w (ap (λ (t : Tally). t .units) e) (ap (λ (t : Tally). t .requirements) e)
-      (ap (λ (t : Tally). t .records) e ∙ ap (λ (m : ℕ). m + 1) (w .records) ∙ add-one n)
-      (ap (λ (t : Tally). t .least) e ∙ unit-least n t (a .0) (w .records) (w .units) first is)
-      (ap settings-of e ∙ w .kept (omega arith)) (omega arith)
+      let long : Long l₀ (n - before-units) = rw (units-now (c .units) n (omega arith)) at (w .long (omega arith)) in
+      let inside : unit-in (part n) .region < regions = unit-fits (t .least) (part n) (unit-in (part n)) whole .region in
+      counts w (omega arith) (a .2) (unit-least n t (a .0) (w .records) (w .units) first is) (omega arith)
       (record {
         as-settings = λ f. absurd (omega arith);
         as-frequency = λ _ f. absurd (omega arith);
         as-unit = λ _ _. rw (w .least) at whole;
         as-requirement = λ f. absurd (omega arith);
       })
-      (rw (regions-all (suc n) (omega arith), units-then (c .units) n first last)
-      (record {
-        series = λ _. room;
-        numbers = omega (arith, row, f .numbers, ap length (lent .numbers) ∙ filled-length _ _ _);
-        places = omega (arith, row, f .places, ap length (lent .places) ∙ filled-length _ _ _);
-        raise = omega (arith, row, f .raise, ap length (lent .raise) ∙ filled-length _ _ _);
-        lower = omega (arith, row, f .lower, ap length (lent .lower) ∙ filled-length _ _ _);
-        defaults = omega (arith, row, f .defaults, ap length (lent .defaults) ∙ filled-length _ _ _);
-      }))
-      (rw (regions-all (suc n) (omega arith), units-then (c .units) n first last)
-      (unit-leaves part l₀ (subst (λ (m : ℕ). UnitCall t (part m) l r l′) place call) lent
-      (subst (λ (m : ℕ). unit-reply t (part m) (l .readings) (l .deviations) (l .measures) (l .positive) (l .negative) (l .numbers) (l .places) (l .raise)
-      (l .lower) (l .defaults) ≡ taken (unit-in (part m))) place answer)
-      row (subst (λ (m : ℕ). unit-in (part m) .region < regions) place (unit-fits (t .least) (part n) (unit-in (part n)) whole .region)) (room .0) (room .1)
-      (room .2)))
+      (rw (units-then (c .units) n first last) (was-long lent (rw (row, add-one (n - before-units)) at (f .long))))
+      (rw (regions-all (suc n) (omega arith), units-then (c .units) n first last, leaves ∙ ap (λ (m : ℕ). unit-kept t (unit-in (part m)) l) place)
+      (unit-leaves t lent row (subst (λ (m : ℕ). unit-in (part m) .region < regions) place inside) long))
 
   requirement-least : (n : ℕ) (q : Requirement) → before-units + c .units ≤ n → requirement-in (part n) ≡ q → q .number + 1 ≡ least-at part (c .units) (suc n)
   unfolding least-at
@@ -356,32 +270,28 @@ module _ (head : List ℕ) (part : ℕ → List ℕ) (l₀ : Lent) where
       let f = requirement-passed t (part n) (a .0) (a .1) in
       let is = requirement-is (t .least) (eqb (t .records + 1) (book-end t)) (part n) (a .0) (f .2) in
       let whole = f .2 ∙ ap taken (sym is) in
-      let e = a .2 in
       let first : before-units + c .units ≤ n = omega (arith, w .records, w .units, f .0) in
       let last : n < before-units + c .units + c .requirements = omega (arith, w .records, w .units, w .requirements, f .1) in
-      next w (ap (λ (t : Tally). t .units) e) (ap (λ (t : Tally). t .requirements) e)
-      (ap (λ (t : Tally). t .records) e ∙ ap (λ (m : ℕ). m + 1) (w .records) ∙ add-one n)
-      (ap (λ (t : Tally). t .least) e ∙ requirement-least n (a .0) first is)
-      (ap settings-of e ∙ w .kept (omega arith)) last
+      counts w (omega arith) (a .2) (requirement-least n (a .0) first is) last
       (record {
         as-settings = λ f. absurd (omega arith);
         as-frequency = λ _ f. absurd (omega arith);
         as-unit = λ _ f. absurd (omega arith);
         as-requirement = λ _. rw (w .records, w .units, w .requirements, w .least) at whole;
       })
-      (rw (regions-all (suc n) (omega arith), units-all (c .units) (suc n) (omega arith))
-      (rw (regions-all n (omega arith), units-all (c .units) n first) at (w .room)))
+      (rw (units-all (c .units) (suc n) (omega arith)) (rw (units-all (c .units) n first) at (w .long (omega arith))))
       (rw (regions-all (suc n) (omega arith), units-all (c .units) (suc n) (omega arith))
       (rw (regions-all n (omega arith), units-all (c .units) n first) at (w .lent)))
 
-  -- ---- THE CHAIN
+-- ---- THE CHAIN
+module _ {head : List ℕ} {part : ℕ → List ℕ} {l₀ : Lent} where
   pub chain : {n : ℕ} {t : Tally} {l : Lent} → Chain head part l₀ n t l → Means head part l₀ n t l
-  chain (begun w) = start w
-  chain (took-settings {n} d w h) = settings-next n (chain d) w h
-  chain (took-frequency {n} d w h) = frequency-next n (chain d) w h
-  chain (took-unit {n} d w h) = unit-next n (chain d) w h
-  chain (took-requirement {n} d w h) = requirement-next n (chain d) w h
+  chain (begun w) = start head part l₀ w
+  chain (took-settings {n} d w h) = settings-next head part l₀ n (chain d) w h
+  chain (took-frequency {n} d w h) = frequency-next head part l₀ n (chain d) w h
+  chain (took-unit {n} d w h) = unit-next head part l₀ n (chain d) w h
+  chain (took-requirement {n} d w h) = requirement-next head part l₀ n (chain d) w h
   chain (refused-settings {t} {p} d w h) = rw (step-refused (settled t) t (settings-reply t p) (w .reply) h .1) (chain d)
-  chain (refused-frequency d w h) = let e = frequency-kept w h in rw (e .0, e .1) (chain d)
-  chain (refused-unit d w h) = let e = unit-kept w h in rw (e .0, e .1) (chain d)
+  chain (refused-frequency d w h) = let e = frequency-stays w h in rw (e .0, e .1) (chain d)
+  chain (refused-unit d w h) = let e = unit-stays w h in rw (e .0, e .1) (chain d)
   chain (refused-requirement {t} {p} d w h) = rw (step-refused (λ q. counted (q .number + 1) t) t (requirement-reply t p) (w .reply) h .1) (chain d)

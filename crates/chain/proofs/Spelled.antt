@@ -23,9 +23,10 @@ use Rattle.rules.specs.WholeBook.{book}
 use Rattle.laws.proofs.LimitsLaws.{passed}
 use Rattle.interval.specs.declared.Tally.{Tally}
 use Rattle.interval.specs.Tally.{before-units}
+use Rattle.interval.specs.Lent.{Lent}
 use Rattle.chain.specs.Taken.{counts-in}
 use Rattle.chain.proofs.Taken.{contents-is}
-use Rattle.chain.specs.Chain.{Lent, Chain, Means, RecordTaken}
+use Rattle.chain.specs.Chain.{Chain, Means, RecordTaken}
 use Rattle.chain.proofs.ChainTheorem.{chain}
 use Rattle.chain.specs.BookRecords.{record-size, record-start, part-of}
 use Rattle.chain.proofs.BookRecords.{settings-sized, frequency-sized, unit-sized, requirement-sized}
@@ -35,7 +36,7 @@ use Rattle.chain.specs.Way.{records-of, reads}
 use Rattle.chain.specs.BookWay.{records-in, Hands}
 use Rattle.chain.proofs.BookWay.{hands-counts, hands-chain}
 use Rattle.chain.proofs.BookRefused.{book-in, book-ended}
-use Rattle.chain.specs.Keeps.{kept-of, Keeps, BookMeans}
+use Rattle.chain.specs.Keeps.{Keeps, BookMeans}
 use Rattle.chain.proofs.BookChain.{chain-keeps, book-records, requirements-many}
 use Rattle.chain.specs.Spelled.{spelled, spelled-from}
 
@@ -48,12 +49,10 @@ module _
   pub book-means : (b : Book) → book bs ≡ taken b → BookMeans b t l
   book-means b e =
       let d′ = hands-chain hands d in
-      let m = chain bs (part-of bs) l₀ d′ in
+      let m = chain d′ in
       let is = sym (book-records bs b e) in
-      let keeps = subst (λ (b : Book). Keeps (kept-of t l) b) is (chain-keeps d′ (omega (arith, same-records)) (b .requirements)) in
+      let keeps = subst (λ (b : Book). Keeps t l b) is (chain-keeps d′ (omega (arith, same-records)) (b .requirements)) in
       record {
-        settings = m .kept (omega arith) ∙ ap (λ (b : Book). b .settings) is;
-        units = keeps .units;
         requirements = m .requirements ∙ sym (requirements-many bs b e);
         ended = m .records ∙ same-records ∙ ap₂ (λ (u q : ℕ). before-units + u + q) (sym (m .units)) (sym (m .requirements));
         keeps = keeps;
@@ -142,7 +141,7 @@ module _ {head : List ℕ} {part : ℕ → List ℕ} {l₀ : Lent} {t : Tally} {
       spelled-handed head part (contents-long head (counts-in head) (m .table)) (λ i h. record-long part (counts-in head) i (m .taken-each i h)) ends
     where
       m : Means head part l₀ (records-in head) t l
-      m = chain head part l₀ d
+      m = chain d
 
       ends : (i : ℕ) → suc i ≡ records-in head → length (part i) ≡ record-size (counts-in head .units) i
       ends i e =

@@ -5,7 +5,6 @@ use mathlib.Core.List.{List}
 use Prim.Native.Nat.{ℕ, _+_, _*_, _≤_, _<_}
 use native.Mathlib.Omega.{arith}
 use lib.Dec.{eqb, leb, ltb}
-use lib.IntN.{ℤ}
 use lib.ListN.{length}
 use borrow.Author.Tests.{leb-true, ltb-true, eqb-true}
 use Rattle.integers.specs.Sums.{both}
@@ -21,11 +20,10 @@ use Rattle.rules.specs.declared.Refusal.the-variants.{
   UnitField,
   UnitNotRising,
   RequirementField,
-  OutOfTurn,
+  WrongState,
   TooShort,
 }
 use Rattle.rules.specs.Quantities.{
-  points,
   regions,
   most-units,
   most-requirements,
@@ -49,8 +47,9 @@ use Rattle.interval.specs.declared.Tally.{Tally}
 use Rattle.interval.specs.declared.Taking as k
 use Rattle.interval.specs.declared.Step.{Step}
 use Rattle.interval.specs.Tally.{in-range, settings-turn, frequency-turn, unit-turn, requirement-turn, units-taken, before-units, units-end, book-end}
-use Rattle.interval.specs.Lent.{series-length, figures-length, named-region, series-in-range}
-use Rattle.interval.specs.Calls.{stepped, settings-reply, frequency-reply, unit-reply, requirement-reply, columns-room, series-room}
+use Rattle.interval.specs.Lent.{Lent, regions-long, of-interval, named-region, series-in-range}
+use Rattle.interval.specs.Calls.{stepped, settings-reply, frequency-reply, unit-long, unit-reply, requirement-reply}
+use Rattle.chain.proofs.Long.{passes-regions, passes-long}
 use Rattle.chain.specs.Taken.{CountsFit, FrequencyTaken, UnitTaken, counts-in}
 
 entry-passed : {A : Type 0} (place kind least most start size : ℕ) (bs : List ℕ) (rest : Reply A) (a : A) →
@@ -140,67 +139,30 @@ module _ {A : Type 0} (next : A → Tally) (t : Tally) where
 pub settings-passed : (t : Tally) (p : List ℕ) (s : Settings) → settings-reply t p ≡ taken s → (t .records ≡ 0) × (settings p ≡ taken s)
 unfolding settings-reply
 settings-passed t p s e =
-    let turn = passed (in-range t && settings-turn t) OutOfTurn _ s e in
+    let turn = passed (in-range t && settings-turn t) WrongState _ s e in
     (eqb-true _ _ (both (in-range t) (settings-turn t) (turn .0) .1), turn .1)
 
-pub frequency-passed : (t : Tally) (p fs : List ℕ) (ms ps ns gs : List ℤ) (x : Region) → frequency-reply t p fs ms ps ns gs ≡ taken x →
-    FrequencyTaken t p fs ms ps ns gs x
+pub frequency-passed : (t : Tally) (p : List ℕ) (l : Lent) (x : Region) → frequency-reply t p l ≡ taken x → FrequencyTaken t p l x
 unfolding frequency-reply
-frequency-passed t p fs ms ps ns gs x e =
-    let ready = passed (in-range t && frequency-turn t) OutOfTurn _ x e in
-    let turn = both (leb 1 (t .records)) (ltb (t .records) before-units) (both (in-range t) (frequency-turn t) (ready .0) .1) in
-    let frequencies = passed (leb points (length fs)) TooShort _ x (ready .1) in
-    let measures = passed (leb series-length (length ms)) TooShort _ x (frequencies .1) in
-    let positive = passed (leb series-length (length ps)) TooShort _ x (measures .1) in
-    let negative = passed (leb series-length (length ns)) TooShort _ x (positive .1) in
-    let figures = passed (leb figures-length (length gs)) TooShort _ x (negative .1) in
-    record {
-      first = leb-true _ _ (turn .0);
-      last = ltb-true _ _ (turn .1);
-      frequencies = leb-true _ _ (frequencies .0);
-      measures = leb-true _ _ (measures .0);
-      positive = leb-true _ _ (positive .0);
-      negative = leb-true _ _ (negative .0);
-      figures = leb-true _ _ (figures .0);
-      record-taken = figures .1;
-    }
+frequency-passed t p l x e =
+    let in-turn = passed (in-range t && frequency-turn t) WrongState _ x e in
+    let turn = both (leb 1 (t .records)) (ltb (t .records) before-units) (both (in-range t) (frequency-turn t) (in-turn .0) .1) in
+    let long = passed (regions-long l) TooShort _ x (in-turn .1) in
+    record { first = leb-true _ _ (turn .0); last = ltb-true _ _ (turn .1); long = passes-regions (long .0); record-taken = long .1 }
 
-pub unit-passed : (t : Tally) (p : List ℕ) (rs ds ms ps ns : List ℤ) (us qs : List ℕ) (xs ys fs : List ℤ) (u : Unit) →
-    unit-reply t p rs ds ms ps ns us qs xs ys fs ≡ taken u → UnitTaken t p rs ds ms ps ns us qs xs ys fs u
+pub unit-passed : (t : Tally) (p : List ℕ) (l : Lent) (u : Unit) → unit-reply t p l ≡ taken u → UnitTaken t p l u
 unfolding unit-reply
-unit-passed t p rs ds ms ps ns us qs xs ys fs u e =
-    let n = units-taken t in
-    let ready = passed (in-range t && unit-turn t) OutOfTurn _ u e in
-    let turn = both (leb before-units (t .records)) (ltb (t .records) (units-end t)) (both (in-range t) (unit-turn t) (ready .0) .1) in
-    let series = passed (series-room rs ds ms ps ns) TooShort _ u (ready .1) in
-    let columns = passed (columns-room n us qs xs ys fs) TooShort _ u (series .1) in
-    let lent = passed (series-in-range (named-region p) n ms ps ns) OutOfTurn _ u (columns .1) in
-    let readings = both (leb points (length rs)) _ (series .0) in
-    let deviations = both (leb points (length ds)) _ (readings .1) in
-    let measures = both (leb series-length (length ms)) _ (deviations .1) in
-    let positive = both (leb series-length (length ps)) (leb series-length (length ns)) (measures .1) in
-    let numbers = both (ltb n (length us)) _ (columns .0) in
-    let places = both (ltb n (length qs)) _ (numbers .1) in
-    let raise = both (ltb n (length xs)) _ (places .1) in
-    let lower = both (ltb n (length ys)) (leb (6 * n + 6) (length fs)) (raise .1) in
-    record {
-      first = leb-true _ _ (turn .0);
-      last = ltb-true _ _ (turn .1);
-      measures = leb-true _ _ (measures .0);
-      positive = leb-true _ _ (positive .0);
-      negative = leb-true _ _ (positive .1);
-      numbers = ltb-true _ _ (numbers .0);
-      places = ltb-true _ _ (places .0);
-      raise = ltb-true _ _ (raise .0);
-      lower = ltb-true _ _ (lower .0);
-      defaults = leb-true _ _ (lower .1);
-      record-taken = lent .1;
-    }
+unit-passed t p l u e =
+    let in-turn = passed (in-range t && unit-turn t) WrongState _ u e in
+    let turn = both (leb before-units (t .records)) (ltb (t .records) (units-end t)) (both (in-range t) (unit-turn t) (in-turn .0) .1) in
+    let long = passed (unit-long (units-taken t + 1) l) TooShort _ u (in-turn .1) in
+    let lent = passed (of-interval (t .interval) (l .figures) && series-in-range (named-region p) (units-taken t) l) WrongState _ u (long .1) in
+    record { first = leb-true _ _ (turn .0); last = ltb-true _ _ (turn .1); long = passes-long (long .0); record-taken = lent .1 }
 
 pub requirement-passed : (t : Tally) (p : List ℕ) (q : Requirement) → requirement-reply t p ≡ taken q →
     (units-end t ≤ t .records) × (t .records < book-end t) × (requirement-record (t .least) (eqb (t .records + 1) (book-end t)) p ≡ taken q)
 unfolding requirement-reply
 requirement-passed t p q e =
-    let ready = passed (in-range t && requirement-turn t) OutOfTurn _ q e in
-    let turn = both (leb (units-end t) (t .records)) (ltb (t .records) (book-end t)) (both (in-range t) (requirement-turn t) (ready .0) .1) in
-    (leb-true _ _ (turn .0), ltb-true _ _ (turn .1), ready .1)
+    let in-turn = passed (in-range t && requirement-turn t) WrongState _ q e in
+    let turn = both (leb (units-end t) (t .records)) (ltb (t .records) (book-end t)) (both (in-range t) (requirement-turn t) (in-turn .0) .1) in
+    (leb-true _ _ (turn .0), ltb-true _ _ (turn .1), in-turn .1)

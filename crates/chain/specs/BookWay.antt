@@ -3,15 +3,15 @@ use mathlib.Core.Path.{_≡_}
 use mathlib.Core.List.{List}
 use Prim.Native.Nat.{ℕ, _≤_, _<_}
 use Rattle.rules.specs.declared.Refusal.{Refusal}
-use Rattle.rules.specs.Contents.{contents, contents-size}
+use Rattle.rules.specs.Contents.{contents-size}
 use Rattle.interval.specs.declared.Tally.{Tally}
 use Rattle.interval.specs.declared.Opened as o
-use Rattle.interval.specs.declared.Taking as k
 use Rattle.interval.specs.declared.Step.{Step}
+use Rattle.interval.specs.Lent.{Lent}
 use Rattle.interval.specs.Calls.{refused-step}
 use Rattle.interval.specs.Promises.{ContentsPromise}
 use Rattle.chain.specs.Taken.{counts-in}
-use Rattle.chain.specs.Chain.{Lent, Taken, Refused, Chain}
+use Rattle.chain.specs.Chain.{Taken, Chain}
 use Rattle.chain.specs.BookRecords.{part-of}
 use Rattle.chain.specs.Alike.{Alike}
 use Rattle.chain.specs.Way.{records-of, reads, Call, Way}

@@ -1,9 +1,7 @@
 -- A chain of calls, what it leaves from the table of contents to the end of a book, and what the theorems in proofs/ speak of
-pub mod ChainLaws
+pub mod Long
 pub mod Taken
 pub mod Chain
-pub mod ChainValues
-pub mod Honest
 pub mod BookRecords
 pub mod Alike
 pub mod Way
@@ -11,4 +9,5 @@ pub mod BookWay
 pub mod Keeps
 pub mod BookChain
 pub mod Spelled
-pub mod Ready
+pub mod Answerable
+pub mod Mixed

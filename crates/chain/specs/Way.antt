@@ -9,9 +9,10 @@ use Rattle.interval.specs.declared.Tally.{Tally}
 use Rattle.interval.specs.declared.Opened as o
 use Rattle.interval.specs.declared.Step.{Step}
 use Rattle.interval.specs.Tally.{before-units}
-use Rattle.interval.specs.Promises.{ContentsPromise, SettingsPromise, RequirementPromise}
+use Rattle.interval.specs.Lent.{Lent}
+use Rattle.interval.specs.Promises.{ContentsPromise, SettingsPromise, FrequencyPromise, UnitPromise, RequirementPromise}
 use Rattle.chain.specs.Taken.{counts-in}
-use Rattle.chain.specs.Chain.{Lent, FrequencyCall, UnitCall, Taken}
+use Rattle.chain.specs.Chain.{Taken}
 use Rattle.chain.specs.BookRecords.{record-size}
 
 -- the records of a book, by the counts of its table of contents
@@ -25,8 +26,8 @@ reads c n = record-size (c .units) n + cond (eqb (n + 1) (records-of c)) 1 0
 -- ---- the call for record n, handed the bytes p, by its promise: r is its answer, l′ the lent lists as it leaves them
 pub data Call (c : Counts) (p : List ℕ) (n : ℕ) (t : Tally) (l : Lent) (r : Step) (l′ : Lent) : Type 0 where
   for-settings : n ≡ 0 → SettingsPromise t p r → l′ ≡ l → Call c p n t l r l′
-  for-frequency : 1 ≤ n → n < before-units → FrequencyCall t p l r l′ → Call c p n t l r l′
-  for-unit : before-units ≤ n → n < before-units + c .units → UnitCall t p l r l′ → Call c p n t l r l′
+  for-frequency : 1 ≤ n → n < before-units → FrequencyPromise t p l r l′ → Call c p n t l r l′
+  for-unit : before-units ≤ n → n < before-units + c .units → UnitPromise t p l r l′ → Call c p n t l r l′
   for-requirement : before-units + c .units ≤ n → n < records-of c → RequirementPromise t p r → l′ ≡ l → Call c p n t l r l′
 
 -- ---- THE WAY: the calls have taken the first n records, and refused none

@@ -2,35 +2,36 @@
 -- hands the tally back as it came and writes nothing.' No function that a firmware calls has a condition on what it is handed, so each answers, whatever the
 -- tally, the bytes and the lists are; here stands that its promise allows one answer alone, and what this is. First what is asked for, then the theorems.
 use mathlib.Core.Path.{_≡_, refl}
-use mathlib.Core.List.{List, []}
+use mathlib.Core.List.{List}
 use mathlib.Core.Logic.{_⊎_, inl, inr}
 use Prim.Native.Nat.{ℕ, _+_, _<_}
 use native.Mathlib.Omega.{arith}
 use lib.ListN.{getD}
 use Rattle.rules.specs.declared.Refusal.{Refusal}
 use Rattle.rules.specs.Refusals.{Reply, taken, refused, number}
-use Rattle.rules.specs.Book.{Book}
+use Rattle.rules.specs.Book.{Requirement, Book}
 use Rattle.rules.specs.Contents.{Counts, contents}
 use Rattle.rules.specs.WholeBook.{book}
-use Rattle.rules.specs.Answer.{Answer as Full}
 use Rattle.interval.specs.declared.Tally.{Tally}
 use Rattle.interval.specs.declared.Taking as k
 use Rattle.interval.specs.declared.Taking.{Taking}
 use Rattle.interval.specs.declared.Step.{Step}
-use Rattle.interval.specs.Calls.{stepped, settled, counted, settings-reply, requirement-reply}
+use Rattle.interval.specs.Lent.{Lent}
+use Rattle.interval.specs.Calls.{stepped, left, settled, counted, settings-reply, requirement-reply}
 use Rattle.interval.specs.Promises.{SettingsPromise, RequirementPromise}
 use Rattle.chain.specs.Taken.{counts-in}
-use Rattle.chain.specs.Chain.{Lent, Taken}
-use Rattle.chain.specs.Honest.{Enough}
+use Rattle.chain.specs.Long.{Long}
+use Rattle.chain.specs.Chain.{Taken}
 use Rattle.chain.specs.Way.{Call}
 use Rattle.chain.proofs.Way.{call-only, refused-leaves, any-frequency, any-unit}
 use Rattle.chain.specs.BookWay.{Hands}
 use Rattle.chain.proofs.BookRefused.{book-refused, book-way}
+use Rattle.chain.proofs.Mixed.{mixed-told}
 use Rattle.answer.specs.declared.Answered.{Answered}
 use Rattle.answer.specs.declared.Answered.the-variants.{Refused}
-use Rattle.answer.specs.Promises.{shown, replied, lined, reply-of}
+use Rattle.kept.specs.Kept.{kept-answer}
+use Rattle.answer.specs.Promises.{Columns, AnswerPromise, answer-reply, shown, replied, with-lines}
 use Rattle.answer.proofs.Promises.{answer-only}
-use Rattle.answer.specs.BookAnswered.{Columns, AnswerCall}
 use Rattle.dullavane.specs.Words.{held, taking-number, told, words-after}
 use Rattle.dullavane.specs.Called.{Called}
 use Rattle.demands.specs.WordsChain.{
@@ -41,6 +42,7 @@ use Rattle.demands.specs.WordsChain.{
   of-requirement,
   Due,
   WordsCall,
+  WordsChain,
   settings-called,
   frequency-called,
   unit-called,
@@ -49,6 +51,9 @@ use Rattle.demands.specs.WordsChain.{
 use Rattle.laws.proofs.RefusalLaws.{refusal-numbered}
 use Rattle.demands.specs.WordsCalls.{StepCall, settings-step, frequency-step, unit-step, requirement-step}
 use Rattle.demands.proofs.WordsCalls.{due-call, refused-call}
+use Rattle.demands.specs.OtherBook.{ToldApart}
+use Rattle.demands.proofs.OtherBook as other
+use Rattle.demands.proofs.WordsTheorem.{words-chain}
 use Rattle.demands.specs.Demand1.{AnswerOutcome, BookOutcome, OneAnswer, Outcome, WordsOutcome, gives, refuses, takes}
 
 -- ---- the theorems
@@ -91,36 +96,17 @@ every-call of-requirement t p l =
     let promise : RequirementPromise t p (stepped (λ q. counted (q .number + 1) t) (requirement-reply t p) t) = record { reply = refl } in
     one-of of-requirement (requirement-step promise refl)
 
-same-columns :
-    (c d : Columns) → c .performances ≡ d .performances → c .factors ≡ d .factors → c .payments ≡ d .payments → c .used ≡ d .used → c .unused ≡ d .unused →
-    c ≡ d
-same-columns c d p f y u n = let e : columns-of c ≡ columns-of d = cc in e
-  where
-    columns-of : Columns → Columns
-    columns-of c = record { performances = c .performances; factors = c .factors; payments = c .payments; used = c .used; unused = c .unused }
-
 module _ {t : Tally} {p : List ℕ} {l : Lent} {old : Columns} where
-  pub every-answer : {r : Answered} {new : Columns} → AnswerCall t p l old r new → AnswerOutcome old r new
-  every-answer {r} {new} c =
-      let w = c .promise .whatever [] in
-      go reply (w .reply) (w .performances) (w .factors) (w .payments) (w .used) (w .unused)
+  pub every-answer : {r : Answered} {new : Columns} → AnswerPromise t p l old r new → AnswerOutcome old r new
+  every-answer {r} {new} c = go (answer-reply t p l old) (c .reply) (c .written)
     where
-      reply : Reply Full
-      reply =
-          reply-of t p (l .measures) (l .positive) (l .negative) (l .figures) (l .places) (l .raise) (l .lower) (l .defaults)
-          (old .performances) (old .factors) (old .payments) (old .used) (old .unused) []
-
       go :
-          (x : Reply Full) → r ≡ replied x → new .performances ≡ lined (λ l. l .performance) x (old .performances) →
-          new .factors ≡ lined (λ l. l .factor) x (old .factors) → new .payments ≡ lined (λ l. l .payment) x (old .payments) →
-          new .used ≡ lined (λ l. l .used) x (old .used) → new .unused ≡ lined (λ l. l .unused) x (old .unused) → AnswerOutcome old r new
-      go (taken a) e p f y u n = gives (shown a) e
-      go (refused why) e p f y u n = refuses why e (same-columns new old p f y u n)
+          (x : Reply Requirement) → r ≡ replied t l x → new ≡ left (λ q. with-lines (kept-answer t l q)) x old → AnswerOutcome old r new
+      go (taken q) e w = gives (shown q (kept-answer t l q)) e
+      go (refused why) e w = refuses why e w
 
-  pub one-answer : {r r′ : Answered} {new new′ : Columns} → AnswerCall t p l old r new → AnswerCall t p l old r′ new′ → (r ≡ r′) × (new ≡ new′)
-  one-answer {new = new} {new′ = new′} c d =
-      let e = answer-only _ _ _ _ _ _ _ _ _ _ _ _ _ _ _ (c .promise) (d .promise) in
-      (e .0, same-columns new new′ (e .1) (e .2) (e .3) (e .4) (e .5))
+  pub one-answer : {r r′ : Answered} {new new′ : Columns} → AnswerPromise t p l old r new → AnswerPromise t p l old r′ new′ → (r ≡ r′) × (new ≡ new′)
+  one-answer c d = answer-only t p l old c d
 
 -- a step's number is 0 or a refusal's, and so is that of words which hold no tally
 numbered :
@@ -140,8 +126,8 @@ module _ {p ws : List ℕ} {l : Lent} {r : ℕ} {ws′ : List ℕ} {l′ : Lent}
     where
       number-of : {turn : Turn} → WordsCall p ws l r ws′ l′ turn → (r ≡ 0) ⊎ ((why : Refusal) × (r ≡ number why))
       number-of (settings-called c _) = numbered _ _ ws ws′ (held ws) (c .answer)
-      number-of (frequency-called c _) = numbered _ _ ws ws′ (held ws) (c .answer)
-      number-of (unit-called c _) = numbered _ _ ws ws′ (held ws) (c .answer)
+      number-of (frequency-called c) = numbered _ _ ws ws′ (held ws) (c .answer)
+      number-of (unit-called c) = numbered _ _ ws ws′ (held ws) (c .answer)
       number-of (requirement-called c _) = numbered _ _ ws ws′ (held ws) (c .answer)
 
       go : (r ≡ 0) ⊎ ((why : Refusal) × (r ≡ number why)) → WordsOutcome ws l r ws′ l′
@@ -150,9 +136,16 @@ module _ {p ws : List ℕ} {l : Lent} {r : ℕ} {ws′ : List ℕ} {l′ : Lent}
 
 pub every-book :
     {bs head : List ℕ} {part : ℕ → List ℕ} (l₀ : Lent) → Hands bs head part →
-    (contents bs ≡ taken (counts-in bs) → Enough l₀ (counts-in bs .units)) → ((i : ℕ) → getD bs i 0 < 256) → BookOutcome bs head part l₀
-every-book {bs} {head} {part} l₀ hands enough bytes = go (book bs) refl
+    (contents bs ≡ taken (counts-in bs) → Long l₀ (counts-in bs .units)) → ((i : ℕ) → getD bs i 0 < 256) → BookOutcome bs head part l₀
+every-book {bs} {head} {part} l₀ hands lists-long bytes = go (book bs) refl
   where
     go : (x : Reply Book) → book bs ≡ x → BookOutcome bs head part l₀
-    go (taken b) e = takes b e (book-way l₀ hands enough bytes b e)
-    go (refused why) e = refuses why e (book-refused l₀ hands enough bytes e)
+    go (taken b) e = takes b e (book-way l₀ hands lists-long bytes b e)
+    go (refused why) e = refuses why e (book-refused l₀ hands lists-long bytes e)
+
+-- 'a call at the wrong time': words of a stored tally over lists that a chain of C calls has begun to fill with a book of another interval number, from its
+-- first frequency record on. Nothing is taken or answered by them
+pub other-book :
+    {head : List ℕ} {part : ℕ → List ℕ} {l₀ : Lent} {ws₀ : List ℕ} {n : ℕ} {ws : List ℕ} {l : Lent} (d : WordsChain head part l₀ ws₀ n ws l) → 1 < n →
+    {stored : List ℕ} {t : Tally} → held stored ≡ taken t → (t .interval ≡ words-chain d .tally .interval → ⊥) → ToldApart stored t l
+other-book d begun {stored} {t} h differs = other.told-apart stored t _ h (mixed-told (words-chain d .chain) begun t differs)

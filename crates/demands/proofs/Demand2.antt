@@ -15,34 +15,34 @@ use Rattle.rules.specs.WholeBook.{book}
 use Rattle.laws.proofs.LimitsLaws.{book-fits}
 use Rattle.interval.specs.declared.Tally.{Tally}
 use Rattle.interval.specs.Tally.{before-units}
+use Rattle.interval.specs.Lent.{Lent}
 use Rattle.chain.specs.Taken.{counts-in}
-use Rattle.chain.specs.Chain.{Lent, Chain}
-use Rattle.chain.specs.Honest.{Enough}
+use Rattle.chain.specs.Long.{Long}
+use Rattle.chain.specs.Chain.{Chain}
 use Rattle.chain.specs.BookWay.{records-in, Hands}
 use Rattle.chain.specs.BookChain.{book-of}
 use Rattle.answer.proofs.BookAnswered as calls
 use Rattle.answer.specs.BookAnswered.{RulesAnswers, SpelledAnswered, BookAnswered}
 use Rattle.dullavane.specs.Words.{tally-words}
 use Rattle.demands.specs.WordsChain.{WordsChain}
-use Rattle.demands.specs.SharedChain.{SharedChain}
 use Rattle.demands.proofs.WordsTheorem.{words-chain}
 use Rattle.demands.specs.WordsAnswer.{WordsAnswers}
 use Rattle.demands.proofs.WordsBook as words
 use Rattle.demands.specs.WordsBook.{WordsSpelled}
-use Rattle.demands.proofs.WordsBook.{WordsBook, shared-tally}
+use Rattle.demands.proofs.WordsBook.{WordsBook}
 
 -- ---- OF A BOOK that the format takes, handed on with lists that are long enough for its units. `BookAnswered`: every record is taken, whatever is refused in
 -- between; at the end measures, sums of deviations, reliability, performances and defaults in the lent lists are the rules' (`means`); from the last unit on
 -- every part that a requirement's record starts is answered as the rules say (`answers`: figures, the five columns, names and standings)
 module _
     {bs head : List ℕ} {part : ℕ → List ℕ} (hands : Hands bs head part) (b : Book) (e : book bs ≡ taken b) (bytes : (i : ℕ) → getD bs i 0 < 256)
-    (l₀ : Lent) (enough : Enough l₀ (counts-in bs .units)) where
+    (l₀ : Lent) (lists-long : Long l₀ (counts-in bs .units)) where
   pub book-answered : BookAnswered b head part l₀
-  book-answered = calls.book-answered hands b e bytes l₀ enough
+  book-answered = calls.book-answered hands b e bytes l₀ lists-long
 
   -- over C words, eight of them at least, in which the firmware holds the tally
   pub book-answered-over-words : (ws₀ : List ℕ) → tally-words ≤ length ws₀ → WordsBook b head part l₀ ws₀
-  book-answered-over-words ws₀ long = words.words-book hands (λ _. enough) long bytes b e
+  book-answered-over-words ws₀ long = words.words-book hands (λ _. lists-long) long bytes b e
 
 -- ---- OF WHATEVER WAS HANDED IN: a chain of calls that has ended took a book, the one that the parts spell which were taken; it was never there as a whole if
 -- a record was refused, put right and tried again. What is kept and what is answered is what the rules say of this book
@@ -65,11 +65,6 @@ module _
       {ws₀ ws : List ℕ} {l : Lent} (d : WordsChain head part l₀ ws₀ n ws l) →
       WordsAnswers (book-of (counts-in head .units) part qs) (words-chain d .tally) ws l
   units-answered-over-words d = words.taken-answered d all bytes qs
-
-  -- where lists that are of no use between two calls share memory, as in examples/box.c
-  pub units-answered-with-shared-lists :
-      {ws₀ ws : List ℕ} {l : Lent} (d : SharedChain head part l₀ ws₀ n ws l) → WordsAnswers (book-of (counts-in head .units) part qs) (shared-tally d) ws l
-  units-answered-with-shared-lists d = words.shared-taken-answered d all bytes qs
 
 -- ---- 'at every roster size from 0 to 512': no book that the format takes has more, and nothing above asks how many there are
 pub rosters : (bs : List ℕ) (b : Book) → book bs ≡ taken b → length (b .roster) ≤ most-units

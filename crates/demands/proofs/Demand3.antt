@@ -6,27 +6,31 @@
 -- and all other performances stay.' `BooksClose` (crates/closing, Demand3) says all of this of a book, sentence by sentence. Here it stands for the book that a
 -- chain of calls took, and for the columns that an answer leaves.
 use mathlib.Core.Path.{_≡_, refl, sym, _∙_, ap, ap₂}
-use mathlib.Core.Bool.{Bool, _||_}
+use mathlib.Core.Bool.{Bool, true, _||_}
 use mathlib.Core.List.{List, [], _∷_, _++_, map}
 use Prim.Native.Nat.{ℕ, suc, _+_, _≤_, _<_}
 use native.Mathlib.Omega.{arith}
+use lib.Dec.{ltb}
 use lib.IntN.{ℤ}
 use lib.ListN.{length, getD, take, length-append, length-map}
+use borrow.Author.Tests.{ltb-true}
 use Rattle.integers.specs.Pairs.{gain, loss}
+use Rattle.integers.specs.Sums.{both}
 use Rattle.integers.specs.Totals.{totalℕ, numbered}
 use Rattle.integers.proofs.Totals.{totalℕ-map}
 use Rattle.rules.specs.Book.{Requirement, Book}
 use Rattle.rules.specs.Members.{Member, members}
 use Rattle.rules.specs.Answer.{Line, lines-of, answered, answer}
 use Rattle.interval.specs.declared.Tally.{Tally}
-use Rattle.chain.specs.Chain.{Lent, Chain}
+use Rattle.interval.specs.Lent.{Lent}
+use Rattle.chain.specs.Chain.{Chain}
 use Rattle.chain.specs.BookWay.{records-in}
 use Rattle.answer.specs.Lists.{headed, gathered}
 use Rattle.answer.proofs.Lists.{headed-take, gathered-length}
 use Rattle.answer.specs.Roster.{Named}
 use Rattle.answer.specs.declared.Answered.{Answered}
-use Rattle.answer.specs.Promises.{shown}
-use Rattle.answer.specs.BookAnswered.{Columns, ColumnsLong, AnswerCall, Answers, RulesAnswer, line-named}
+use Rattle.answer.specs.Promises.{Columns, AnswerPromise, columns-long, shown}
+use Rattle.answer.specs.BookAnswered.{Answers, RulesAnswer, line-named}
 use Rattle.answer.proofs.BookAnswered.{chain-answered}
 use Rattle.closing.specs.Parties.{some, some-helpful, some-unhelpful}
 use Rattle.closing.specs.Demand3.{BooksClose}
@@ -82,16 +86,27 @@ module _ {b : Book} {t : Tally} {l : Lent} {part : List ℕ} {q : Requirement} (
       ap (λ (n : ℕ). take n (headed (map field lines) old)) (sym (length-map lines field))
       ∙ headed-take (map field lines) old (omega (arith, length-map lines field, lines-few))
 
-  module _ (closes : BooksClose b) {old new : Columns} {r : Answered} (long : ColumnsLong (t .units) old) (c : AnswerCall t part l old r new) where
-    given : Answers (answer b q) old r new
+  module _ (closes : BooksClose b) {old new : Columns} {r : Answered} (long : columns-long (t .units) old ≡ true)
+      (c : AnswerPromise t part l old r new) where
+    given : Answers q (answer b q) old r new
     given = a .answered long c
+
+    performances-long : t .units < length (old .performances)
+    performances-long = ltb-true _ _ (both (ltb (t .units) (length (old .performances))) _ long .0)
+
+    payments-long : t .units < length (old .payments)
+    payments-long =
+        let past = both (ltb (t .units) (length (old .factors))) _ (both (ltb (t .units) (length (old .performances))) _ long .1) .1 in
+        ltb-true _ _ (both (ltb (t .units) (length (old .payments))) _ past .0)
 
     performances-front : take (length lines) (new .performances) ≡ map (λ m. m .payment) (members b q)
     performances-front =
-        ap (take (length lines)) (given .performances) ∙ front (λ l. l .performance) (old .performances) (long .performances) ∙ lines-performances b q
+        ap (λ (c : Columns). take (length lines) (c .performances)) (given .written) ∙ front (λ l. l .performance) (old .performances) performances-long
+        ∙ lines-performances b q
 
     payments-front : take (length lines) (new .payments) ≡ map (λ l. l .payment) lines
-    payments-front = ap (take (length lines)) (given .payments) ∙ front (λ l. l .payment) (old .payments) (long .payments)
+    payments-front =
+        ap (λ (c : Columns). take (length lines) (c .payments)) (given .written) ∙ front (λ l. l .payment) (old .payments) payments-long
 
     helps-is : helps (take (length lines) (new .performances)) ≡ some-helpful b q
     helps-is = ap helps performances-front ∙ some-map _ (λ m. m .payment) (members b q)
@@ -103,7 +118,7 @@ module _ {b : Book} {t : Tally} {l : Lent} {part : List ℕ} {q : Requirement} (
     pub columns-close : ColumnsClose b q r new
     columns-close =
         record {
-          figures = shown (answer b q);
+          figures = shown q (answer b q);
           given = given .reply;
           parties = λ none. helps-is ∙ closes .parties q none ∙ sym harms-is;
           credits = λ up down. paid gain ∙ closes .cents q (sym helps-is ∙ up) (sym harms-is ∙ down) .credits;

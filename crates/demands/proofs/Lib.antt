@@ -1,7 +1,7 @@
 pub mod Demand1
 pub mod Demand2
 pub mod Demand3
-pub mod SharedLists
+pub mod OtherBook
 pub mod WeekDefaults
 pub mod WordsAnswered
 pub mod WordsBook

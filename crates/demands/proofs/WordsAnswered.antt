@@ -26,27 +26,25 @@ use Rattle.rules.specs.Answer.{Line, answer}
 use Rattle.interval.specs.declared.Tally.{Tally}
 use Rattle.interval.specs.Tally.{units-end, in-range, answer-turn}
 use Rattle.interval.proofs.TallyLaws.{ranged}
-use Rattle.kept.specs.Kept.{Kept, region-of, row-standing, rows}
+use Rattle.interval.specs.Lent.{Lent}
+use Rattle.kept.specs.Kept.{region-of, row-standing, rows-of}
 use Rattle.chain.proofs.Taken.{requirement-is}
-use Rattle.chain.specs.Chain.{Lent}
-use Rattle.chain.specs.Keeps.{kept-of}
-use Rattle.chain.specs.Ready.{Ready}
+use Rattle.chain.specs.Answerable.{Answerable}
 use Rattle.answer.specs.declared.Row.{Row}
 use Rattle.answer.specs.declared.Row.the-variants as row
 use Rattle.answer.specs.Lists.{gathered}
 use Rattle.answer.proofs.Lists.{gathered-none, gathered-more}
-use Rattle.answer.specs.Roster.{Named, row-of, MemberPromise}
+use Rattle.answer.specs.Roster.{Named, row-says, MemberPromise}
 use Rattle.answer.specs.declared.Answered.{Answered}
-use Rattle.answer.specs.Promises.{last-standing}
+use Rattle.answer.specs.Promises.{Columns, columns-long, last-standing}
 use Rattle.answer.proofs.CallLaws.{record-fine}
-use Rattle.answer.specs.BookAnswered.{Columns, ColumnsLong, line-named, RulesAnswer}
+use Rattle.answer.specs.BookAnswered.{line-named, RulesAnswer}
 use Rattle.answer.proofs.BookAnswered.{rules-answer}
 use Rattle.dullavane.specs.Words.{held}
-use Rattle.dullavane.specs.Asked.{ready, in-turn, asked-narrow, direction-of, standing-number, member-words, row-number, row-after}
-use Rattle.dullavane.specs.Answers.{reply-words, answered-number, answered-after}
+use Rattle.dullavane.specs.Asked.{asked-tally, in-turn, asked-narrow, direction-of, standing-number, member-words, row-number, row-after}
+use Rattle.dullavane.specs.Answers.{reply-words, answered-number, answered-after, AnswerCalled}
 use Rattle.demands.proofs.WordsLaws.{is-stepped}
 use Rattle.demands.specs.WordsAnswer.{
-  AnswerWords,
   figures-told,
   Tells,
   MemberWords,
@@ -61,12 +59,12 @@ use Rattle.demands.specs.WordsAnswer.{
 }
 
 -- ---- laws
--- the words are ready for what is asked
-ready-held :
-    (ws : List ℕ) {t : Tally} (fine room : Bool) → held ws ≡ taken t → (in-range t && answer-turn t) ≡ true → fine ≡ true → room ≡ true →
-    ready ws fine room ≡ taken t
-unfolding ready in-turn
-ready-held ws fine room h turn f m = rw (h, turn, f, m)
+-- the words hold a tally that can be asked
+asked-held :
+    (ws : List ℕ) {t : Tally} (narrow long : Bool) → held ws ≡ taken t → (in-range t && answer-turn t) ≡ true → narrow ≡ true → long ≡ true →
+    asked-tally ws narrow long ≡ taken t
+unfolding asked-tally in-turn
+asked-held ws narrow long h turn n l = rw (h, turn, n, l)
 
 -- what a record that is taken has in bytes 2 and 3
 record AskedBytes (part : List ℕ) (q : Requirement) : Type 0 where
@@ -133,54 +131,46 @@ row-taken : (is : Bool) (n : ℕ) (s : Standing) → row-number (cond is (row.Un
 row-taken true n s = refl
 row-taken false n s = refl
 
-row-says :
+words-say :
     (is : Bool) (n : ℕ) (s : Standing) (us : List ℕ) → let us′ = row-after (cond is (row.Unit n s) row.Other) us in
     cond is (named-told (record { name = unit n; standing = s }) ∷ []) [] ≡ cond (is-member us′) (member-told us′ ∷ []) []
-row-says true n s us = refl
-row-says false n s us = refl
+words-say true n s us = refl
+words-say false n s us = refl
 
 -- ---- THE THEOREM
 module _
     {b : Book} {t : Tally} (ws : List ℕ) {l : Lent} {part : List ℕ} {q : Requirement} (h : held ws ≡ taken t) (turn : (in-range t && answer-turn t) ≡ true)
     (asked : requirement-record 0 false part ≡ taken q) (a : RulesAnswer b t l part q) where
-  abbrev k : Kept
-  k = kept-of t l
-
   abbrev covered : ℕ → Bool
-  covered j = covers q (region-of k j)
+  covered j = covers q (region-of l j)
 
   abbrev name-of : ℕ → Named
-  name-of j = record { name = unit (getD (l .numbers) j 0); standing = row-standing k (q .direction) j }
+  name-of j = record { name = unit (getD (l .numbers) j 0); standing = row-standing l (q .direction) j }
 
   answer-told :
       {old new : Columns} {reply reply′ : List ℕ} {r : ℕ} →
-      ColumnsLong (t .units) old → reply-words ≤ length reply → AnswerWords ws part l old reply r new reply′ → Tells (answer b q) old reply r new reply′
-  answer-told {reply = reply} long room c =
-      let s = is-stepped _ _ _ _ (ready-held ws true (leb reply-words (length reply)) h turn refl (le-leb _ _ room)) (c .called .answer) in
-      let x = a .answered long (record { promise = s .call }) in
+      columns-long (t .units) old ≡ true → reply-words ≤ length reply → AnswerCalled ws part l old reply r new reply′ →
+      Tells (answer b q) old reply r new reply′
+  answer-told {reply = reply} long words-long c =
+      let s = is-stepped _ _ _ _ (asked-held ws true (leb reply-words (length reply)) h turn refl (le-leb _ _ words-long)) (c .answer) in
+      let x = a .answered long (s .call) in
       record {
         number = s .reply ∙ ap answered-number (x .reply);
         words = s .words ∙ ap (λ (y : Answered). answered-after y reply) (x .reply);
-        performances = x .performances;
-        factors = x .factors;
-        payments = x .payments;
-        used = x .used;
-        unused = x .unused;
+        columns = x .written;
       }
 
   row-told :
       (j : ℕ) → j < t .units → {us us′ : List ℕ} {r : ℕ} → member-words ≤ length us → MemberWords ws part l j us r us′ →
-      (r ≡ 0) × (us′ ≡ row-after (row-of k q j) us)
-  row-told j below {us} room c =
+      (r ≡ 0) × (us′ ≡ row-after (row-says l (q .direction) (q .set) j) us)
+  row-told j below {us} long c =
       let bytes = asked-bytes part q asked in
       let few = ranged t (both (in-range t) (answer-turn t) turn .0) .units in
       let narrow : asked-narrow j (getD part 3 0) (getD part 2 0) ≡ true = rw (lt-ltb j 65_536 (omega arith)) (bytes .narrow) in
-      let s = is-stepped _ _ _ _ (ready-held ws _ (leb member-words (length us)) h turn narrow (le-leb _ _ room)) (c .answer) in
-      let promise =
-      subst₂ (λ (d : Direction) (set : ℕ). MemberPromise j (t .units) d set (l .figures) (l .numbers) (l .places) (s .step)) (bytes .direction) (bytes .set)
-      (s .call) in
-      let e : s .step ≡ row-of k q j = a .rows j below promise in
-      (s .reply ∙ ap row-number e ∙ row-taken (covers q (region-of k j)) _ _, s .words ∙ ap (λ (y : Row). row-after y us) e)
+      let s = is-stepped _ _ _ _ (asked-held ws _ (leb member-words (length us)) h turn narrow (le-leb _ _ long)) (c .answer) in
+      let promise = subst₂ (λ (d : Direction) (set : ℕ). MemberPromise t j d set l (s .step)) (bytes .direction) (bytes .set) (s .call) in
+      let e : s .step ≡ row-says l (q .direction) (q .set) j = a .rows j below promise in
+      (s .reply ∙ ap row-number e ∙ row-taken (covered j) _ _, s .words ∙ ap (λ (y : Row). row-after y us) e)
 
   walk-told : {row : ℕ → List ℕ} → Walk ws part l (t .units) row → map line-told (answer b q .lines) ≡ found row (t .units) (figures-told (answer b q))
   walk-told {row} w =
@@ -193,18 +183,18 @@ module _
     where
       each : (j : ℕ) → j < t .units → cond (covered j) (named-told (name-of j) ∷ []) [] ≡ cond (is-member (row j)) (member-told (row j) ∷ []) []
       each j h =
-          let e = row-told j h (w .room j h) (w .called j h) .1 in
-          rw e (row-says (covered j) (getD (l .numbers) j 0) (row-standing k (q .direction) j) (w .lent j))
+          let e = row-told j h (w .long j h) (w .called j h) .1 in
+          rw e (words-say (covered j) (getD (l .numbers) j 0) (row-standing l (q .direction) j) (w .lent j))
 
       members : map named-told (gathered covered name-of (t .units)) ≡ gathered (λ j. is-member (row j)) (λ j. member-told (row j)) (t .units)
       members =
-          map-map named-told name-of (rows k q)
+          map-map named-told name-of (rows-of t l q)
           ∙ gathered-same covered (λ j. is-member (row j)) (λ j. named-told (name-of j)) (λ j. member-told (row j)) (t .units) each
 
   pub words-answered : WordsAnswer b t ws l part q
   words-answered = record { answered = answer-told; rows = row-told; lines = walk-told }
 
--- so it is where a chain of the calls below has left tally and lists ready for a book
-pub ready-answered : {b : Book} {t : Tally} (ws : List ℕ) {l : Lent} → Ready b t l → held ws ≡ taken t → WordsAnswers b t ws l
-ready-answered {t = t} ws h e part q asked =
+-- so it is where a chain of the calls below has left tally and lists that can be asked about a book
+pub answerable-answered : {b : Book} {t : Tally} (ws : List ℕ) {l : Lent} → Answerable b t l → held ws ≡ taken t → WordsAnswers b t ws l
+answerable-answered {t = t} ws h e part q asked =
     words-answered ws e (rw (h .tally, le-leb (units-end t) (t .records) (h .turn))) asked (rules-answer h part q asked)

@@ -11,14 +11,14 @@ use Rattle.rules.specs.Refusals.{Reply, taken, refused, number}
 use Rattle.rules.specs.Book.{Requirement, Book}
 use Rattle.rules.specs.Contents.{Counts, contents}
 use Rattle.rules.specs.WholeBook.{book}
-use Rattle.interval.specs.declared.Tally.{Tally}
 use Rattle.interval.specs.declared.Opened as o
 use Rattle.interval.specs.declared.Step.{Step}
 use Rattle.interval.specs.Tally.{before-units}
+use Rattle.interval.specs.Lent.{Lent}
 use Rattle.interval.specs.Calls.{opened}
 use Rattle.chain.specs.Taken.{counts-in}
-use Rattle.chain.specs.Chain.{Lent, Chain, RecordTaken}
-use Rattle.chain.specs.Honest.{Enough}
+use Rattle.chain.specs.Long.{Long}
+use Rattle.chain.specs.Chain.{RecordTaken}
 use Rattle.chain.specs.BookWay as below
 use Rattle.chain.proofs.BookWay as below-laws
 use Rattle.chain.specs.BookWay.{records-in, Hands, Takes, Stops, Meets}
@@ -26,21 +26,17 @@ use Rattle.chain.proofs.BookRefused.{refused-here, refused-book, book-refused, 
 use Rattle.chain.specs.Keeps.{BookMeans}
 use Rattle.chain.specs.BookChain.{book-of}
 use Rattle.chain.proofs.Spelled.{book-means, spelled-hands, chain-book}
-use Rattle.chain.specs.Ready.{Ready}
-use Rattle.chain.proofs.Ready.{chain-ready, units-ready, ended-ready, requirement-read}
+use Rattle.chain.proofs.Answerable.{chain-answerable, units-answerable, ended-answerable, requirement-read}
 use Rattle.answer.specs.BookAnswered.{Asks}
 use Rattle.dullavane.specs.Words.{tally-words, with-words, reply-number, taking-number, words-after}
 use Rattle.dullavane.specs.Promises.{ContentsCalled}
 use Rattle.dullavane.proofs.Promises.{contents-opened}
 use Rattle.demands.specs.WordsChain.{Turn, Due, WordsCall, WordsChain}
-use Rattle.demands.specs.SharedChain.{SharedChain}
 use Rattle.demands.proofs.WordsLaws.{told-refused}
 use Rattle.demands.proofs.WordsCalls.{call-steps, due-call}
 use Rattle.demands.proofs.WordsTheorem.{words-chain, chain-words}
-use Rattle.demands.specs.SharedLists.{Own, with-own}
-use Rattle.demands.proofs.SharedLists.{shared-chain}
 use Rattle.demands.specs.WordsAnswer.{WordsAnswers}
-use Rattle.demands.proofs.WordsAnswered.{ready-answered}
+use Rattle.demands.proofs.WordsAnswered.{answerable-answered}
 use Rattle.demands.specs.WordsBook.{WordsMeets, WordsSpelled, WordsStops, WordsTakes, at-contents, at-record}
 
 module _ {head : List ℕ} {part : ℕ → List ℕ} {l₀ : Lent} {ws₀ : List ℕ} (long : tally-words ≤ length ws₀) where
@@ -75,12 +71,12 @@ module _ {head : List ℕ} {part : ℕ → List ℕ} {l₀ : Lent} {ws₀ : List
 -- ---- on any chain the C call for the next record returns 0 where the format takes the record, whatever was tried in its place before and refused
 pub next-taken :
     {head : List ℕ} {part : ℕ → List ℕ} {l₀ : Lent} {ws₀ : List ℕ} {n : ℕ} {ws : List ℕ} {l : Lent} → WordsChain head part l₀ ws₀ n ws l →
-    Enough l₀ (counts-in head .units) → ((m i : ℕ) → m < n → getD (part m) i 0 < 256) → RecordTaken part (counts-in head) n →
+    Long l₀ (counts-in head .units) → ((m i : ℕ) → m < n → getD (part m) i 0 < 256) → RecordTaken part (counts-in head) n →
     {r : ℕ} {ws′ : List ℕ} {l′ : Lent} {turn : Turn} → Due (counts-in head) n turn → WordsCall (part n) ws l r ws′ l′ turn → r ≡ 0
-next-taken {head} {part} {l₀} d enough bytes w due c =
+next-taken {head} {part} {l₀} d lists-long bytes w due c =
     let x = words-chain d in
     let s = call-steps (x .held) c in
-    s .reply ∙ ap taking-number (below-laws.next-taken head part l₀ (x .chain) enough bytes w (due-call due (s .call)))
+    s .reply ∙ ap taking-number (below-laws.next-taken head part l₀ (x .chain) lists-long bytes w (due-call due (s .call)))
 
 -- ---- OF WHATEVER WAS HANDED IN: the book is the one that the parts spell which were taken, whatever was refused in between
 module _ {head : List ℕ} {part : ℕ → List ℕ} {l₀ : Lent} {ws₀ : List ℕ} where
@@ -89,7 +85,7 @@ module _ {head : List ℕ} {part : ℕ → List ℕ} {l₀ : Lent} {ws₀ : List
       {n : ℕ} {ws : List ℕ} {l : Lent} (d : WordsChain head part l₀ ws₀ n ws l) → before-units + counts-in head .units ≤ n →
       ((m i : ℕ) → m < n → getD (part m) i 0 < 256) → (qs : List Requirement) →
       WordsAnswers (book-of (counts-in head .units) part qs) (words-chain d .tally) ws l
-  taken-answered {ws = ws} d all bytes qs = let x = words-chain d in ready-answered ws (chain-ready (x .chain) all bytes qs) (x .held)
+  taken-answered {ws = ws} d all bytes qs = let x = words-chain d in answerable-answered ws (chain-answerable (x .chain) all bytes qs) (x .held)
 
 pub ended-answered :
     {head : List ℕ} {part : ℕ → List ℕ} {l₀ : Lent} {ws₀ ws : List ℕ} {l : Lent} (d : WordsChain head part l₀ ws₀ (records-in head) ws l) →
@@ -101,7 +97,7 @@ ended-answered {ws = ws} d bytes =
       the-book = b .0;
       spells = b .1;
       means = b .2;
-      answers = ready-answered ws (ended-ready (x .chain) bytes) (x .held);
+      answers = answerable-answered ws (ended-answerable (x .chain) bytes) (x .held);
       asks = requirement-read (spelled-hands (x .chain)) (b .0) (b .1);
     }
 
@@ -118,12 +114,12 @@ pub record WordsBook (b : Book) (head : List ℕ) (part : ℕ → List ℕ) (l�
 
 module _
     {bs head : List ℕ} {part : ℕ → List ℕ} {l₀ : Lent} {ws₀ : List ℕ} (hands : Hands bs head part)
-    (enough : contents bs ≡ taken (counts-in bs) → Enough l₀ (counts-in bs .units)) (long : tally-words ≤ length ws₀)
+    (lists-long : contents bs ≡ taken (counts-in bs) → Long l₀ (counts-in bs .units)) (long : tally-words ≤ length ws₀)
     (bytes : (i : ℕ) → getD bs i 0 < 256) where
   pub words-book : (b : Book) → book bs ≡ taken b → WordsBook b head part l₀ ws₀
   words-book b e =
       record {
-        takes = words-takes long (book-way l₀ hands enough bytes b e);
+        takes = words-takes long (book-way l₀ hands lists-long bytes b e);
         means = λ d. book-means hands (words-chain d .chain) b e;
         answers = answers;
         asks = requirement-read hands b e;
@@ -132,11 +128,11 @@ module _
       answers :
           {n : ℕ} {ws : List ℕ} {l : Lent} (d : WordsChain head part l₀ ws₀ n ws l) → before-units + counts-in head .units ≤ n →
           WordsAnswers b (words-chain d .tally) ws l
-      answers {ws = ws} d all = let x = words-chain d in ready-answered ws (units-ready hands b e (x .chain) all bytes) (x .held)
+      answers {ws = ws} d all = let x = words-chain d in answerable-answered ws (units-answerable hands b e (x .chain) all bytes) (x .held)
 
   -- ---- of one that it refuses they meet its number, and whatever number they meet, the format refuses the book with it
   pub words-refused : {why : Refusal} → book bs ≡ refused why → WordsMeets head part l₀ ws₀ why
-  words-refused e = words-meets long (book-refused l₀ hands enough bytes e)
+  words-refused e = words-meets long (book-refused l₀ hands lists-long bytes e)
 
   pub refused-contents-words :
       {r : ℕ} {ws : List ℕ} → ContentsCalled head ws₀ r ws → 0 < r → (why : Refusal) × (r ≡ number why) × (book bs ≡ refused why)
@@ -144,7 +140,7 @@ module _
     where
       go : (y : Reply Counts) → contents head ≡ y → r ≡ reply-number y → (why : Refusal) × (r ≡ number why) × (book bs ≡ refused why)
       go (taken c) e f = absurd (omega arith)
-      go (refused why) e f = (why, f, refused-book l₀ hands enough bytes (below.at-contents (record { reply = ap opened (sym e) })))
+      go (refused why) e f = (why, f, refused-book l₀ hands lists-long bytes (below.at-contents (record { reply = ap opened (sym e) })))
 
   pub refused-words :
       {n r : ℕ} {ws ws′ : List ℕ} {l l′ : Lent} {turn : Turn} → WordsChain head part l₀ ws₀ n ws l → n < records-in head → Due (counts-in head) n turn →
@@ -153,36 +149,4 @@ module _
       let x = words-chain d in
       let s = call-steps (x .held) c in
       let no = told-refused (s .step) (omega (arith, s .reply)) in
-      (no .0, s .reply ∙ ap taking-number (no .1), refused-here l₀ hands enough bytes (x .chain) inside (due-call due (s .call)) (no .1))
-
--- ---- WITH LISTS THAT SHARE MEMORY the answers are the same
-lend-answers : {b : Book} {t : Tally} {ws : List ℕ} (l : Lent) (o : Own) → WordsAnswers b t ws (with-own l o) → WordsAnswers b t ws l
-lend-answers l o a part q asked =
-    let x = a part q asked in
-    record {
-      answered = λ long room c. x .answered long room (record { called = c .called });
-      rows = x .rows;
-      lines = λ w. x .lines (record { lent = w .lent; room = w .room; number = w .number; called = w .called });
-    }
-
-module _ {head : List ℕ} {part : ℕ → List ℕ} {l₀ : Lent} {ws₀ : List ℕ} {n : ℕ} {ws : List ℕ} {l : Lent} (d : SharedChain head part l₀ ws₀ n ws l) where
-  abbrev pub shared-tally : Tally
-  shared-tally = words-chain (shared-chain head part l₀ ws₀ d .chain) .tally
-
-  pub shared-words : ws ≡ with-words shared-tally ws₀
-  shared-words = words-chain (shared-chain head part l₀ ws₀ d .chain) .words
-
-  from-ready : {b : Book} → ((t : Tally) (k l : Lent) → Chain head part k n t l → Ready b t l) → WordsAnswers b shared-tally ws l
-  from-ready ready =
-      let u = shared-chain head part l₀ ws₀ d in
-      let x = words-chain (u .chain) in
-      lend-answers l (u .own) (ready-answered ws (ready (x .tally) _ _ (x .chain)) (x .held))
-
-  module _ (all : before-units + counts-in head .units ≤ n) where
-    pub shared-taken-answered :
-        ((m i : ℕ) → m < n → getD (part m) i 0 < 256) → (qs : List Requirement) → WordsAnswers (book-of (counts-in head .units) part qs) shared-tally ws l
-    shared-taken-answered bytes qs = from-ready (λ t k l c. chain-ready c all bytes qs)
-
-    pub shared-book-answered :
-        {bs : List ℕ} → Hands bs head part → (b : Book) → book bs ≡ taken b → ((i : ℕ) → getD bs i 0 < 256) → WordsAnswers b shared-tally ws l
-    shared-book-answered hands b e bytes = from-ready (λ t k l c. units-ready hands b e c all bytes)
+      (no .0, s .reply ∙ ap taking-number (no .1), refused-here l₀ hands lists-long bytes (x .chain) inside (due-call due (s .call)) (no .1))

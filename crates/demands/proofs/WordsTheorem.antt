@@ -20,12 +20,13 @@ use Rattle.interval.specs.declared.Opened as o
 use Rattle.interval.specs.declared.Taking.{Taking}
 use Rattle.interval.specs.declared.Step.{Step}
 use Rattle.interval.specs.Tally.{settings-of}
+use Rattle.interval.specs.Lent.{Lent}
 use Rattle.interval.specs.Calls.{fresh, opened, left}
 use Rattle.interval.specs.Promises.{ContentsPromise}
 use Rattle.chain.specs.Taken.{counts-in}
 use Rattle.chain.proofs.Taken.{contents-is}
 use Rattle.chain.specs.Chain as below
-use Rattle.chain.specs.Chain.{Lent, Taken, Refused, Chain, Means, the-settings}
+use Rattle.chain.specs.Chain.{Taken, Refused, Chain, Means, the-settings}
 use Rattle.chain.proofs.ChainTheorem.{chain}
 use Rattle.dullavane.specs.Words.{tally-words, with-words, held, Narrow, reply-number, taking-number, told, words-left, words-after}
 use Rattle.dullavane.specs.Called.{Stepped}
@@ -45,7 +46,7 @@ record Small (s : Settings) : Type 0 where
 
 module _ {head : List ℕ} {part : ℕ → List ℕ} {l₀ : Lent} {n : ℕ} {t : Tally} {l : Lent} (d : Chain head part l₀ n t l) (ws : List ℕ) where
   w : Means head part l₀ n t l
-  w = chain head part l₀ d
+  w = chain d
 
   chain-settings : (m : ℕ) → m ≡ n → Small (settings-of t)
   chain-settings zero e = rw (w .before (sym e)) (record { smoothing = omega arith; limit = omega arith; percent = omega arith })
@@ -74,7 +75,7 @@ record Opens (head ws ws′ : List ℕ) : Type 0 where
   tally : Tally
   promise : ContentsPromise head (o.the-variants.Taken tally)
   words : ws′ ≡ with-words tally ws
-  room : tally-words ≤ length ws
+  long : tally-words ≤ length ws
 
 contents-taken : {head ws ws′ : List ℕ} → ContentsCalled head ws 0 ws′ → Opens head ws ws′
 contents-taken {head} {ws} {ws′} c = go (leb tally-words (length ws)) (contents head) refl refl (c .reply) (c .tally)
@@ -82,7 +83,7 @@ contents-taken {head} {ws} {ws′} c = go (leb tally-words (length ws)) (content
     go :
         (x : Bool) (y : Reply Counts) → leb tally-words (length ws) ≡ x → contents head ≡ y → 0 ≡ reply-number (unless x TooShort y) →
         ws′ ≡ left (λ c. with-words (fresh c)) (unless x TooShort y) ws → Opens head ws ws′
-    go true (taken c) l h e f = record { tally = fresh c; promise = record { reply = ap opened (sym h) }; words = f; room = leb-true _ _ l }
+    go true (taken c) l h e f = record { tally = fresh c; promise = record { reply = ap opened (sym h) }; words = f; long = leb-true _ _ l }
     go true (refused why) l h e f = absurd (omega (arith, refusal-numbered why))
     go false y l h e f = absurd (omega arith)
 
@@ -102,7 +103,7 @@ module _ (head : List ℕ) (part : ℕ → List ℕ) (l₀ : Lent) (ws₀ : List
     pub words : ws ≡ with-words tally ws₀
     -- so no call finds it out of its words' widths
     pub held : held ws ≡ taken tally
-    pub room : tally-words ≤ length ws₀
+    pub long : tally-words ≤ length ws₀
 
 module _ {head : List ℕ} {part : ℕ → List ℕ} {l₀ : Lent} where
   one-more :
@@ -117,7 +118,7 @@ module _ {head : List ℕ} {part : ℕ → List ℕ} {l₀ : Lent} where
     tallied :
         {n : ℕ} {t : Tally} {ws : List ℕ} {l : Lent} →
         Chain head part l₀ n t l → ws ≡ with-words t ws₀ → tally-words ≤ length ws₀ → Tallied head part l₀ ws₀ n ws l
-    tallied {t = t} d e room = record { tally = t; chain = d; words = e; held = ap held e ∙ chain-held d ws₀; room = room }
+    tallied {t = t} d e long = record { tally = t; chain = d; words = e; held = ap held e ∙ chain-held d ws₀; long = long }
 
     next :
         {n : ℕ} {ws ws′ : List ℕ} {l l′ : Lent} {turn : Turn} →
@@ -127,10 +128,10 @@ module _ {head : List ℕ} {part : ℕ → List ℕ} {l₀ : Lent} where
         let took = told-taken (s .step) (sym (s .reply)) in
         let t = s .step .tally in
         let words = s .words ∙ ap (λ (k : Taking). words-left k t ws) took ∙ ap (with-words t) (x .words) in
-        tallied (one-more (x .chain) (s .call) took) words (x .room)
+        tallied (one-more (x .chain) (s .call) took) words (x .long)
 
     pub words-chain : {n : ℕ} {ws : List ℕ} {l : Lent} → WordsChain head part l₀ ws₀ n ws l → Tallied head part l₀ ws₀ n ws l
-    words-chain (begun c) = let x = contents-taken c in tallied (below.begun (x .promise)) (x .words) (x .room)
+    words-chain (begun c) = let x = contents-taken c in tallied (below.begun (x .promise)) (x .words) (x .long)
     words-chain (took d c) = next (words-chain d) c
     words-chain (refused-record d c h) = let e = refused-call c h in rw (e .0, e .1) (words-chain d)
     words-chain (refused-contents d c h) = rw (contents-kept c h) (words-chain d)

@@ -7,15 +7,15 @@ use Rattle.rules.specs.Refusals.{taken, refused, number}
 use Rattle.rules.specs.Book.{Book}
 use Rattle.rules.specs.WholeBook.{book}
 use Rattle.interval.specs.declared.Tally.{Tally}
-use Rattle.interval.specs.declared.Taking as k
 use Rattle.interval.specs.declared.Step.{Step}
+use Rattle.interval.specs.Lent.{Lent}
 use Rattle.interval.specs.Calls.{refused-step}
-use Rattle.chain.specs.Chain.{Lent, Taken}
+use Rattle.chain.specs.Chain.{Taken}
 use Rattle.chain.specs.BookWay.{records-in, Takes, Meets}
 use Rattle.answer.specs.declared.Answer.{Answer}
 use Rattle.answer.specs.declared.Answered.{Answered}
 use Rattle.answer.specs.declared.Answered.the-variants.{Given, Refused}
-use Rattle.answer.specs.BookAnswered.{Columns}
+use Rattle.answer.specs.Promises.{Columns}
 use Rattle.demands.specs.WordsChain.{Turn}
 use Rattle.demands.specs.WordsCalls.{StepCall}
 

@@ -12,7 +12,7 @@ use Rattle.rules.specs.Members.{members}
 use Rattle.answer.specs.declared.Answer.{Answer}
 use Rattle.answer.specs.declared.Answered.{Answered}
 use Rattle.answer.specs.declared.Answered.the-variants.{Given}
-use Rattle.answer.specs.BookAnswered.{Columns}
+use Rattle.answer.specs.Promises.{Columns}
 use Rattle.closing.specs.Parties.{some, no-default}
 
 -- ---- what a caller has in the columns: the first so many numbers of each are its members'

@@ -1,13 +1,13 @@
 -- A chain of C calls
 pub mod WordsChain
-pub mod SharedChain
 -- What the proof speaks of that it is a chain of the calls below
 pub mod WordsLaws
 pub mod WordsCalls
-pub mod SharedLists
 -- The rules' answer over words, from a chain and from a book's bytes
 pub mod WordsAnswer
 pub mod WordsBook
+-- A stored tally over another book's lists
+pub mod OtherBook
 -- What the demands' theorems speak of
 pub mod Demand1
 pub mod WeekDefaults

@@ -1,6 +1,6 @@
 -- The rules' answer over words: what dullavane_answer and dullavane_member give of it. Words and numbers past those named stay.
 use mathlib.Core.Path.{_≡_}
-use mathlib.Core.Bool.{Bool, false}
+use mathlib.Core.Bool.{Bool, true, false}
 use mathlib.Core.List.{List, [], _∷_, _++_, map}
 use Prim.Native.Nat.{ℕ, _≤_, _<_}
 use lib.Dec.{eqb}
@@ -11,23 +11,12 @@ use Rattle.rules.specs.RequirementRecord.{requirement-record}
 use Rattle.rules.specs.Members.{Name, unit, residual}
 use Rattle.rules.specs.Answer.{Line, answer, Answer as Full}
 use Rattle.interval.specs.declared.Tally.{Tally}
-use Rattle.kept.specs.Kept.{rows}
-use Rattle.chain.specs.Chain.{Lent}
-use Rattle.chain.specs.Keeps.{kept-of}
-use Rattle.answer.specs.declared.Row.the-variants as row
-use Rattle.answer.specs.Lists.{headed, gathered}
-use Rattle.answer.specs.Roster.{row-of}
-use Rattle.answer.specs.Promises.{last-standing}
-use Rattle.answer.specs.BookAnswered.{Columns, ColumnsLong}
+use Rattle.interval.specs.Lent.{Lent}
+use Rattle.answer.specs.Lists.{gathered}
+use Rattle.answer.specs.Roster.{row-says}
+use Rattle.answer.specs.Promises.{Columns, columns-long, last-standing, with-lines}
 use Rattle.dullavane.specs.Asked.{standing-number, member-words, row-after, MemberCalled}
 use Rattle.dullavane.specs.Answers.{reply-words, AnswerCalled}
-
--- ---- dullavane_answer, lent the lists of a chain, five columns and the reply's words; it returns r
-pub record AnswerWords (ws part : List ℕ) (l : Lent) (old : Columns) (reply : List ℕ) (r : ℕ) (new : Columns) (reply′ : List ℕ) : Type 0 where
-  pub called :
-      AnswerCalled ws part (l .measures) (l .positive) (l .negative) (l .figures) (l .places) (l .raise) (l .lower) (l .defaults)
-      (old .performances) (old .factors) (old .payments) (old .used) (old .unused) reply r
-      (new .performances) (new .factors) (new .payments) (new .used) (new .unused) reply′
 
 -- an answer's eight words: members, RCR, pool, used pool, unused pool, unplaced of used and of unused, and how the residual stands
 abbrev pub figures-told : Full → List ℕ
@@ -36,24 +25,20 @@ figures-told a =
     ∷ standing-number (last-standing (a .lines))
     ∷ []
 
--- what it gives of an answer: 0, the eight words, and from the front of each column on a number of each line
+-- what dullavane_answer gives of an answer: 0, the eight words, and from the front of each column on a number of each line
 pub record Tells (a : Full) (old : Columns) (reply : List ℕ) (r : ℕ) (new : Columns) (reply′ : List ℕ) : Type 0 where
   pub number : r ≡ 0
   pub words : reply′ ≡ figures-told a ++ drop reply-words reply
-  pub performances : new .performances ≡ headed (map (λ l. l .performance) (a .lines)) (old .performances)
-  pub factors : new .factors ≡ headed (map (λ l. l .factor) (a .lines)) (old .factors)
-  pub payments : new .payments ≡ headed (map (λ l. l .payment) (a .lines)) (old .payments)
-  pub used : new .used ≡ headed (map (λ l. l .used) (a .lines)) (old .used)
-  pub unused : new .unused ≡ headed (map (λ l. l .unused) (a .lines)) (old .unused)
+  pub columns : new ≡ with-lines a old
 
 -- ---- dullavane_member for row j, lent three words, and asked with the direction and the region set that stand in bytes 3 and 2 of the part; it returns r
 abbrev pub MemberWords : List ℕ → List ℕ → Lent → ℕ → List ℕ → ℕ → List ℕ → Type 0
-MemberWords ws part l j us r us′ = MemberCalled ws j (getD part 3 0) (getD part 2 0) (l .figures) (l .numbers) (l .places) us r us′
+MemberWords ws part l j us r us′ = MemberCalled ws j (getD part 3 0) (getD part 2 0) l us r us′
 
 -- a walk over the rows: a call for each, which leaves its words in `row`
 pub record Walk (ws part : List ℕ) (l : Lent) (units : ℕ) (row : ℕ → List ℕ) : Type 0 where
   pub lent : ℕ → List ℕ
-  pub room : (j : ℕ) → j < units → member-words ≤ length (lent j)
+  pub long : (j : ℕ) → j < units → member-words ≤ length (lent j)
   pub number : ℕ → ℕ
   pub called : (j : ℕ) → j < units → MemberWords ws part l j (lent j) (number j) (row j)
 
@@ -81,11 +66,12 @@ pub record WordsAnswer (b : Book) (t : Tally) (ws : List ℕ) (l : Lent) (part :
   -- dullavane_answer gives its figures and its lines' numbers
   pub answered :
       {old new : Columns} {reply reply′ : List ℕ} {r : ℕ} →
-      ColumnsLong (t .units) old → reply-words ≤ length reply → AnswerWords ws part l old reply r new reply′ → Tells (answer b q) old reply r new reply′
+      columns-long (t .units) old ≡ true → reply-words ≤ length reply → AnswerCalled ws part l old reply r new reply′ →
+      Tells (answer b q) old reply r new reply′
   -- dullavane_member gives of each row a unit of the requirement's regions with its number and standing, or another's
   pub rows :
       (j : ℕ) → j < t .units → {us us′ : List ℕ} {r : ℕ} → member-words ≤ length us → MemberWords ws part l j us r us′ →
-      (r ≡ 0) × (us′ ≡ row-after (row-of (kept-of t l) q j) us)
+      (r ≡ 0) × (us′ ≡ row-after (row-says l (q .direction) (q .set) j) us)
   -- and a walk over the rows finds the names and standings of its lines
   pub lines : {row : ℕ → List ℕ} → Walk ws part l (t .units) row → map line-told (answer b q .lines) ≡ found row (t .units) (figures-told (answer b q))
 

@@ -7,9 +7,8 @@ use Rattle.rules.specs.Refusals.{taken, number}
 use Rattle.rules.specs.Book.{Book}
 use Rattle.rules.specs.WholeBook.{book}
 use Rattle.interval.specs.declared.Tally.{Tally}
-use Rattle.interval.specs.declared.Opened as o
+use Rattle.interval.specs.Lent.{Lent}
 use Rattle.chain.specs.Taken.{counts-in}
-use Rattle.chain.specs.Chain.{Lent}
 use Rattle.chain.specs.BookWay.{records-in}
 use Rattle.chain.specs.Keeps.{BookMeans}
 use Rattle.chain.specs.Spelled.{spelled}

@@ -6,24 +6,9 @@ use mathlib.Core.List.{List}
 use Prim.Native.Nat.{ℕ, _+_, _≤_, _<_, suc}
 use Rattle.rules.specs.Contents.{Counts}
 use Rattle.interval.specs.Tally.{before-units}
-use Rattle.chain.specs.Chain.{Lent}
+use Rattle.interval.specs.Lent.{Lent}
 use Rattle.chain.specs.Way.{records-of}
 use Rattle.dullavane.specs.Promises.{SettingsCalled, FrequencyCalled, UnitCalled, RequirementCalled, ContentsCalled}
-
--- ---- the lists that a call is not lent stay as they were
-pub record FrequencyApart (l l′ : Lent) : Type 0 where
-  pub readings : l′ .readings ≡ l .readings
-  pub deviations : l′ .deviations ≡ l .deviations
-  pub numbers : l′ .numbers ≡ l .numbers
-  pub places : l′ .places ≡ l .places
-  pub raise : l′ .raise ≡ l .raise
-  pub lower : l′ .lower ≡ l .lower
-  pub defaults : l′ .defaults ≡ l .defaults
-
-pub record UnitApart (l l′ : Lent) : Type 0 where
-  pub frequencies : l′ .frequencies ≡ l .frequencies
-  pub measures : l′ .measures ≡ l .measures
-  pub figures : l′ .figures ≡ l .figures
 
 -- ---- the four calls that take a record, and whose turn it is at record n
 pub data Turn : Type 0 where
@@ -40,21 +25,10 @@ Due c n of-requirement = (before-units + c .units ≤ n) × (n < records-of c)
 
 -- ---- a C call that takes a record: it is handed the part p of a book, the tally's words and lent lists; it returns r
 module _ (p ws : List ℕ) (l : Lent) (r : ℕ) (ws′ : List ℕ) (l′ : Lent) where
-  abbrev pub FrequencyWords : Type 0
-  FrequencyWords =
-      FrequencyCalled ws p (l .frequencies) (l .measures) (l .positive) (l .negative) (l .figures) r
-      ws′ (l′ .frequencies) (l′ .measures) (l′ .positive) (l′ .negative) (l′ .figures)
-
-  abbrev pub UnitWords : Type 0
-  UnitWords =
-      UnitCalled ws p (l .readings) (l .deviations) (l .measures) (l .positive) (l .negative)
-      (l .numbers) (l .places) (l .raise) (l .lower) (l .defaults) r
-      ws′ (l′ .readings) (l′ .deviations) (l′ .positive) (l′ .negative) (l′ .numbers) (l′ .places) (l′ .raise) (l′ .lower) (l′ .defaults)
-
   pub data WordsCall : Turn → Type 0 where
     settings-called : SettingsCalled ws p r ws′ → l′ ≡ l → WordsCall of-settings
-    frequency-called : FrequencyWords → FrequencyApart l l′ → WordsCall of-frequency
-    unit-called : UnitWords → UnitApart l l′ → WordsCall of-unit
+    frequency-called : FrequencyCalled ws p l r ws′ l′ → WordsCall of-frequency
+    unit-called : UnitCalled ws p l r ws′ l′ → WordsCall of-unit
     requirement-called : RequirementCalled ws p r ws′ → l′ ≡ l → WordsCall of-requirement
 
 -- ---- n records were taken, `part m` is what the call that took record m was handed

@@ -3,7 +3,6 @@ use Prim.Native.Nat.{ℕ, zero, suc}
 use Rattle.rules.specs.declared.Reason.the-variants.{UnreliableRegion, BadUnit, NoGoodUnit}
 use Rattle.rules.specs.declared.Standing.{Standing}
 use Rattle.rules.specs.declared.Standing.the-variants.{Live, Default}
-use Rattle.interval.specs.declared.Taking as k
 
 -- ---- a standing's number tells the standing
 abbrev pub standing-of : ℕ → Standing

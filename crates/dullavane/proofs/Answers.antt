@@ -2,21 +2,14 @@
 use mathlib.Core.Path.{_≡_, sym, _∙_}
 use mathlib.Core.List.{List}
 use Prim.Native.Nat.{ℕ}
-use lib.IntN.{ℤ}
+use Rattle.interval.specs.Lent.{Lent}
+use Rattle.answer.specs.Promises.{Columns}
 use Rattle.answer.proofs.Promises.{answer-only}
 use Rattle.dullavane.proofs.Called.{called-only}
-use Rattle.dullavane.specs.Answers.{AnswerCall, AnswerCalled, AnswerKept, answered-after, answered-number}
+use Rattle.dullavane.specs.Answers.{AnswerCalled, answered-after, answered-number}
 
-module _ (ts part : List ℕ) (ms ps ns gs : List ℤ) (qs : List ℕ) (xs ys fs : List ℤ) (c₁ c₂ c₃ c₄ c₅ : List ℤ) (ws : List ℕ) where
-  pub dullavane-answer-only : {r r₂ : ℕ} {d₁ d₂ d₃ d₄ d₅ e₁ e₂ e₃ e₄ e₅ : List ℤ} {ws′ ws₂ : List ℕ} →
-      (AnswerCalled ts part ms ps ns gs qs xs ys fs c₁ c₂ c₃ c₄ c₅ ws) r d₁ d₂ d₃ d₄ d₅ ws′ →
-      (AnswerCalled ts part ms ps ns gs qs xs ys fs c₁ c₂ c₃ c₄ c₅ ws) r₂ e₁ e₂ e₃ e₄ e₅ ws₂ →
-      (r ≡ r₂) × (ws′ ≡ ws₂) × ((d₁ ≡ e₁) × (d₂ ≡ e₂) × (d₃ ≡ e₃) × (d₄ ≡ e₄) × (d₅ ≡ e₅))
-  dullavane-answer-only {d₁ = d₁} {d₂ = d₂} {d₃ = d₃} {d₄ = d₄} {d₅ = d₅} {e₁ = e₁} {e₂ = e₂} {e₃ = e₃} {e₄ = e₄} {e₅ = e₅} a b =
-      called-only answered-number answered-after ((AnswerCall ts part ms ps ns gs qs xs ys fs c₁ c₂ c₃ c₄ c₅ ws) d₁ d₂ d₃ d₄ d₅)
-      ((AnswerCall ts part ms ps ns gs qs xs ys fs c₁ c₂ c₃ c₄ c₅ ws) e₁ e₂ e₃ e₄ e₅)
-      ((AnswerKept ts part ms ps ns gs qs xs ys fs c₁ c₂ c₃ c₄ c₅ ws) d₁ d₂ d₃ d₄ d₅)
-      ((AnswerKept ts part ms ps ns gs qs xs ys fs c₁ c₂ c₃ c₄ c₅ ws) e₁ e₂ e₃ e₄ e₅) ((d₁ ≡ e₁) × (d₂ ≡ e₂) × (d₃ ≡ e₃) × (d₄ ≡ e₄) × (d₅ ≡ e₅))
-      (λ t s s₂ x y. let o = answer-only _ _ _ _ _ _ _ _ _ _ _ _ _ _ _ x y in (o .0, (o .1, o .2, o .3, o .4, o .5)))
-      (λ x y. (x .0 ∙ sym (y .0), x .1 ∙ sym (y .1), x .2 ∙ sym (y .2), x .3 ∙ sym (y .3), x .4 ∙ sym (y .4)))
-      ws _ _ _ _ _ (a .answer) (b .answer)
+pub dullavane-answer-only : {ts part : List ℕ} {l : Lent} {old : Columns} {ws : List ℕ} {r r₂ : ℕ} {new new₂ : Columns} {ws′ ws₂ : List ℕ} →
+    AnswerCalled ts part l old ws r new ws′ → AnswerCalled ts part l old ws r₂ new₂ ws₂ → (r ≡ r₂) × (ws′ ≡ ws₂) × (new ≡ new₂)
+dullavane-answer-only {old = old} {ws = ws} {new = new} {new₂ = new₂} a b =
+    called-only answered-number answered-after _ _ (new ≡ old) (new₂ ≡ old) (new ≡ new₂) (λ t s s₂ x y. answer-only _ _ _ _ x y) (λ x y. x ∙ sym y)
+    ws _ _ _ _ _ (a .answer) (b .answer)

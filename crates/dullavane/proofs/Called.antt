@@ -10,16 +10,16 @@ use Rattle.dullavane.specs.Called.{Called}
 module _ {S : Type 0} (told : S → ℕ) (after : S → List ℕ → List ℕ) where
   -- by what the words hold
   module _ (Call : Tally → S → Type 0) (Kept : Type 0) (ws : List ℕ) where
-    pub was-held : {y : Reply Tally} {t : Tally} {s : S} {r : ℕ} {ws′ : List ℕ} → y ≡ taken t → Call t s → (r ≡ told s) × (ws′ ≡ after s ws) →
+    pub was-called : {y : Reply Tally} {t : Tally} {s : S} {r : ℕ} {ws′ : List ℕ} → y ≡ taken t → Call t s → (r ≡ told s) × (ws′ ≡ after s ws) →
         Called told after Call Kept y ws r ws′
     unfolding Called
-    was-held {s = s} {r = r} {ws′ = ws′} e call answered =
+    was-called {s = s} {r = r} {ws′ = ws′} e call answered =
         subst⁻¹ (λ (z : Reply Tally). Called told after Call Kept z ws r ws′) e (record { step = s; call = call; reply = answered .0; words = answered .1 })
 
-    pub was-unheld : (y : Reply Tally) {r : ℕ} → r ≡ reply-number y → (r ≡ 0 → ⊥) → Kept → Called told after Call Kept y ws r ws
+    pub was-refused : (y : Reply Tally) {r : ℕ} → r ≡ reply-number y → (r ≡ 0 → ⊥) → Kept → Called told after Call Kept y ws r ws
     unfolding Called
-    was-unheld (taken t) e some kept = absurd (some e)
-    was-unheld (refused refusal) e some kept = record { reply = e; words = refl; kept = kept }
+    was-refused (taken t) e some kept = absurd (some e)
+    was-refused (refused refusal) e some kept = record { reply = e; words = refl; kept = kept }
 
   -- any two answers that such a promise allows are equal, and with them what else is lent, if those of the call below are
   module _ (Call Call₂ : Tally → S → Type 0) (Kept Kept₂ Same : Type 0) (by-call : (t : Tally) (s s₂ : S) → Call t s → Call₂ t s₂ → (s ≡ s₂) × Same)

@@ -3,7 +3,6 @@ use mathlib.Core.Path.{_≡_, refl, sym, _∙_}
 use mathlib.Core.List.{List}
 use Prim.Native.Nat.{ℕ, _≤_, _<_}
 use borrow.Author.Tests.{le-leb, lt-leb}
-use lib.IntN.{ℤ}
 use lib.ListN.{length}
 use Rattle.rules.specs.declared.Refusal.the-variants.{TooShort}
 use Rattle.rules.specs.Refusals.{Reply, taken, refused, number}
@@ -11,21 +10,12 @@ use Rattle.rules.specs.Contents.{Counts, contents}
 use Rattle.interval.specs.declared.Tally.{Tally}
 use Rattle.interval.specs.declared.Opened.{Opened}
 use Rattle.interval.specs.declared.Opened.the-variants.{Taken, Refused}
+use Rattle.interval.specs.Lent.{Lent}
 use Rattle.interval.specs.Calls.{fresh, opened, left}
 use Rattle.interval.proofs.Promises.{settings-only, frequency-only, unit-only, requirement-only}
 use Rattle.dullavane.proofs.Called.{called-only, alone-only}
 use Rattle.dullavane.specs.Words.{tally-words, with-words, held, reply-number, told, words-after}
-use Rattle.dullavane.specs.Promises.{
-  ContentsCalled,
-  FrequencyCall,
-  FrequencyCalled,
-  FrequencyKept,
-  RequirementCalled,
-  SettingsCalled,
-  UnitCall,
-  UnitCalled,
-  UnitKept,
-}
+use Rattle.dullavane.specs.Promises.{ContentsCalled, FrequencyCalled, RequirementCalled, SettingsCalled, UnitCalled}
 
 pub dullavane-contents-only : {part ws : List ℕ} {r r₂ : ℕ} {ws′ ws₂ : List ℕ} → ContentsCalled part ws r ws′ → ContentsCalled part ws r₂ ws₂ →
     (r ≡ r₂) × (ws′ ≡ ws₂)
@@ -64,42 +54,14 @@ pub dullavane-requirement-only : {ws part : List ℕ} {r r₂ : ℕ} {ws′ ws�
 dullavane-requirement-only {ws} a b =
     alone-only told words-after _ (λ t s s₂ x y. requirement-only x y) ws _ _ _ _ (held ws) (a .answer) (b .answer)
 
--- ---- a frequency record
-module _ (ws part fs : List ℕ) (ms ps ns gs : List ℤ) where
-  pub dullavane-frequency-only : {r r₂ : ℕ} {ws′ ws₂ fs′ fs₂ : List ℕ} {ms′ ps′ ns′ gs′ ms₂ ps₂ ns₂ gs₂ : List ℤ} →
-      (FrequencyCalled ws part fs ms ps ns gs) r ws′ fs′ ms′ ps′ ns′ gs′ → (FrequencyCalled ws part fs ms ps ns gs) r₂ ws₂ fs₂ ms₂ ps₂ ns₂ gs₂ →
-      (r ≡ r₂) × (ws′ ≡ ws₂) × ((fs′ ≡ fs₂) × (ms′ ≡ ms₂) × (ps′ ≡ ps₂) × (ns′ ≡ ns₂) × (gs′ ≡ gs₂))
-  dullavane-frequency-only {fs′ = fs′} {fs₂ = fs₂} {ms′ = ms′} {ps′ = ps′} {ns′ = ns′} {gs′ = gs′} {ms₂ = ms₂} {ps₂ = ps₂} {ns₂ = ns₂} {gs₂ = gs₂} a b =
-      called-only told words-after ((FrequencyCall ws part fs ms ps ns gs) fs′ ms′ ps′ ns′ gs′) ((FrequencyCall ws part fs ms ps ns gs) fs₂ ms₂ ps₂ ns₂ gs₂)
-      ((FrequencyKept ws part fs ms ps ns gs) fs′ ms′ ps′ ns′ gs′) ((FrequencyKept ws part fs ms ps ns gs) fs₂ ms₂ ps₂ ns₂ gs₂)
-      ((fs′ ≡ fs₂) × (ms′ ≡ ms₂) × (ps′ ≡ ps₂) × (ns′ ≡ ns₂) × (gs′ ≡ gs₂))
-      (λ t s s₂ x y. let o = frequency-only _ _ _ _ _ _ _ x y in (o .0, (o .1, o .2, o .3, o .4, o .5)))
-      (λ x y. (x .0 ∙ sym (y .0), x .1 ∙ sym (y .1), x .2 ∙ sym (y .2), x .3 ∙ sym (y .3), x .4 ∙ sym (y .4)))
+-- ---- calls with lent lists
+module _ {ws part : List ℕ} {l : Lent} {r r₂ : ℕ} {ws′ ws₂ : List ℕ} {l′ l₂ : Lent} where
+  pub dullavane-frequency-only : FrequencyCalled ws part l r ws′ l′ → FrequencyCalled ws part l r₂ ws₂ l₂ → (r ≡ r₂) × (ws′ ≡ ws₂) × (l′ ≡ l₂)
+  dullavane-frequency-only a b =
+      called-only told words-after _ _ (l′ ≡ l) (l₂ ≡ l) (l′ ≡ l₂) (λ t s s₂ x y. frequency-only x y) (λ x y. x ∙ sym y)
       ws _ _ _ _ (held ws) (a .answer) (b .answer)
 
--- ---- a unit
-module _ (ws part : List ℕ) (rs ds ms ps ns : List ℤ) (us qs : List ℕ) (xs ys fs : List ℤ) where
-  pub dullavane-unit-only : {r r₂ : ℕ} {ws′ ws₂ : List ℕ} {rs′ ds′ ps′ ns′ rs₂ ds₂ ps₂ ns₂ : List ℤ} {us′ qs′ us₂ qs₂ : List ℕ}
-      {xs′ ys′ fs′ xs₂ ys₂ fs₂ : List ℤ} → (UnitCalled ws part rs ds ms ps ns us qs xs ys fs) r ws′ rs′ ds′ ps′ ns′ us′ qs′ xs′ ys′ fs′ →
-      (UnitCalled ws part rs ds ms ps ns us qs xs ys fs) r₂ ws₂ rs₂ ds₂ ps₂ ns₂ us₂ qs₂ xs₂ ys₂ fs₂ →
-      (r ≡ r₂) × (ws′ ≡ ws₂) × ((rs′ ≡ rs₂) × (ds′ ≡ ds₂) × (ps′ ≡ ps₂) × (ns′ ≡ ns₂) × (us′ ≡ us₂) × (qs′ ≡ qs₂) × (xs′ ≡ xs₂) × (ys′ ≡ ys₂) × (fs′ ≡ fs₂))
-  dullavane-unit-only {rs′ = rs′} {ds′ = ds′} {ps′ = ps′} {ns′ = ns′} {rs₂ = rs₂} {ds₂ = ds₂} {ps₂ = ps₂} {ns₂ = ns₂} {us′ = us′} {qs′ = qs′} {us₂ = us₂}
-      {qs₂ = qs₂} {xs′ = xs′} {ys′ = ys′} {fs′ = fs′} {xs₂ = xs₂} {ys₂ = ys₂} {fs₂ = fs₂} a b =
-      called-only told words-after ((UnitCall ws part rs ds ms ps ns us qs xs ys fs) rs′ ds′ ps′ ns′ us′ qs′ xs′ ys′ fs′)
-      ((UnitCall ws part rs ds ms ps ns us qs xs ys fs) rs₂ ds₂ ps₂ ns₂ us₂ qs₂ xs₂ ys₂ fs₂)
-      ((UnitKept ws part rs ds ms ps ns us qs xs ys fs) rs′ ds′ ps′ ns′ us′ qs′ xs′ ys′ fs′)
-      ((UnitKept ws part rs ds ms ps ns us qs xs ys fs) rs₂ ds₂ ps₂ ns₂ us₂ qs₂ xs₂ ys₂ fs₂)
-      ((rs′ ≡ rs₂) × (ds′ ≡ ds₂) × (ps′ ≡ ps₂) × (ns′ ≡ ns₂) × (us′ ≡ us₂) × (qs′ ≡ qs₂) × (xs′ ≡ xs₂) × (ys′ ≡ ys₂) × (fs′ ≡ fs₂))
-      (λ t s s₂ x y. let o = unit-only _ _ _ _ _ _ _ _ _ _ _ _ x y in (o .0, (o .1, o .2, o .3, o .4, o .5, o .6, o .7, o .8, o .9)))
-      (λ x y. (
-        x .0 ∙ sym (y .0),
-        x .1 ∙ sym (y .1),
-        x .2 ∙ sym (y .2),
-        x .3 ∙ sym (y .3),
-        x .4 ∙ sym (y .4),
-        x .5 ∙ sym (y .5),
-        x .6 ∙ sym (y .6),
-        x .7 ∙ sym (y .7),
-        x .8 ∙ sym (y .8),
-      ))
+  pub dullavane-unit-only : UnitCalled ws part l r ws′ l′ → UnitCalled ws part l r₂ ws₂ l₂ → (r ≡ r₂) × (ws′ ≡ ws₂) × (l′ ≡ l₂)
+  dullavane-unit-only a b =
+      called-only told words-after _ _ (l′ ≡ l) (l₂ ≡ l) (l′ ≡ l₂) (λ t s s₂ x y. unit-only x y) (λ x y. x ∙ sym y)
       ws _ _ _ _ (held ws) (a .answer) (b .answer)

@@ -2,16 +2,17 @@
 use mathlib.Core.Path.{_≡_, refl, sym, _∙_, ap}
 use mathlib.Core.Bool.{Bool, true, false}
 use mathlib.Core.List.{List, [], _∷_}
-use Prim.Native.Nat.{ℕ, _+_, _*_, _/_, _%_, _≤_, _<_}
+use Prim.Native.Nat.{ℕ, zero, suc, _+_, _*_, _/_, _%_, _≤_, _<_}
 use native.Mathlib.Omega.{arith}
 use lib.Dec.{leb, ltb}
 use lib.IntN.{ℤ}
 use lib.ListN.{length, getD, set, drop}
 use borrow.Author.Tests.{leb-true, leb-false, ltb-true, ltb-false, le-leb, lt-leb, lt-ltb, le-ltb}
 use Rattle.integers.proofs.Division.{remains}
-use Rattle.rules.specs.declared.Refusal.the-variants.{OutOfTurn, TooShort}
+use Rattle.rules.specs.declared.Refusal.the-variants.{WrongState, TooShort}
 use Rattle.rules.specs.declared.RunningWeek.{RunningWeek}
 use Rattle.rules.specs.declared.WeekDefault.{WeekDefault}
+use Rattle.rules.specs.declared.Whose.the-variants.{Group}
 use Rattle.rules.specs.Refusals.{Reply, taken, refused, number}
 use Rattle.rules.specs.Week.{interval, list-reply}
 use Rattle.rules.specs.RunningWeek.{add-reply, read-reply}
@@ -23,6 +24,8 @@ use Rattle.weeks.specs.declared.Told.{Told}
 use Rattle.weeks.specs.declared.Told.the-variants as told
 use Rattle.weeks.specs.declared.Written.{Written}
 use Rattle.weeks.specs.declared.Written.the-variants as written
+use Rattle.weeks.specs.Runs.{units-of}
+use Rattle.weeks.proofs.Runs.{added-as-group}
 use Rattle.weeks.specs.Promises.{told-of, added-of, written-of, reply-to, RosterPromise, WeekPromise, AddPromise, ReadPromise}
 use Rattle.dullavane.specs.Words.{reply-number}
 use Rattle.dullavane.specs.Weekly.{
@@ -86,7 +89,7 @@ pub week-short : (ws : List ℕ) → length ws < week-words → week-held ws ≡
 unfolding week-held
 week-short ws h = rw (lt-leb week-words (length ws) h)
 
-pub week-wide : (ws : List ℕ) → week-words ≤ length ws → 281_474_976_710_656 ≤ getD ws 1 0 → week-held ws ≡ refused OutOfTurn
+pub week-wide : (ws : List ℕ) → week-words ≤ length ws → 281_474_976_710_656 ≤ getD ws 1 0 → week-held ws ≡ refused WrongState
 unfolding week-held
 week-wide ws h l = rw (le-leb week-words (length ws) h, le-ltb (getD ws 1 0) 281_474_976_710_656 l)
 
@@ -123,6 +126,12 @@ week-kept r ws s l h =
         let b : f / 65_536 % 65_536 ≡ r .live = remains {q = r .high} (record { is = omega arith; small = l }) in
         let c : f / 4_294_967_296 ≡ r .high = omega arith in
         rw (a, b, c)
+
+-- every number but 0 is that of the units
+pub units-in : (n : ℕ) → (n ≡ 0 → ⊥) → n ≡ units-of (whose-of n)
+units-in zero some = absurd (some refl)
+units-in (suc zero) some = refl
+units-in (suc (suc k)) some = refl
 
 -- two stores in a row
 pub two-stores : {A : Type 0} (xs : List A) (a b : A) → 2 ≤ length xs → set (set xs 0 a) 1 b ≡ a ∷ b ∷ drop 2 xs
@@ -163,11 +172,14 @@ module _ (m live : ℕ) (p : ℤ) (ws : List ℕ) where
       go (refused why) f some = record { reply = e ∙ rw f; words = rw f }
 
   pub add-told :
-      (w : RunningWeek) → week-held ws ≡ taken w → (t : Added) → AddPromise (whose-of m) (flag live) p w t → {r : ℕ} {ws′ : List ℕ} → r ≡ added-number t →
+      (w : RunningWeek) → week-held ws ≡ taken w → (t : Added) →
+      AddPromise (Group (units-of (whose-of m))) (flag live) p w t → {r : ℕ} {ws′ : List ℕ} → r ≡ added-number t →
       ws′ ≡ week-after t ws → WeekAddCalled m live p ws r ws′
   add-told w h t q e f =
       let k = added-is (add-reply (whose-of m) (interval (flag live) p) w) ws in
-      record { reply = e ∙ rw h (ap added-number (q .reply) ∙ k .0); words = f ∙ rw h (ap (λ (t : Added). week-after t ws) (q .reply) ∙ k .1) }
+      let same : t ≡ added-of (add-reply (whose-of m) (interval (flag live) p) w) =
+      q .reply ∙ ap added-of (added-as-group (whose-of m) (interval (flag live) p) w) in
+      record { reply = e ∙ rw h (ap added-number same ∙ k .0); words = f ∙ rw h (ap (λ (t : Added). week-after t ws) same ∙ k .1) }
 
 module _ (m : ℕ) (ws : List ℕ) (xs : List ℤ) where
   pub read-no-room : length xs < default-numbers → {r : ℕ} → r ≡ 12 → WeekReadCalled m ws xs r xs

@@ -8,7 +8,7 @@ use lib.Dec.{leb, ltb}
 use lib.ListN.{length, getD, set, drop}
 use borrow.Author.Tests.{leb-true, ltb-true, lt-ltb}
 use Rattle.integers.specs.Sums.{both}
-use Rattle.rules.specs.declared.Refusal.the-variants.{OutOfTurn, TooShort}
+use Rattle.rules.specs.declared.Refusal.the-variants.{WrongState, TooShort}
 use Rattle.rules.specs.Refusals.{taken, unless}
 use Rattle.interval.specs.declared.Taking as k
 use Rattle.dullavane.specs.Words.{Held, Narrow, held, reply-number, tally-of, tally-words, words-fit}
@@ -45,18 +45,18 @@ narrow-but ws u q k s l = rw (lt-ltb _ _ u, lt-ltb _ _ q, lt-ltb _ _ k, lt-ltb _
 
 -- by the two tests
 pub held-by : (ws : List ℕ) {x y : Bool} → leb tally-words (length ws) ≡ x → words-fit ws ≡ y →
-    held ws ≡ unless x TooShort (unless y OutOfTurn (taken (tally-of ws)))
+    held ws ≡ unless x TooShort (unless y WrongState (taken (tally-of ws)))
 unfolding held
 held-by ws {x} l n =
-    ap (λ (b : Bool). unless b TooShort (unless (words-fit ws) OutOfTurn (taken (tally-of ws)))) l
-    ∙ ap (λ (b : Bool). unless x TooShort (unless b OutOfTurn (taken (tally-of ws)))) n
+    ap (λ (b : Bool). unless b TooShort (unless (words-fit ws) WrongState (taken (tally-of ws)))) l
+    ∙ ap (λ (b : Bool). unless x TooShort (unless b WrongState (taken (tally-of ws)))) n
 
 -- known by the number of their refusal
 pub held-means : (ws : List ℕ) {r : ℕ} → r ≡ reply-number (held ws) → r ≡ 0 → Held ws
 held-means ws e none =
     go (leb tally-words (length ws)) (words-fit ws) refl refl (sym (ap reply-number (held-by ws refl refl)) ∙ sym e ∙ none)
   where
-    go : (x y : Bool) → leb tally-words (length ws) ≡ x → words-fit ws ≡ y → reply-number (unless x TooShort (unless y OutOfTurn (taken (tally-of ws)))) ≡ 0 →
+    go : (x y : Bool) → leb tally-words (length ws) ≡ x → words-fit ws ≡ y → reply-number (unless x TooShort (unless y WrongState (taken (tally-of ws)))) ≡ 0 →
         Held ws
     go true true l n e = record { long = leb-true _ _ l; narrow = narrowed ws n; tally = held-by ws l n }
     go true false l n e = absurd (omega arith)

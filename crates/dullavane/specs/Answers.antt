@@ -4,16 +4,15 @@ use mathlib.Core.Bool.{true}
 use mathlib.Core.List.{List, [], _∷_, _++_}
 use Prim.Native.Nat.{ℕ}
 use lib.Dec.{leb}
-use lib.IntN.{ℤ}
 use lib.ListN.{length, drop}
 use Rattle.rules.specs.Refusals.{number}
-use Rattle.interval.specs.declared.Tally.{Tally}
+use Rattle.interval.specs.Lent.{Lent}
 use Rattle.answer.specs.declared.Answer.{Answer}
 use Rattle.answer.specs.declared.Answered.{Answered}
 use Rattle.answer.specs.declared.Answered.the-variants.{Given, Refused}
-use Rattle.answer.specs.Promises.{AnswerPromise}
+use Rattle.answer.specs.Promises.{Columns, AnswerPromise}
 use Rattle.dullavane.specs.Called.{Called}
-use Rattle.dullavane.specs.Asked.{ready, standing-number}
+use Rattle.dullavane.specs.Asked.{asked-tally, standing-number}
 
 -- how many members there are, RCR, the pools, what is unplaced of used and of unused, the residual's standing
 abbrev pub reply-words : ℕ
@@ -34,13 +33,7 @@ abbrev pub answered-after : Answered → List ℕ → List ℕ
 answered-after (Given a) ws = with-answer a ws
 answered-after (Refused r) ws = ws
 
-module _ (ts part : List ℕ) (ms ps ns gs : List ℤ) (qs : List ℕ) (xs ys fs : List ℤ) (c₁ c₂ c₃ c₄ c₅ : List ℤ) (ws : List ℕ) where
-  abbrev pub AnswerCall : List ℤ → List ℤ → List ℤ → List ℤ → List ℤ → Tally → Answered → Type 0
-  AnswerCall d₁ d₂ d₃ d₄ d₅ t a = AnswerPromise t part ms ps ns gs qs xs ys fs c₁ c₂ c₃ c₄ c₅ a d₁ d₂ d₃ d₄ d₅
-
-  abbrev pub AnswerKept : List ℤ → List ℤ → List ℤ → List ℤ → List ℤ → Type 0
-  AnswerKept d₁ d₂ d₃ d₄ d₅ = (d₁ ≡ c₁) × (d₂ ≡ c₂) × (d₃ ≡ c₃) × (d₄ ≡ c₄) × (d₅ ≡ c₅)
-
-  pub record AnswerCalled (r : ℕ) (d₁ d₂ d₃ d₄ d₅ : List ℤ) (ws′ : List ℕ) : Type 0 where
-    pub answer : Called answered-number answered-after (AnswerCall d₁ d₂ d₃ d₄ d₅) (AnswerKept d₁ d₂ d₃ d₄ d₅) (ready ts true (leb reply-words (length ws))) ws
-        r ws′
+pub record AnswerCalled (ts part : List ℕ) (l : Lent) (old : Columns) (ws : List ℕ) (r : ℕ) (new : Columns) (ws′ : List ℕ) : Type 0 where
+  pub answer :
+      Called answered-number answered-after (λ t a. AnswerPromise t part l old a new) (new ≡ old)
+      (asked-tally ts true (leb reply-words (length ws))) ws r ws′

@@ -3,30 +3,30 @@ use mathlib.Core.Bool.{Bool, _&&_}
 use mathlib.Core.List.{List, _∷_}
 use Prim.Native.Nat.{ℕ, zero, suc}
 use lib.Dec.{leb, ltb}
-use lib.IntN.{ℤ}
-use lib.ListN.{length, set, drop}
+use lib.ListN.{length, drop}
 use Rattle.rules.specs.declared.Direction.{Direction}
 use Rattle.rules.specs.declared.Direction.the-variants.{Raise, Lower}
 use Rattle.rules.specs.declared.Reason.the-variants.{UnreliableRegion, BadUnit, NoGoodUnit}
 use Rattle.rules.specs.declared.Standing.{Standing}
 use Rattle.rules.specs.declared.Standing.the-variants.{Live, Default}
-use Rattle.rules.specs.declared.Refusal.the-variants.{OutOfTurn, TooShort}
+use Rattle.rules.specs.declared.Refusal.the-variants.{WrongState, TooShort}
 use Rattle.rules.specs.Refusals.{Reply, taken, unless, number, _>>=_}
 use Rattle.interval.specs.declared.Tally.{Tally}
 use Rattle.interval.specs.Tally.{in-range, answer-turn}
+use Rattle.interval.specs.Lent.{Lent}
 use Rattle.answer.specs.declared.Row.{Row}
 use Rattle.answer.specs.declared.Row.the-variants as w
 use Rattle.answer.specs.Roster.{MemberPromise}
 use Rattle.dullavane.specs.Words.{held}
 use Rattle.dullavane.specs.Called.{Called}
 
--- the tally at its turn, what is asked in range, and room for the answer
+-- the tally at its turn, what it is asked by within its width, and words that are long enough for the answer
 unfoldable pub in-turn : Bool → Bool → Tally → Reply Tally
-in-turn fine room t =
-    unless (in-range t && answer-turn t) OutOfTurn (unless fine OutOfTurn (unless room TooShort (taken t)))
+in-turn narrow long t =
+    unless (in-range t && answer-turn t) WrongState (unless narrow WrongState (unless long TooShort (taken t)))
 
-unfoldable pub ready : List ℕ → Bool → Bool → Reply Tally
-ready ws fine room = held ws >>= in-turn fine room
+unfoldable pub asked-tally : List ℕ → Bool → Bool → Reply Tally
+asked-tally ws narrow long = held ws >>= in-turn narrow long
 
 -- a number that is asked by is within its width: a row 16 bits, a region set 8; a direction is 0 or 1
 abbrev pub asked-narrow : ℕ → ℕ → ℕ → Bool
@@ -60,7 +60,7 @@ row-after (w.Unit n s) ws = with-row 1 n (standing-number s) ws
 row-after w.Other ws = with-row 0 0 0 ws
 row-after (w.Refused r) ws = ws
 
-module _ (ts : List ℕ) (row direction set : ℕ) (figures : List ℤ) (numbers places ws : List ℕ) where
-  pub record MemberCalled (r : ℕ) (ws′ : List ℕ) : Type 0 where
-    pub answer : Called row-number row-after (λ t s. MemberPromise row (t .units) (direction-of direction) set figures numbers places s) (Unit {0})
-        (ready ts (asked-narrow row direction set) (leb member-words (length ws))) ws r ws′
+pub record MemberCalled (ts : List ℕ) (row direction set : ℕ) (l : Lent) (ws : List ℕ) (r : ℕ) (ws′ : List ℕ) : Type 0 where
+  pub answer :
+      Called row-number row-after (λ t s. MemberPromise t row (direction-of direction) set l s) (Unit {0})
+      (asked-tally ts (asked-narrow row direction set) (leb member-words (length ws))) ws r ws′

@@ -16,11 +16,11 @@ module _ {S : Type 0} (told : S → ℕ) (after : S → List ℕ → List ℕ) w
     pub words : ws′ ≡ after step ws
 
 -- Kept says that every other lent list stays
-pub record Unheld (Kept : Type 0) (refusal : Refusal) (ws : List ℕ) (r : ℕ) (ws′ : List ℕ) : Type 0 where
+pub record CallRefused (Kept : Type 0) (refusal : Refusal) (ws : List ℕ) (r : ℕ) (ws′ : List ℕ) : Type 0 where
   pub reply : r ≡ number refusal
   pub words : ws′ ≡ ws
   pub kept : Kept
 
 unfoldable pub Called : {S : Type 0} → (S → ℕ) → (S → List ℕ → List ℕ) → (Tally → S → Type 0) → Type 0 → Reply Tally → List ℕ → ℕ → List ℕ → Type 0
 Called told after Call Kept (taken t) ws r ws′ = Stepped told after (Call t) ws r ws′
-Called told after Call Kept (refused refusal) ws r ws′ = Unheld Kept refusal ws r ws′
+Called told after Call Kept (refused refusal) ws r ws′ = CallRefused Kept refusal ws r ws′

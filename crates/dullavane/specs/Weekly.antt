@@ -6,7 +6,7 @@ use Prim.Native.Nat.{ℕ, _+_, _*_, _/_, _%_, _≤_, _<_}
 use lib.Dec.{leb, ltb, eqb}
 use lib.IntN.{ℤ, pos}
 use lib.ListN.{length, getD, drop}
-use Rattle.rules.specs.declared.Refusal.the-variants.{OutOfTurn, TooShort}
+use Rattle.rules.specs.declared.Refusal.the-variants.{WrongState, TooShort}
 use Rattle.rules.specs.declared.RunningWeek.{RunningWeek}
 use Rattle.rules.specs.declared.WeekDefault.{WeekDefault}
 use Rattle.rules.specs.Refusals.{Reply, taken, unless, number, _>>=_}
@@ -40,7 +40,7 @@ week-of ws =
 -- the running week that words hold, or why they hold none: a bit past the three fields is a record out of range
 unfoldable pub week-held : List ℕ → Reply RunningWeek
 week-held ws =
-    unless (leb week-words (length ws)) TooShort (unless (ltb (getD ws 1 0) 281_474_976_710_656) OutOfTurn (taken (week-of ws)))
+    unless (leb week-words (length ws)) TooShort (unless (ltb (getD ws 1 0) 281_474_976_710_656) WrongState (taken (week-of ws)))
 
 -- ---- a week's count and default in two numbers, and those past them as they were
 abbrev pub default-numbers : ℕ

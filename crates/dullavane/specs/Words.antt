@@ -6,7 +6,7 @@ use mathlib.Core.List.{List, [], _∷_, _++_}
 use Prim.Native.Nat.{ℕ, _≤_, _<_}
 use lib.Dec.{leb, ltb}
 use lib.ListN.{length, getD, drop}
-use Rattle.rules.specs.declared.Refusal.the-variants.{OutOfTurn, TooShort}
+use Rattle.rules.specs.declared.Refusal.the-variants.{WrongState, TooShort}
 use Rattle.rules.specs.Refusals.{Reply, taken, refused, unless, number}
 use Rattle.interval.specs.declared.Tally.{Tally}
 use Rattle.interval.specs.declared.Step.{Step}
@@ -49,7 +49,7 @@ words-fit ws =
 
 -- the tally that words hold, or why they hold none
 unfoldable pub held : List ℕ → Reply Tally
-held ws = unless (leb tally-words (length ws)) TooShort (unless (words-fit ws) OutOfTurn (taken (tally-of ws)))
+held ws = unless (leb tally-words (length ws)) TooShort (unless (words-fit ws) WrongState (taken (tally-of ws)))
 
 -- 0, or the refusal's number
 abbrev pub reply-number : {A : Type 0} → Reply A → ℕ

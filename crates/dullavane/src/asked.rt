@@ -4,12 +4,12 @@ ghost use mathlib.Core.Bool.{_&&_};
 ghost use Prim.Native.Nat.{_≤_};
 ghost use lib.ListN.{length};
 ghost use Rattle.dullavane.specs.Words.{reply-number};
-ghost use Rattle.dullavane.specs.Asked.{ready, asked-narrow, direction-of, standing-number, with-row, row-number, row-after};
+ghost use Rattle.dullavane.specs.Asked.{asked-tally, asked-narrow, direction-of, standing-number, with-row, row-number, row-after};
 ghost use Rattle.dullavane.specs.Answers.{with-answer, answered-number, answered-after};
 use super::words::OVER_8_BITS;
 use super::words::OVER_16_BITS;
 use super::words::tally_in;
-use super::words::unheld;
+use super::words::words_refusal;
 use answer::Answer;
 use answer::Answered;
 use answer::Row;
@@ -21,21 +21,21 @@ use rules::Standing;
 use rules::refusal_number;
 
 // 0 where words hold a tally with every unit in and the answer can be given, else why not: 12 and 11 for the words, 11 out of turn, 11 where
-// what is asked is out of range, then 12 where there is no room for the answer.
-pub(crate) fn unready(words: &[u32], fine: bool, room: bool) -> u32
-    ensures { λ r. ⌜ r ≡ reply-number (ready (now (words .entry)) fine room) ⌝ }
+// a number that it is asked by is over its width, then 12 where the words for the answer are too few.
+pub(crate) fn asked_refusal(words: &[u32], narrow: bool, long: bool) -> u32
+    ensures { λ r. ⌜ r ≡ reply-number (asked-tally (now (words .entry)) narrow long) ⌝ }
 {
-    let refusal = unheld(words);
+    let refusal = words_refusal(words);
     if refusal != 0 {
         return refusal;
     }
     if !answer_turn(tally_in(words)) {
-        return refusal_number(Refusal::OutOfTurn);
+        return refusal_number(Refusal::WrongState);
     }
-    if !fine {
-        return refusal_number(Refusal::OutOfTurn);
+    if !narrow {
+        return refusal_number(Refusal::WrongState);
     }
-    if !room {
+    if !long {
         return refusal_number(Refusal::TooShort);
     }
     0

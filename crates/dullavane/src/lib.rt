@@ -1,15 +1,17 @@
 // dullavane: the calls as the firmware makes them from C. Only numbers and lists cross over; the tally stands in eight lent words. A call answers 0, or the
 // number of the refusal, and then nothing lent has changed.
+ghost use Rattle.interval.specs.Lent.{Lent, lent-frequency, lent-unit, lent-answer, lent-member};
+ghost use Rattle.answer.specs.Promises.{columns};
 ghost use Rattle.dullavane.specs.Answers.{AnswerCalled};
 ghost use Rattle.dullavane.specs.Asked.{MemberCalled};
 ghost use Rattle.dullavane.specs.Weekly.{WeekCalled, WeeksCalled, WeekAddCalled, WeekReadCalled};
 ghost use Rattle.dullavane.specs.Promises.{ContentsCalled, SettingsCalled, FrequencyCalled, UnitCalled, RequirementCalled};
 use answer::roster::member;
+use asked::asked_refusal;
 use asked::direction_of;
 use asked::narrow_asked;
 use asked::tell_answer;
 use asked::tell_row;
-use asked::unready;
 use frequencies::frequency::frequency;
 use interval::Opened;
 use interval::contents::contents;
@@ -19,6 +21,7 @@ use rules::Refusal;
 use rules::refusal_number;
 use units::unit::unit;
 use weekly::DEFAULT_NUMBERS;
+use weekly::as_group;
 use weekly::tell_default;
 use weekly::tell_week;
 use weekly::week_in;
@@ -33,7 +36,7 @@ use words::TALLY_WORDS;
 use words::put_words;
 use words::tally_in;
 use words::tell;
-use words::unheld;
+use words::words_refusal;
 
 mod asked;
 mod weekly;
@@ -68,7 +71,7 @@ pub extern "C" fn dullavane_contents(part: &[u8], tally: &mut [u32]) -> u32
 pub extern "C" fn dullavane_settings(tally: &mut [u32], part: &[u8]) -> u32
     ensures { λ r. ⌜ SettingsCalled (now (tally .entry)) (now (part .entry)) r (now (tally .exit)) ⌝ }
 {
-    let refusal = unheld(tally);
+    let refusal = words_refusal(tally);
     if refusal != 0 {
         return refusal;
     }
@@ -80,70 +83,56 @@ pub extern "C" fn dullavane_settings(tally: &mut [u32], part: &[u8]) -> u32
 pub extern "C" fn dullavane_frequency(
     tally: &mut [u32],
     part: &[u8],
-    frequencies: &mut [u32],
     measures: &mut [i32],
-    positive: &mut [i64],
-    negative: &mut [i64],
+    sums: &mut [i64],
     figures: &mut [i64],
 ) -> u32
-    ensures { λ r. ⌜ FrequencyCalled (now (tally .entry)) (now (part .entry)) (now (frequencies .entry)) (now (measures .entry)) (now (positive .entry))
-        (now (negative .entry)) (now (figures .entry)) r (now (tally .exit)) (now (frequencies .exit)) (now (measures .exit)) (now (positive .exit))
-        (now (negative .exit)) (now (figures .exit)) ⌝ }
+    ensures { λ r. ⌜
+        ((rest : Lent) → FrequencyCalled (now (tally .entry)) (now (part .entry))
+        (lent-frequency rest (now (measures .entry)) (now (sums .entry)) (now (figures .entry))) r (now (tally .exit))
+        (lent-frequency rest (now (measures .exit)) (now (sums .exit)) (now (figures .exit))))
+        ⌝ }
 {
-    let refusal = unheld(tally);
+    let refusal = words_refusal(tally);
     if refusal != 0 {
         return refusal;
     }
-    let step = frequency(
-        tally_in(tally),
-        part,
-        frequencies,
-        measures,
-        positive,
-        negative,
-        figures,
-    );
+    let step = frequency(tally_in(tally), part, measures, sums, figures);
     tell(step, tally)
 }
 
-// Takes a unit. Refuses 12 for the tally's words, 11, 12, 11 for lent numbers of its region, then 1, 8 and 9.
+// Takes a unit. Refuses 12 for the tally's words, 11, 12, 11 for lent numbers, then 1, 8 and 9.
 #[no_mangle]
 pub extern "C" fn dullavane_unit(
     tally: &mut [u32],
     part: &[u8],
-    readings: &mut [i32],
-    deviations: &mut [i64],
     measures: &[i32],
-    positive: &mut [i64],
-    negative: &mut [i64],
+    sums: &mut [i64],
+    figures: &[i64],
     numbers: &mut [u16],
-    places: &mut [u8],
-    raise: &mut [i64],
-    lower: &mut [i64],
-    defaults: &mut [i64],
+    homes: &mut [u8],
+    rows: &mut [i64],
 ) -> u32
-    ensures { λ r. ⌜ UnitCalled (now (tally .entry)) (now (part .entry)) (now (readings .entry)) (now (deviations .entry)) (now (measures .entry))
-        (now (positive .entry)) (now (negative .entry)) (now (numbers .entry)) (now (places .entry)) (now (raise .entry)) (now (lower .entry))
-        (now (defaults .entry)) r (now (tally .exit)) (now (readings .exit)) (now (deviations .exit)) (now (positive .exit)) (now (negative .exit))
-        (now (numbers .exit)) (now (places .exit)) (now (raise .exit)) (now (lower .exit)) (now (defaults .exit)) ⌝ }
+    ensures { λ r. ⌜
+        UnitCalled (now (tally .entry)) (now (part .entry))
+        (lent-unit (now (measures .entry)) (now (sums .entry)) (now (figures .entry)) (now (numbers .entry)) (now (homes .entry)) (now (rows .entry))) r
+        (now (tally .exit))
+        (lent-unit (now (measures .entry)) (now (sums .exit)) (now (figures .entry)) (now (numbers .exit)) (now (homes .exit)) (now (rows .exit)))
+        ⌝ }
 {
-    let refusal = unheld(tally);
+    let refusal = words_refusal(tally);
     if refusal != 0 {
         return refusal;
     }
     let step = unit(
         tally_in(tally),
         part,
-        readings,
-        deviations,
         measures,
-        positive,
-        negative,
+        sums,
+        figures,
         numbers,
-        places,
-        raise,
-        lower,
-        defaults,
+        homes,
+        rows,
     );
     tell(step, tally)
 }
@@ -153,7 +142,7 @@ pub extern "C" fn dullavane_unit(
 pub extern "C" fn dullavane_requirement(tally: &mut [u32], part: &[u8]) -> u32
     ensures { λ r. ⌜ RequirementCalled (now (tally .entry)) (now (part .entry)) r (now (tally .exit)) ⌝ }
 {
-    let refusal = unheld(tally);
+    let refusal = words_refusal(tally);
     if refusal != 0 {
         return refusal;
     }
@@ -167,13 +156,10 @@ pub extern "C" fn dullavane_answer(
     tally: &[u32],
     part: &[u8],
     measures: &[i32],
-    positive: &[i64],
-    negative: &[i64],
+    sums: &[i64],
     figures: &[i64],
-    places: &[u8],
-    raise: &[i64],
-    lower: &[i64],
-    defaults: &[i64],
+    homes: &[u8],
+    rows: &[i64],
     performances: &mut [i64],
     factors: &mut [i64],
     payments: &mut [i64],
@@ -181,12 +167,16 @@ pub extern "C" fn dullavane_answer(
     unused: &mut [i64],
     reply: &mut [u64],
 ) -> u32
-    ensures { λ r. ⌜ AnswerCalled (now (tally .entry)) (now (part .entry)) (now (measures .entry)) (now (positive .entry)) (now (negative .entry))
-        (now (figures .entry)) (now (places .entry)) (now (raise .entry)) (now (lower .entry)) (now (defaults .entry)) (now (performances .entry))
-        (now (factors .entry)) (now (payments .entry)) (now (used .entry)) (now (unused .entry)) (now (reply .entry)) r (now (performances .exit))
-        (now (factors .exit)) (now (payments .exit)) (now (used .exit)) (now (unused .exit)) (now (reply .exit)) ⌝ }
+    ensures { λ r. ⌜
+        ((rest : Lent) → AnswerCalled (now (tally .entry)) (now (part .entry))
+        (lent-answer rest (now (measures .entry)) (now (sums .entry)) (now (figures .entry)) (now (homes .entry)) (now (rows .entry)))
+        (columns (now (performances .entry)) (now (factors .entry)) (now (payments .entry)) (now (used .entry)) (now (unused .entry)))
+        (now (reply .entry)) r
+        (columns (now (performances .exit)) (now (factors .exit)) (now (payments .exit)) (now (used .exit)) (now (unused .exit)))
+        (now (reply .exit)))
+        ⌝ }
 {
-    let refusal = unready(tally, true, REPLY_WORDS <= reply.len());
+    let refusal = asked_refusal(tally, true, REPLY_WORDS <= reply.len());
     if refusal != 0 {
         return refusal;
     }
@@ -194,13 +184,10 @@ pub extern "C" fn dullavane_answer(
         tally_in(tally),
         part,
         measures,
-        positive,
-        negative,
+        sums,
         figures,
-        places,
-        raise,
-        lower,
-        defaults,
+        homes,
+        rows,
         performances,
         factors,
         payments,
@@ -211,7 +198,7 @@ pub extern "C" fn dullavane_answer(
 }
 
 // Who stands in a row, for a requirement of this direction and region set: three words. Refuses 12 for the tally's words, 11 out of turn or
-// for a number over its width, 12 for the three words, then as `members` does: 11 for row and set, 12 for lists, 11 for lent numbers.
+// for a number over its width, 12 for the three words, then as `member` does: 11 for row and set, 12 for lists, 11 for lent numbers.
 #[no_mangle]
 pub extern "C" fn dullavane_member(
     tally: &[u32],
@@ -220,27 +207,29 @@ pub extern "C" fn dullavane_member(
     set: u32,
     figures: &[i64],
     numbers: &[u16],
-    places: &[u8],
+    homes: &[u8],
     words: &mut [u32],
 ) -> u32
-    ensures { λ r. ⌜ MemberCalled (now (tally .entry)) row direction set (now (figures .entry)) (now (numbers .entry)) (now (places .entry))
-        (now (words .entry)) r (now (words .exit)) ⌝ }
+    ensures { λ r. ⌜
+        ((rest : Lent) → MemberCalled (now (tally .entry)) row direction set
+        (lent-member rest (now (figures .entry)) (now (numbers .entry)) (now (homes .entry))) (now (words .entry)) r (now (words .exit)))
+        ⌝ }
 {
-    let fine = narrow_asked(row, direction, set);
-    let refusal = unready(tally, fine, MEMBER_WORDS <= words.len());
+    let narrow = narrow_asked(row, direction, set);
+    let refusal = asked_refusal(tally, narrow, MEMBER_WORDS <= words.len());
     if refusal != 0 {
         return refusal;
     }
     let before = tally_in(tally);
     let toward = direction_of(direction);
     let found = member(
+        before,
         row as u16,
-        before.units,
         toward,
         set as u8,
         figures,
         numbers,
-        places,
+        homes,
     );
     tell_row(found, words)
 }
@@ -295,7 +284,7 @@ pub extern "C" fn dullavane_week_add(
     if refusal != 0 {
         return refusal;
     }
-    let added = add(whose_of(whose), live != 0, performance, week_in(week));
+    let added = add(as_group(whose), live != 0, performance, week_in(week));
     tell_week(added, week)
 }
 

@@ -2,12 +2,17 @@
 ghost use mathlib.Core.Path.{_≡_};
 ghost use Prim.Native.Nat.{_≤_};
 ghost use lib.ListN.{length};
+ghost use Rattle.rules.specs.declared.Whose.the-variants.{Group};
 ghost use Rattle.rules.specs.Refusals.{taken};
+ghost use Rattle.rules.specs.WeekRoster.{whose-of};
+ghost use Rattle.weeks.specs.Runs.{units-of};
 ghost use Rattle.dullavane.specs.Words.{reply-number};
 ghost use Rattle.dullavane.specs.Weekly.{week-held, WeekHeld, with-week, added-number, week-after, with-default, told-number, default-after};
+use rules::MOST_UNITS;
 use rules::Refusal;
 use rules::RunningWeek;
 use rules::WeekDefault;
+use rules::Whose;
 use rules::refusal_number;
 use weeks::Added;
 use weeks::Told;
@@ -31,7 +36,7 @@ pub(crate) fn week_unheld(words: &[u64]) -> u32
         return refusal_number(Refusal::TooShort);
     }
     if PAST_THE_FIELDS <= words[1] {
-        return refusal_number(Refusal::OutOfTurn);
+        return refusal_number(Refusal::WrongState);
     }
     0
 }
@@ -48,6 +53,16 @@ pub(crate) fn week_in(words: &[u64]) -> RunningWeek
         high: (fields / THIRD_FIELD) as u16,
         low: words[0],
     }
+}
+
+// The group that reaches as far as a member, by the member's number: an interval is added to both alike, and no test of who the member is comes after.
+pub(crate) fn as_group(number: u16) -> Whose
+    ensures { λ r. ⌜ r ≡ Group (units-of (whose-of number)) ⌝ }
+{
+    if number == 0 {
+        return Whose::Group(MOST_UNITS);
+    }
+    Whose::Group(number)
 }
 
 // Words past the two stay.

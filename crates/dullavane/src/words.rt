@@ -42,14 +42,14 @@ fn narrow(words: &[u32]) -> bool
 }
 
 // 0 where words hold a tally, else why they hold none: 12 for fewer than eight words, then 11 for a word over its field's width.
-pub(crate) fn unheld(words: &[u32]) -> u32
+pub(crate) fn words_refusal(words: &[u32]) -> u32
     ensures { λ r. ⌜ r ≡ reply-number (held (now (words .entry))) ⌝ }
 {
     if words.len() < TALLY_WORDS {
         return refusal_number(Refusal::TooShort);
     }
     if !narrow(words) {
-        return refusal_number(Refusal::OutOfTurn);
+        return refusal_number(Refusal::WrongState);
     }
     0
 }

@@ -2,4 +2,5 @@
 // in lent lists. The tally is that of `interval`, whose specs/ have the promise.
 pub mod frequency;
 mod measure;
+mod points;
 mod reliability;

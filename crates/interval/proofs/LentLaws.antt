@@ -16,7 +16,7 @@ use Rattle.integers.proofs.Sums.{none-below}
 use Rattle.integers.specs.Fills.{filled}
 use Rattle.integers.proofs.Fills.{filled-none, filled-more, filled-length, filled-at, filled-past, filled-ext}
 use lib.Signed.{ltZ, leZ}
-use Rattle.interval.specs.Lent.{placed, is-number}
+use Rattle.interval.specs.Lent.{put-from, is-number}
 
 module _ {A : Type 0} where
   filled-empty : (n : ℕ) (g : ℕ → A) → filled n g [] ≡ []
@@ -26,57 +26,57 @@ module _ {A : Type 0} where
       none [] e = refl
       none (x ∷ xs) e = absurd (omega arith)
 
-  pub placed-none : (start : ℕ) (g : ℕ → A) (xs : List A) → placed start 0 g xs ≡ xs
-  placed-none zero g xs = filled-none g xs
-  placed-none (suc start) g [] = filled-none g []
-  placed-none (suc start) g (x ∷ xs) = ap (λ (ys : List A). x ∷ ys) (placed-none start g xs)
+  pub put-none : (start : ℕ) (g : ℕ → A) (xs : List A) → put-from start 0 g xs ≡ xs
+  put-none zero g xs = filled-none g xs
+  put-none (suc start) g [] = filled-none g []
+  put-none (suc start) g (x ∷ xs) = ap (λ (ys : List A). x ∷ ys) (put-none start g xs)
 
-  pub placed-length : (start n : ℕ) (g : ℕ → A) (xs : List A) → length (placed start n g xs) ≡ length xs
-  placed-length zero n g xs = filled-length n g xs
-  placed-length (suc start) n g [] = filled-length n g []
-  placed-length (suc start) n g (x ∷ xs) = ap suc (placed-length start n g xs)
+  pub put-length : (start n : ℕ) (g : ℕ → A) (xs : List A) → length (put-from start n g xs) ≡ length xs
+  put-length zero n g xs = filled-length n g xs
+  put-length (suc start) n g [] = filled-length n g []
+  put-length (suc start) n g (x ∷ xs) = ap suc (put-length start n g xs)
 
   -- what is placed stands there
-  pub placed-at : (start n : ℕ) (g : ℕ → A) (xs : List A) (i : ℕ) (d : A) → i < n → start + i < length xs → getD (placed start n g xs) (start + i) d ≡ g i
-  placed-at zero n g xs i d h l = rw (zero-add i) (filled-at n g xs i d h (omega arith))
-  placed-at (suc start) n g [] i d h l = none-below (suc start + i) l
-  placed-at (suc start) n g (x ∷ xs) i d h l = rw (suc-add start i) (placed-at start n g xs i d h (omega arith))
+  pub put-at : (start n : ℕ) (g : ℕ → A) (xs : List A) (i : ℕ) (d : A) → i < n → start + i < length xs → getD (put-from start n g xs) (start + i) d ≡ g i
+  put-at zero n g xs i d h l = rw (zero-add i) (filled-at n g xs i d h (omega arith))
+  put-at (suc start) n g [] i d h l = none-below (suc start + i) l
+  put-at (suc start) n g (x ∷ xs) i d h l = rw (suc-add start i) (put-at start n g xs i d h (omega arith))
 
   -- what stands before it and after it stays
-  pub placed-before : (start n : ℕ) (g : ℕ → A) (xs : List A) (i : ℕ) (d : A) → i < start → getD (placed start n g xs) i d ≡ getD xs i d
-  placed-before zero n g xs i d h = none-below i h
-  placed-before (suc start) n g [] i d h = rw (filled-empty n g)
-  placed-before (suc start) n g (x ∷ xs) zero d h = refl
-  placed-before (suc start) n g (x ∷ xs) (suc i) d h = placed-before start n g xs i d (omega arith)
+  pub put-before : (start n : ℕ) (g : ℕ → A) (xs : List A) (i : ℕ) (d : A) → i < start → getD (put-from start n g xs) i d ≡ getD xs i d
+  put-before zero n g xs i d h = none-below i h
+  put-before (suc start) n g [] i d h = rw (filled-empty n g)
+  put-before (suc start) n g (x ∷ xs) zero d h = refl
+  put-before (suc start) n g (x ∷ xs) (suc i) d h = put-before start n g xs i d (omega arith)
 
-  pub placed-past : (start n : ℕ) (g : ℕ → A) (xs : List A) (i : ℕ) (d : A) → start + n ≤ i → getD (placed start n g xs) i d ≡ getD xs i d
-  placed-past zero n g xs i d h = filled-past n g xs i d (omega arith)
-  placed-past (suc start) n g [] i d h = rw (filled-empty n g)
-  placed-past (suc start) n g (x ∷ xs) zero d h = refl
-  placed-past (suc start) n g (x ∷ xs) (suc i) d h = placed-past start n g xs i d (omega arith)
+  pub put-past : (start n : ℕ) (g : ℕ → A) (xs : List A) (i : ℕ) (d : A) → start + n ≤ i → getD (put-from start n g xs) i d ≡ getD xs i d
+  put-past zero n g xs i d h = filled-past n g xs i d (omega arith)
+  put-past (suc start) n g [] i d h = rw (filled-empty n g)
+  put-past (suc start) n g (x ∷ xs) zero d h = refl
+  put-past (suc start) n g (x ∷ xs) (suc i) d h = put-past start n g xs i d (omega arith)
 
-  pub placed-ext : (start n : ℕ) (f g : ℕ → A) (xs : List A) → ((i : ℕ) → i < n → f i ≡ g i) → placed start n f xs ≡ placed start n g xs
-  placed-ext start n f g xs e = ap (λ (ys : List A). take start xs ++ ys) (filled-ext n f g (drop start xs) e)
+  pub put-ext : (start n : ℕ) (f g : ℕ → A) (xs : List A) → ((i : ℕ) → i < n → f i ≡ g i) → put-from start n f xs ≡ put-from start n g xs
+  put-ext start n f g xs e = ap (λ (ys : List A). take start xs ++ ys) (filled-ext n f g (drop start xs) e)
 
   -- one more
-  placed-more : (start n : ℕ) (g : ℕ → A) (xs : List A) → set (placed start n g xs) (start + n) (g n) ≡ placed start (n + 1) g xs
-  placed-more zero n g xs = rw (zero-add n) (filled-more n g xs)
-  placed-more (suc start) n g [] = rw (filled-empty n g, filled-empty (n + 1) g)
-  placed-more (suc start) n g (x ∷ xs) = rw (suc-add start n) (ap (λ (ys : List A). x ∷ ys) (placed-more start n g xs))
+  put-more : (start n : ℕ) (g : ℕ → A) (xs : List A) → set (put-from start n g xs) (start + n) (g n) ≡ put-from start (n + 1) g xs
+  put-more zero n g xs = rw (zero-add n) (filled-more n g xs)
+  put-more (suc start) n g [] = rw (filled-empty n g, filled-empty (n + 1) g)
+  put-more (suc start) n g (x ∷ xs) = rw (suc-add start n) (ap (λ (ys : List A). x ∷ ys) (put-more start n g xs))
 
-  pub placed-store : (start n : ℕ) (g : ℕ → A) (xs ys : List A) (place : ℕ) (z : A) → ys ≡ placed start n g xs → place ≡ start + n → z ≡ g n →
-      set ys place z ≡ placed start (n + 1) g xs
-  placed-store start n g xs ys place z e at is = rw (e, at, is) (placed-more start n g xs)
+  pub put-store : (start n : ℕ) (g : ℕ → A) (xs ys : List A) (place : ℕ) (z : A) → ys ≡ put-from start n g xs → place ≡ start + n → z ≡ g n →
+      set ys place z ≡ put-from start (n + 1) g xs
+  put-store start n g xs ys place z e at is = rw (e, at, is) (put-more start n g xs)
 
   -- numbers that are placed right after others
-  pub placed-further : (start m n : ℕ) (g : ℕ → A) (xs : List A) → placed (start + m) n (λ i. g (m + i)) (placed start m g xs) ≡ placed start (m + n) g xs
-  placed-further start m zero g xs = placed-none (start + m) (λ i. g (m + i)) (placed start m g xs) ∙ ap (λ (k : ℕ). placed start k g xs) (sym (add-zero m))
-  placed-further start m (suc n) g xs =
-      let more = placed-store (start + m) n (λ i. g (m + i)) (placed start m g xs) (placed start (m + n) g xs) (start + (m + n)) (g (m + n))
-      (sym (placed-further start m n g xs)) (omega arith) refl in
-      let all = placed-store start (m + n) g xs (placed start (m + n) g xs) (start + (m + n)) (g (m + n)) refl refl refl in
+  pub put-further : (start m n : ℕ) (g : ℕ → A) (xs : List A) → put-from (start + m) n (λ i. g (m + i)) (put-from start m g xs) ≡ put-from start (m + n) g xs
+  put-further start m zero g xs = put-none (start + m) (λ i. g (m + i)) (put-from start m g xs) ∙ ap (λ (k : ℕ). put-from start k g xs) (sym (add-zero m))
+  put-further start m (suc n) g xs =
+      let more = put-store (start + m) n (λ i. g (m + i)) (put-from start m g xs) (put-from start (m + n) g xs) (start + (m + n)) (g (m + n))
+      (sym (put-further start m n g xs)) (omega arith) refl in
+      let all = put-store start (m + n) g xs (put-from start (m + n) g xs) (start + (m + n)) (g (m + n)) refl refl refl in
       let one-more : n + 1 ≡ suc n = add-one n in
-      rw (← one-more) (sym more ∙ all ∙ ap (λ (k : ℕ). placed start k g xs) (omega arith))
+      rw (← one-more) (sym more ∙ all ∙ ap (λ (k : ℕ). put-from start k g xs) (omega arith))
 
 -- ---- a part that is lent from a place to the end: what it holds, and the whole once it is back
 module _ {A : Type 0} where

@@ -6,7 +6,7 @@ use Prim.Native.Nat.{ℕ, _+_}
 use lib.Dec.{eqb, leb, ltb}
 use lib.ListN.{length}
 use Rattle.rules.specs.declared.Refusal.{Refusal}
-use Rattle.rules.specs.declared.Refusal.the-variants.{OutOfTurn, TooShort}
+use Rattle.rules.specs.declared.Refusal.the-variants.{WrongState, TooShort}
 use Rattle.rules.specs.Refusals.{Reply, taken, refused, unless}
 use Rattle.rules.specs.Book.{Settings, Region, Unit, Requirement}
 use Rattle.rules.specs.Contents.{Counts}
@@ -75,11 +75,11 @@ counted least t =
 
 -- a tally that counts as many records as a book can have counts no further
 unfoldable pub count-step : ℕ → Tally → Step
-count-step least t = cond (ltb (t .records) most-records) (taken-step (counted least t)) (refused-step t OutOfTurn)
+count-step least t = cond (ltb (t .records) most-records) (taken-step (counted least t)) (refused-step t WrongState)
 
 -- ---- settings
 unfoldable pub settings-reply : Tally → List ℕ → Reply Settings
-settings-reply t part = unless (in-range t && settings-turn t) OutOfTurn (settings part)
+settings-reply t part = unless (in-range t && settings-turn t) WrongState (settings part)
 
 abbrev pub settled : Tally → Settings → Tally
 settled t s =
@@ -97,7 +97,7 @@ settled t s =
 -- ---- a frequency record
 unfoldable pub frequency-reply : Tally → List ℕ → Lent → Reply Region
 frequency-reply t part l =
-    unless (in-range t && frequency-turn t) OutOfTurn
+    unless (in-range t && frequency-turn t) WrongState
     (unless (regions-long l) TooShort
     (frequency-record (next-region t) part))
 
@@ -108,9 +108,9 @@ unit-long n l = regions-long l && (leb n (length (l .numbers)) && rows-long n l)
 
 unfoldable pub unit-reply : Tally → List ℕ → Lent → Reply Unit
 unit-reply t part l =
-    unless (in-range t && unit-turn t) OutOfTurn
+    unless (in-range t && unit-turn t) WrongState
     (unless (unit-long (units-taken t + 1) l) TooShort
-    (unless (of-interval (t .interval) (l .figures) && series-in-range (named-region part) (units-taken t) l) OutOfTurn
+    (unless (of-interval (t .interval) (l .figures) && series-in-range (named-region part) (units-taken t) l) WrongState
     (unit-record (t .least) part)))
 
 -- after the last unit the first requirement may have any number
@@ -122,4 +122,4 @@ unit-counted t u = counted (least-after t (u .number)) t
 
 -- ---- a requirement
 unfoldable pub requirement-reply : Tally → List ℕ → Reply Requirement
-requirement-reply t part = unless (in-range t && requirement-turn t) OutOfTurn (requirement-record (t .least) (eqb (t .records + 1) (book-end t)) part)
+requirement-reply t part = unless (in-range t && requirement-turn t) WrongState (requirement-record (t .least) (eqb (t .records + 1) (book-end t)) part)

@@ -42,8 +42,8 @@ lent-member rest gs us hs =
     record { measures = rest .measures; sums = rest .sums; figures = gs; numbers = us; homes = hs; rows = rest .rows }
 
 -- n numbers of g from a place on; all others stay
-abbrev pub placed : {A : Type 0} → ℕ → ℕ → (ℕ → A) → List A → List A
-placed place n g xs = take place xs ++ filled n g (drop place xs)
+abbrev pub put-from : {A : Type 0} → ℕ → ℕ → (ℕ → A) → List A → List A
+put-from place n g xs = take place xs ++ filled n g (drop place xs)
 
 -- ---- measures: 75 a region
 abbrev pub series-start : ℕ → ℕ
@@ -77,7 +77,7 @@ side-part u j = wanted (side-of j) (deviation u (j % points))
 -- a good unit's deviations are added to the sums of its region
 abbrev pub summed : Unit → List ℤ → List ℤ
 summed u old =
-    cond (good u) (placed (sums-start (u .region)) sums-each (λ j. getD old (sums-start (u .region) + j) (pos 0) +ℤ side-part u j) old) old
+    cond (good u) (put-from (sums-start (u .region)) sums-each (λ j. getD old (sums-start (u .region) + j) (pos 0) +ℤ side-part u j) old) old
 
 -- ---- figures: ten a region, the interval number of its book, generation, whether raise and lower are reliable (1 or 0), six defaults in the book's order
 abbrev pub figures-each : ℕ

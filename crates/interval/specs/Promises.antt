@@ -12,7 +12,7 @@ use Rattle.interval.specs.declared.Tally.{Tally}
 use Rattle.interval.specs.declared.Opened.{Opened}
 use Rattle.interval.specs.declared.Step.{Step}
 use Rattle.interval.specs.Tally.{settings-of, next-region, units-taken}
-use Rattle.interval.specs.Lent.{Lent, placed, series-start, sums-each, sums-start, summed, figures-each, figures-of, home-of, row-each, row-of}
+use Rattle.interval.specs.Lent.{Lent, put-from, series-start, sums-each, sums-start, summed, figures-each, figures-of, home-of, row-each, row-of}
 use Rattle.interval.specs.Calls.{opened, stepped, left, settings-reply, settled, frequency-reply, counted, unit-reply, unit-counted, requirement-reply}
 
 -- ---- contents
@@ -27,9 +27,9 @@ pub record SettingsPromise (t : Tally) (part : List ℕ) (r : Step) : Type 0 whe
 abbrev pub region-kept : Tally → Region → Lent → Lent
 region-kept t x l =
     record {
-      measures = placed (series-start (next-region t)) points (measure (settings-of t) x) (l .measures);
-      sums = placed (sums-start (next-region t)) sums-each (λ j. pos 0) (l .sums);
-      figures = placed (figures-each * next-region t) figures-each (figures-of (settings-of t) x) (l .figures);
+      measures = put-from (series-start (next-region t)) points (measure (settings-of t) x) (l .measures);
+      sums = put-from (sums-start (next-region t)) sums-each (λ j. pos 0) (l .sums);
+      figures = put-from (figures-each * next-region t) figures-each (figures-of (settings-of t) x) (l .figures);
       numbers = l .numbers;
       homes = l .homes;
       rows = l .rows;
@@ -51,7 +51,7 @@ unit-kept t u l =
       figures = l .figures;
       numbers = set (l .numbers) (units-taken t) (u .number);
       homes = set (l .homes) (units-taken t) (home-of u);
-      rows = placed (row-each * units-taken t) row-each (row-of (measured l u) u) (l .rows);
+      rows = put-from (row-each * units-taken t) row-each (row-of (measured l u) u) (l .rows);
     }
 
 pub record UnitPromise (t : Tally) (part : List ℕ) (l : Lent) (r : Step) (l′ : Lent) : Type 0 where

@@ -26,7 +26,7 @@ pub fn requirement(tally: Tally, part: &[u8]) -> Step
     ensures { λ r. ⌜ RequirementPromise tally (now (part .entry)) r ⌝ }
 {
     if !requirement_turn(tally) {
-        return refuse(tally, Refusal::OutOfTurn);
+        return refuse(tally, Refusal::WrongState);
     }
     let least = tally.least;
     let last = comes_last(tally);

@@ -14,7 +14,7 @@ pub fn settings(tally: Tally, part: &[u8]) -> Step
     ensures { λ r. ⌜ SettingsPromise tally (now (part .entry)) r ⌝ }
 {
     if !settings_turn(tally) {
-        return refuse(tally, Refusal::OutOfTurn);
+        return refuse(tally, Refusal::WrongState);
     }
     let read = book::settings::read_settings(part);
     match read {

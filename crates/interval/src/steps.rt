@@ -24,7 +24,7 @@ pub fn count(tally: Tally, least: u32) -> Step
     ensures { λ r. ⌜ r ≡ count-step least tally ⌝ }
 {
     if MOST_RECORDS <= tally.records {
-        return refuse(tally, Refusal::OutOfTurn);
+        return refuse(tally, Refusal::WrongState);
     }
     Step {
         tally: Tally {

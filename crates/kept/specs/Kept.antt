@@ -131,7 +131,8 @@ module _ (t : Tally) (l : Lent) where
 
   unfoldable pub kept-rcr : Requirement → ℕ
   kept-rcr q =
-      cond (kept-reliable l q && kept-few-bad q) (largest points (λ p. cond (ltZ (pos 0) (toward (q .direction) (kept-weighed l q p))) (kept-response l q p) 0)) 0
+      cond (kept-reliable l q && kept-few-bad q)
+      (largest points (λ p. cond (ltZ (pos 0) (toward (q .direction) (kept-weighed l q p))) (kept-response l q p) 0)) 0
 
   -- ---- the answer
   unfoldable pub kept-answer : Requirement → Answer

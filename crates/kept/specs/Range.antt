@@ -16,35 +16,39 @@ use Rattle.interval.specs.declared.Tally.{Tally}
 use Rattle.interval.specs.Lent.{Lent, series-start, sum-place, of-interval}
 use Rattle.kept.specs.Kept.{figure, in-row}
 
-module _ (t : Tally) (l : Lent) where
-  -- ---- at a point: the five regions' measures, and their sums of deviations together
-  abbrev pub measures-fine : ℕ → Bool
-  measures-fine p = every regions (λ r. sized measure-limit (getD (l .measures) (series-start r + p) (pos 0)))
+-- from 0 to a limit
+abbrev pub from-0 : ℕ → ℤ → Bool
+from-0 limit x = leZ (pos 0) x && leZ x (pos limit)
 
-  abbrev pub sums-fine : Direction → ℕ → Bool
-  sums-fine d p = leb (sumℕ regions (λ r. natAbs (getD (l .sums) (sum-place d r p) (pos 0)))) (deviation-limit * t .units)
+-- ---- at a point: the five regions' measures, and their sums of deviations together
+abbrev pub measures-fine : Lent → ℕ → Bool
+measures-fine l p = every regions (λ r. sized measure-limit (getD (l .measures) (series-start r + p) (pos 0)))
 
-  unfoldable pub series-fine : Bool
-  series-fine = every points (λ p. measures-fine p && (sums-fine Raise p && sums-fine Lower p))
+abbrev pub sums-fine : ℕ → Lent → Direction → ℕ → Bool
+sums-fine most l d p = leb (sumℕ regions (λ r. natAbs (getD (l .sums) (sum-place d r p) (pos 0)))) most
 
-  -- ---- of a region: the interval number, which is the tally's; generation, whether raise and lower are reliable (1 or 0), six defaults
-  abbrev pub from-0 : ℕ → ℤ → Bool
-  from-0 limit x = leZ (pos 0) x && leZ x (pos limit)
+unfoldable pub series-fine : Tally → Lent → Bool
+series-fine t l =
+    every points (λ p. measures-fine l p && (sums-fine (deviation-limit * t .units) l Raise p && sums-fine (deviation-limit * t .units) l Lower p))
 
-  unfoldable pub figures-fine : Bool
-  figures-fine =
-      of-interval (t .interval) (l .figures)
-      && every regions (λ r.
-      from-0 amount-limit (figure l r 1)
-      && (from-0 1 (figure l r 2) && (from-0 1 (figure l r 3) && every 6 (λ i. default-fine residual-default-limit (figure l r (4 + i))))))
+-- ---- of a region: the interval number, which is the tally's; generation, whether raise and lower are reliable (1 or 0), six defaults
+abbrev pub region-fine : Lent → ℕ → Bool
+region-fine l r =
+    from-0 amount-limit (figure l r 1)
+    && (from-0 1 (figure l r 2) && (from-0 1 (figure l r 3) && every 6 (λ i. default-fine residual-default-limit (figure l r (4 + i)))))
 
-  -- ---- of a unit: its home, both performances, six defaults
-  unfoldable pub rows-fine : Bool
-  rows-fine =
-      every (t .units) (λ i.
-      ltb (getD (l .homes) i 0) (2 * regions)
-      && (sized performance-limit (in-row l i 0)
-      && (sized performance-limit (in-row l i 1) && every 6 (λ f. default-fine unit-default-limit (in-row l i (2 + f))))))
+unfoldable pub figures-fine : Tally → Lent → Bool
+figures-fine t l = of-interval (t .interval) (l .figures) && every regions (region-fine l)
 
-  abbrev pub kept-fine : Bool
-  kept-fine = series-fine && (figures-fine && rows-fine)
+-- ---- of a unit: its home, both performances, six defaults
+abbrev pub row-fine : Lent → ℕ → Bool
+row-fine l i =
+    ltb (getD (l .homes) i 0) (2 * regions)
+    && (sized performance-limit (in-row l i 0)
+    && (sized performance-limit (in-row l i 1) && every 6 (λ f. default-fine unit-default-limit (in-row l i (2 + f)))))
+
+unfoldable pub rows-fine : Tally → Lent → Bool
+rows-fine t l = every (t .units) (row-fine l)
+
+abbrev pub kept-fine : Tally → Lent → Bool
+kept-fine t l = series-fine t l && (figures-fine t l && rows-fine t l)

@@ -14,7 +14,7 @@ use Rattle.rules.specs.declared.Refusal.the-variants.{
   UnitField,
   UnitNotRising,
   RequirementField,
-  OutOfTurn,
+  WrongState,
   TooShort,
   AverageTooLow,
   WrongWeek,
@@ -40,7 +40,7 @@ tellable FrequencyField = record { some = omega arith; no-thirteen = λ e. omega
 tellable UnitField = record { some = omega arith; no-thirteen = λ e. omega arith }
 tellable UnitNotRising = record { some = omega arith; no-thirteen = λ e. omega arith }
 tellable RequirementField = record { some = omega arith; no-thirteen = λ e. omega arith }
-tellable OutOfTurn = record { some = omega arith; no-thirteen = λ e. omega arith }
+tellable WrongState = record { some = omega arith; no-thirteen = λ e. omega arith }
 tellable TooShort = record { some = omega arith; no-thirteen = λ e. omega arith }
 tellable AverageTooLow = record { some = omega arith; no-thirteen = λ e. omega arith }
 tellable WrongWeek = record { some = omega arith; no-thirteen = λ e. omega arith }

@@ -1,48 +1,42 @@
 -- Laws of the definitions in specs/Lines.antt.
-use mathlib.Core.Path.{_≡_, refl, sym, _∙_}
+use mathlib.Core.Path.{_≡_, refl, sym, _∙_, ap}
 use mathlib.Core.List.{List, [], _∷_, _++_, append-assoc}
-use Prim.Native.Nat.{ℕ, _-_, _≤_, _<_}
-use native.Mathlib.Nat.{zero-add}
+use Prim.Native.Nat.{ℕ, _≤_}
 use native.Mathlib.Omega.{arith}
-use borrow.Author.Tests.{lt-leb, le-leb}
 use lib.Dec.{lit≤}
-use lib.ListN.{length, take, drop, replicate, length-append, length-drop}
-use lib.Seq.{paste, take-length, take-all}
+use lib.ListN.{length, take, drop, set, length-append, take-append-drop, drop-of-length-le}
+use lib.Seq.{take-set-le}
 use Rattle.rules.specs.declared.Refusal.{Refusal}
-use Rattle.rules.specs.declared.Refusal.the-variants.{TooShort}
 use Rattle.rules.specs.declared.Standing.{Standing}
 use Rattle.rules.specs.declared.Standing.the-variants.{Live, Default}
 use Rattle.rules.specs.Text.{text, integer, words}
 use Rattle.rules.specs.Listing.{standing-word, interval-line, refused-line, requirement-line, member-line}
-use Rattle.listing.specs.declared.Written.{Written}
-use Rattle.listing.specs.declared.Written.the-variants.{Length, Refused}
-use Rattle.listing.specs.declared.Figures.{Figures}
+use Rattle.listing.specs.declared.RequirementLine.{RequirementLine}
 use Rattle.listing.specs.declared.Amounts.{Amounts}
-use Rattle.listing.specs.Pieces.{Room, after-space}
-use Rattle.listing.proofs.PiecesLaws.{integer-most}
+use Rattle.listing.specs.Pieces.{Put, after-space}
+use Rattle.listing.proofs.PiecesLaws.{alike-less, put-byte, integer-most}
 use Rattle.listing.specs.Lines.{LineWritten, amounts-words, answer-of, residual-of, unit-of}
 
--- the room for a line, before anything is put: its last line feed is the line's
-pub line-room : Room 164 164 (replicate 165 10)
-line-room = record { free = lit≤ tt; inside = lit≤ tt }
+-- a line with a piece more before it
+pub put-onto : {at r : ℕ} {piece old mid new tail : List ℕ} → Put piece at mid r new → LineWritten tail old at mid → LineWritten (piece ++ tail) old r new
+put-onto {at} {r} {piece} {old} {mid} {tail = tail} p w =
+    record {
+      place = omega (arith, length-append piece tail, p .place, w .place);
+      bytes = p .bytes ∙ ap (λ (l : List ℕ). piece ++ l) (w .bytes);
+      before = p .before ∙ alike-less r at mid old (omega (arith, p .place)) (w .before);
+    }
 
-pub line-end : drop 164 (replicate 165 10) ≡ text "\n"
-unfolding text
-line-end = refl
+-- the line feed alone
+pub line-end : (old : List ℕ) → length old ≡ 165 → LineWritten (10 ∷ []) old 164 (set old 164 10)
+line-end old e =
+    record {
+      place = refl;
+      bytes = put-byte old 165 10 (lit≤ tt) (omega (arith, e)) ∙ ap (λ (l : List ℕ). 10 ∷ l) (drop-of-length-le old {i = 165} (omega (arith, e)));
+      before = take-set-le 164 old 164 10 (lit≤ tt);
+    }
 
--- from the test of the room
-pub line-refused : (line old : List ℕ) → length old < length line → LineWritten line old (Refused TooShort) old
-line-refused line old h = let e = lt-leb (length line) (length old) h in record { reply = rw e; text = rw e }
-
--- a line is the room's part from a place on
-pub from-place : (room : List ℕ) (at : ℕ) → take (length room - at) (drop at room) ≡ drop at room
-from-place room at = take-all (length room - at) (drop at room) (omega (arith, length-drop at room))
-
-pub line-copied : (line old : List ℕ) {n : ℕ} {new : List ℕ} → length line ≤ length old → n ≡ length line → new ≡ paste old 0 line (length line) →
-    LineWritten line old (Length n) new
-line-copied line old h m c =
-    let e = le-leb (length line) (length old) h in
-    record { reply = rw (e, m); text = rw e (c ∙ rw (take-length line, zero-add (length line))) }
+pub line-starts : {line old new : List ℕ} {r : ℕ} → LineWritten line old r new → r ≤ 165
+line-starts w = omega (arith, w .place)
 
 six-before : (a b c d e f z : List ℕ) → (a ++ (b ++ (c ++ (d ++ (e ++ f))))) ++ z ≡ a ++ (b ++ (c ++ (d ++ (e ++ (f ++ z)))))
 six-before a b c d e f z = simp append-assoc
@@ -54,6 +48,14 @@ unfolding amounts-words text words
 amounts-end standing a =
     six-before (after-space (standing-word standing)) (after-space (integer (a .performance))) (after-space (integer (a .factor)))
     (after-space (integer (a .payment))) (after-space (integer (a .used))) (after-space (integer (a .unused))) (text "\n")
+
+-- a member's words before the line feed
+pub amounts-onto : (standing : Standing) (a : Amounts) {at r : ℕ} {old mid new : List ℕ} → Put (amounts-words standing a) at mid r new →
+    LineWritten (10 ∷ []) old at mid →
+    LineWritten (after-space (words (standing-word standing ∷ integer (a .performance) ∷ integer (a .factor) ∷ integer (a .payment) ∷ integer (a .used)
+    ∷ integer (a .unused) ∷ []))) old r new
+unfolding text
+amounts-onto standing a p w = rw (amounts-end standing a) at (put-onto p w)
 
 -- what the longest of them take
 standing-most : (standing : Standing) → length (after-space (standing-word standing)) ≤ 8
@@ -76,10 +78,16 @@ amounts-most standing a =
     ))
 
 -- ---- no two answers are allowed
-pub line-only : {line old : List ℕ} {r r′ : Written} {new new′ : List ℕ} → LineWritten line old r new → LineWritten line old r′ new′ → (r ≡ r′) × (new ≡ new′)
-line-only a b = (a .reply ∙ sym (b .reply), a .text ∙ sym (b .text))
+line-whole : {line old : List ℕ} {r : ℕ} {new : List ℕ} → LineWritten line old r new → new ≡ take r old ++ line
+line-whole {old = old} {r} {new} w =
+    sym (take-append-drop r new) ∙ ap (λ (l : List ℕ). l ++ drop r new) (w .before) ∙ ap (λ (l : List ℕ). take r old ++ l) (w .bytes)
 
-module _ {old : List ℕ} {r r′ : Written} {new new′ : List ℕ} where
+pub line-only : {line old : List ℕ} {r r′ : ℕ} {new new′ : List ℕ} → LineWritten line old r new → LineWritten line old r′ new′ → (r ≡ r′) × (new ≡ new′)
+line-only {line} {old} {r} {r′} a b =
+    let e : r ≡ r′ = omega (arith, a .place, b .place) in
+    (e, line-whole a ∙ ap (λ (i : ℕ). take i old ++ line) e ∙ sym (line-whole b))
+
+module _ {old : List ℕ} {r r′ : ℕ} {new new′ : List ℕ} where
   pub interval-line-only : (interval : ℕ) → LineWritten (interval-line interval) old r new → LineWritten (interval-line interval) old r′ new′ →
       (r ≡ r′) × (new ≡ new′)
   interval-line-only interval = line-only
@@ -88,9 +96,9 @@ module _ {old : List ℕ} {r r′ : Written} {new new′ : List ℕ} where
       (r ≡ r′) × (new ≡ new′)
   refused-line-only refusal = line-only
 
-  pub requirement-line-only : (figures : Figures) → LineWritten (requirement-line (answer-of figures)) old r new →
-      LineWritten (requirement-line (answer-of figures)) old r′ new′ → (r ≡ r′) × (new ≡ new′)
-  requirement-line-only figures = line-only
+  pub requirement-line-only : (said : RequirementLine) → LineWritten (requirement-line (answer-of said)) old r new →
+      LineWritten (requirement-line (answer-of said)) old r′ new′ → (r ≡ r′) × (new ≡ new′)
+  requirement-line-only said = line-only
 
   pub unit-line-only : (number : ℕ) (standing : Standing) (amounts : Amounts) → LineWritten (member-line (unit-of number standing amounts)) old r new →
       LineWritten (member-line (unit-of number standing amounts)) old r′ new′ → (r ≡ r′) × (new ≡ new′)

@@ -9,7 +9,7 @@ use borrow.Author.Tests.{lt-ltb, le-ltb}
 use lib.Dec.{ltb, lit≤}
 use lib.IntN.{ℤ, pos, negsuc, natAbs}
 use lib.ListN.{length, take, drop, set, length-append, length-drop, length-set}
-use lib.Seq.{drop-cons, getD-set-same, drop-set-lt, paste, length-paste, take-length, length-take-le, drop-at}
+use lib.Seq.{drop-cons, getD-set-same, drop-set-lt, paste, length-paste, take-length, take-take, take-set-le, take-at, length-take-le, drop-at}
 use lib.Signed.{_≤ℤ_, _<ℤ_}
 use Rattle.integers.specs.Pairs.{loss}
 use Rattle.integers.proofs.Pairs.{lt-in}
@@ -24,8 +24,9 @@ room-less h r = record { free = omega (arith, r .free); inside = r .inside }
 pub room-after : {k j at r : ℕ} {piece old new : List ℕ} → Room (j + k) at old → length piece ≤ j → Put piece at old r new → Room k r new
 room-after m h p = record { free = omega (arith, m .free, p .place); inside = omega (arith, m .inside, p .place, p .size) }
 
-pub put-inside : {k at r : ℕ} {piece old new : List ℕ} → Room k at old → Put piece at old r new → r ≤ length new
-put-inside m p = omega (arith, m .inside, p .place, p .size)
+-- lists alike before a place are alike before an earlier one
+pub alike-less : {A : Type 0} (r at : ℕ) (xs ys : List A) → r ≤ at → take at xs ≡ take at ys → take r xs ≡ take r ys
+alike-less r at xs ys h e = sym (take-take r at xs h) ∙ ap (take r) e ∙ take-take r at ys h
 
 pub direction-most : (direction : Direction) → length (direction-piece direction) ≤ 6
 unfolding direction-piece text
@@ -35,10 +36,11 @@ direction-most Lower = lit≤ tt
 -- one piece before another
 pub put-before : {first second : List ℕ} {at r r′ : ℕ} {old mid new : List ℕ} → Put second at old r mid → Put first r mid r′ new →
     Put (first ++ second) at old r′ new
-put-before {first} {second} {at} {old} p q =
+put-before {first} {second} {at} {r} {r′} {old} {mid} p q =
     record {
       place = omega (arith, length-append first second, p .place, q .place);
       bytes = q .bytes ∙ ap (λ (l : List ℕ). first ++ l) (p .bytes) ∙ sym (append-assoc first second (drop at old));
+      before = q .before ∙ alike-less r′ r mid old (omega (arith, q .place)) (p .before);
       size = q .size ∙ p .size;
     }
 
@@ -54,12 +56,11 @@ put-word word old at m copied =
           ap (drop from) (copied ∙ append-assoc (take from old) (take (length word) word) (drop (from + length word) old))
           ∙ drop-at (take from old) (take (length word) word ++ drop (from + length word) old) from (length-take-le from old (omega (arith, m .inside)))
           ∙ rw (take-length word, e);
+      before =
+          ap (take from) (copied ∙ append-assoc (take from old) (take (length word) word) (drop (from + length word) old))
+          ∙ take-at (take from old) (take (length word) word ++ drop (from + length word) old) from (length-take-le from old (omega (arith, m .inside)));
       size = ap length copied ∙ length-paste old from word (length word) (omega (arith, m .inside)) (omega arith);
     }
-
--- what stands from a piece on
-pub put-onto : {at r : ℕ} {piece old new tail : List ℕ} → Put piece at old r new → drop at old ≡ tail → drop r new ≡ piece ++ tail
-put-onto {piece} p e = p .bytes ∙ ap (λ (l : List ℕ). piece ++ l) e
 
 -- one byte more
 pub put-byte : (old : List ℕ) (at b : ℕ) → 0 < at → at ≤ length old → drop (at - 1) (set old (at - 1) b) ≡ b ∷ drop at old
@@ -97,10 +98,11 @@ pub record Spelt (n at : ℕ) (old : List ℕ) (rest to : ℕ) (line : List ℕ)
   pub below : to ≤ at
   pub small : rest < 10 ^ suc most
   pub bytes : digits (suc most) rest ++ drop to line ≡ natural n ++ drop at old
+  pub before : take to line ≡ take to old
   pub size : length line ≡ length old
 
 pub spelt-none : (n at : ℕ) (old : List ℕ) → n < 10 ^ 20 → Spelt n at old n at old
-spelt-none n at old h = record { most = 19; place = refl; below = omega arith; small = h; bytes = refl; size = refl }
+spelt-none n at old h = record { most = 19; place = refl; below = omega arith; small = h; bytes = refl; before = refl; size = refl }
 
 module _ {n at rest to : ℕ} {old line : List ℕ} (m : Room 20 at old) (s : Spelt n at old rest to line) where
   -- one digit more
@@ -122,6 +124,7 @@ module _ {n at rest to : ℕ} {old line : List ℕ} (m : Room 20 at old) (s : Sp
             bytes =
                 rw (put-byte line to b (omega (arith, m .free)) (omega (arith, s .below, s .size, m .inside)))
                 (sym (append-assoc (digits (suc k) (rest / 10)) (b ∷ []) (drop to line)) ∙ rw (digits-more (suc k) rest ten) at bytes);
+            before = take-set-le (to - 1) line (to - 1) b (omega arith) ∙ alike-less (to - 1) to line old (omega arith) (s .before);
             size = length-set line (to - 1) b ∙ s .size;
           }
 
@@ -132,7 +135,12 @@ module _ {n at rest to : ℕ} {old line : List ℕ} (m : Room 20 at old) (s : Sp
       let e = put-byte line to b (omega (arith, s .place, m .free)) (omega (arith, s .below, s .size, m .inside)) in
       let all = rw (digits-last (s .most) rest ten) at (s .bytes) in
       let long = simp (length-append, length-drop) at (ap length all) in
-      record { place = omega (arith, long, s .place, s .below, s .size, m .free, m .inside); bytes = e ∙ all; size = length-set line (to - 1) b ∙ s .size }
+      record {
+        place = omega (arith, long, s .place, s .below, s .size, m .free, m .inside);
+        bytes = e ∙ all;
+        before = take-set-le (to - 1) line (to - 1) b (omega arith) ∙ alike-less (to - 1) to line old (omega arith) (s .before);
+        size = length-set line (to - 1) b ∙ s .size;
+      }
 
 -- what the longest numbers take, with the space before them
 pub natural-most : (n : ℕ) → length (after-space (natural n)) ≤ 21

@@ -2,7 +2,7 @@
 use mathlib.Core.Path.{_≡_}
 use mathlib.Core.List.{List, _++_}
 use Prim.Native.Nat.{ℕ, _+_, _≤_}
-use lib.ListN.{length, drop}
+use lib.ListN.{length, take, drop}
 use Rattle.rules.specs.declared.Direction.{Direction}
 use Rattle.rules.specs.Listing.{direction-word}
 use Rattle.rules.specs.Text.{text}
@@ -12,10 +12,11 @@ pub record Room (k at : ℕ) (line : List ℕ) : Type 0 where
   pub free : k ≤ at
   pub inside : at ≤ length line
 
--- the bytes from `at` on have the piece before them, and start at r
+-- the bytes from `at` on have the piece before them, and start at r; the others are as they came
 pub record Put (piece : List ℕ) (at : ℕ) (old : List ℕ) (r : ℕ) (new : List ℕ) : Type 0 where
   pub place : r + length piece ≡ at
   pub bytes : drop r new ≡ piece ++ drop at old
+  pub before : take r new ≡ take r old
   pub size : length new ≡ length old
 
 -- every word of a line but its first

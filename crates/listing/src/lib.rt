@@ -1,16 +1,12 @@
-// listing: the lines of the listing as text (01, One listing in full), each into a text that is lent, or 12 where that is too short.
-// A line is put together in a room of its own, from its end, because a number's last digit is known first; then it is copied.
+// listing: the lines of the listing as text (01, One listing in full), each at the end of a text that is lent. A line is put together from its end, because a
+// number's last digit is known first.
 use rules::Direction;
-use rules::Refusal;
 
 pub mod lines;
 mod pieces;
 
-// How many bytes the line has, or the refusal.
-pub enum Written {
-    Length(usize),
-    Refused(Refusal),
-}
+// How long the text is: no line is longer than a requirement's of the longest numbers, 11 + 7 * 21 + 6 bytes and a line feed.
+pub const LINE: usize = 165;
 
 // A pool in cents, and what of it nobody gets.
 pub struct Pool {
@@ -19,7 +15,7 @@ pub struct Pool {
 }
 
 // What a requirement's line says.
-pub struct Figures {
+pub struct RequirementLine {
     pub number: u16,
     pub direction: Direction,
     pub rcr: u64,

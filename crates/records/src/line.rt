@@ -29,13 +29,13 @@ fn fresh() -> Line {
     }
 }
 
-fn answer(line: Line, bytes: &[u8], frequencies: &mut [u32], readings: &mut [i32]) {
+fn answer(line: Line, bytes: &[u8]) {
     let kind = line.kind;
     match kind {
         b'c' => read::contents(bytes),
         b's' => read::settings(bytes),
-        b'f' => read::frequency(bytes, line.context, frequencies),
-        b'u' => read::unit(bytes, line.context, readings),
+        b'f' => read::frequency(bytes, line.context),
+        b'u' => read::unit(bytes, line.context),
         b'r' => read::requirement(bytes, line.context, false),
         b'l' => read::requirement(bytes, line.context, true),
         b'#' => say::end(),
@@ -43,10 +43,10 @@ fn answer(line: Line, bytes: &[u8], frequencies: &mut [u32], readings: &mut [i32
     }
 }
 
-fn finish(line: Line, bytes: &[u8], frequencies: &mut [u32], readings: &mut [i32]) {
+fn finish(line: Line, bytes: &[u8]) {
     let count = line.count;
     if count <= bytes.len() {
-        answer(line, &bytes[..count], frequencies, readings);
+        answer(line, &bytes[..count]);
     }
 }
 
@@ -113,15 +113,9 @@ fn in_bytes(line: Line, c: u8, bytes: &mut [u8]) -> Line {
     next
 }
 
-fn step(
-    line: Line,
-    c: u8,
-    bytes: &mut [u8],
-    frequencies: &mut [u32],
-    readings: &mut [i32],
-) -> Line {
+fn step(line: Line, c: u8, bytes: &mut [u8]) -> Line {
     if c == b'\n' {
-        finish(line, bytes, frequencies, readings);
+        finish(line, bytes);
         return fresh();
     }
     let part = line.part;
@@ -132,26 +126,20 @@ fn step(
     }
 }
 
-fn pass(
-    start: Line,
-    text: &[u8],
-    bytes: &mut [u8],
-    frequencies: &mut [u32],
-    readings: &mut [i32],
-) -> Line {
+fn pass(start: Line, text: &[u8], bytes: &mut [u8]) -> Line {
     let mut line = start;
     let mut i: usize = 0;
     while i < text.len() {
-        line = step(line, text[i], bytes, frequencies, readings);
+        line = step(line, text[i], bytes);
         i += 1;
     }
     line
 }
 
-fn turn(line: Line, bytes: &mut [u8], frequencies: &mut [u32], readings: &mut [i32]) -> Passed {
+fn turn(line: Line, bytes: &mut [u8]) -> Passed {
     let mut text = io::buffer();
     let n = io::read_full(0, &mut text);
-    let next = pass(line, &text[..n], bytes, frequencies, readings);
+    let next = pass(line, &text[..n], bytes);
     Passed {
         line: next,
         more: n > 0,
@@ -159,11 +147,11 @@ fn turn(line: Line, bytes: &mut [u8], frequencies: &mut [u32], readings: &mut [i
 }
 
 // The loop counts its turns down from a number that no input uses up.
-pub(crate) fn all(bytes: &mut [u8], frequencies: &mut [u32], readings: &mut [i32]) {
+pub(crate) fn all(bytes: &mut [u8]) {
     let mut line = fresh();
     let mut turns = u64::MAX;
     while turns > 0 {
-        let t = turn(line, bytes, frequencies, readings);
+        let t = turn(line, bytes);
         if !t.more {
             return;
         }

@@ -2,15 +2,12 @@
 // KIND and CONTEXT: `contents -`, `settings -`, `frequency POSITION`, `unit LEAST`, `requirement LEAST`, and `last LEAST` for a
 // requirement after which no byte may follow. HEX are the bytes from the record on, two digits each; it may be empty.
 // A line that starts with # is printed without its first character. Fields stand in the order of the record, in decimal, after one space each; a flag is 0 or
-// 1. A unit's goodness follows its
-// defaults. The 75 values of a frequency or unit record come last.
+// 1. The 75 values of a frequency record are not printed. A unit's goodness follows its defaults, its 75 values come last.
 mod line;
 mod read;
 mod say;
 
 fn main() {
     let mut bytes = [0u8; 1024];
-    let mut frequencies = [0u32; 75];
-    let mut readings = [0i32; 75];
-    line::all(&mut bytes, &mut frequencies, &mut readings);
+    line::all(&mut bytes);
 }

@@ -42,10 +42,6 @@ fn wide(x: i32) -> i64 {
     x as i64
 }
 
-fn longer(x: u32) -> u64 {
-    x as u64
-}
-
 fn three(d: Three) {
     say::signed(d.payment);
     say::signed(d.used);
@@ -63,20 +59,11 @@ fn frequency_fields(f: FrequencyFields) {
     three(lower);
 }
 
-fn all_unsigned(xs: &[u32]) {
-    let mut i: usize = 0;
-    while i < xs.len() {
-        say::unsigned(longer(xs[i]));
-        i += 1;
-    }
-    say::end();
-}
-
-pub(crate) fn frequency(bytes: &[u8], position: u32, frequencies: &mut [u32]) {
-    match book::frequency::read_frequency(bytes, (position % 256) as u8, frequencies) {
+pub(crate) fn frequency(bytes: &[u8], position: u32) {
+    match book::frequency::read_frequency(bytes, (position % 256) as u8) {
         FrequencyRead::Taken(f) => {
             frequency_fields(f);
-            all_unsigned(frequencies);
+            say::end();
         }
         FrequencyRead::Refused(r) => say::refused(r),
     }
@@ -104,20 +91,11 @@ fn unit_fields(u: UnitFields) {
     say::flag(u.good);
 }
 
-fn all_signed(xs: &[i32]) {
-    let mut i: usize = 0;
-    while i < xs.len() {
-        say::signed(wide(xs[i]));
-        i += 1;
-    }
-    say::end();
-}
-
-pub(crate) fn unit(bytes: &[u8], least: u32, readings: &mut [i32]) {
-    match book::unit::read_unit(bytes, least, readings) {
+pub(crate) fn unit(bytes: &[u8], least: u32) {
+    match book::unit::read_unit(bytes, least) {
         UnitRead::Taken(u) => {
             unit_fields(u);
-            all_signed(readings);
+            say::end();
         }
         UnitRead::Refused(r) => say::refused(r),
     }

@@ -13,7 +13,7 @@ use Rattle.rules.specs.declared.Refusal.the-variants.{
   UnitField,
   UnitNotRising,
   RequirementField,
-  OutOfTurn,
+  WrongState,
   TooShort,
   AverageTooLow,
   WrongWeek,
@@ -27,7 +27,7 @@ pub of-a-book :
     ≡ (1 ∷ 2 ∷ 3 ∷ 4 ∷ 5 ∷ 6 ∷ 7 ∷ 8 ∷ 9 ∷ 10 ∷ [])
 of-a-book = refl
 
-pub of-a-call : map number (OutOfTurn ∷ TooShort ∷ []) ≡ (11 ∷ 12 ∷ [])
+pub of-a-call : map number (WrongState ∷ TooShort ∷ []) ≡ (11 ∷ 12 ∷ [])
 of-a-call = refl
 
 pub of-a-week : map number (AverageTooLow ∷ WrongWeek ∷ []) ≡ (14 ∷ 17 ∷ [])

@@ -13,7 +13,7 @@ use Rattle.rules.specs.declared.Refusal.the-variants.{
   UnitField,
   UnitNotRising,
   RequirementField,
-  OutOfTurn,
+  WrongState,
   TooShort,
   AverageTooLow,
   WrongWeek,
@@ -40,7 +40,7 @@ number UnitNotRising = 9
 -- a requirement field breaks its rule, or its number does not rise
 number RequirementField = 10
 -- a call out of turn, or a tally out of range
-number OutOfTurn = 11
+number WrongState = 11
 -- a lent buffer is too short for its answer
 number TooShort = 12
 -- 13 is nobody's: no share could meet it (02, R-10), and it is not given again

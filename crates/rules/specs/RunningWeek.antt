@@ -4,7 +4,7 @@ use mathlib.Core.Bool.{Bool, _&&_, _||_}
 use Prim.Native.Nat.{ℕ, zero, suc, _+_, _*_, _/_, _%_}
 use lib.Dec.{leb, ltb, eqb}
 use Rattle.integers.specs.Sums.{one}
-use Rattle.rules.specs.declared.Refusal.the-variants.{OutOfTurn, WrongCount, WrongWeek}
+use Rattle.rules.specs.declared.Refusal.the-variants.{WrongState, WrongCount, WrongWeek}
 use Rattle.rules.specs.declared.RunningWeek.{RunningWeek}
 use Rattle.rules.specs.declared.WeekDefault.{WeekDefault}
 use Rattle.rules.specs.declared.Whose.{Whose}
@@ -40,14 +40,14 @@ with-interval r x = running (r .seen + 1) (r .live + one (is-live x)) (total-in 
 
 unfoldable pub add-reply : Whose → Interval → RunningWeek → Reply RunningWeek
 add-reply m x r =
-    unless (left-by-a-run r) OutOfTurn
+    unless (left-by-a-run r) WrongState
     (unless (whose-fine m) WrongCount
     (unless (ltb (r .seen) most-intervals && in-reach m x) WrongWeek
     (taken (with-interval r x))))
 
 unfoldable pub read-reply : Whose → RunningWeek → Reply WeekDefault
 read-reply m r =
-    unless (left-by-a-run r) OutOfTurn (unless (whose-fine m) WrongCount (default-reply m (total-in r) (r .live)))
+    unless (left-by-a-run r) WrongState (unless (whose-fine m) WrongCount (default-reply m (total-in r) (r .live)))
 
 -- the intervals w 0 to w (n - 1) added one after another, each as that of the member m 0 to m (n - 1)
 unfoldable pub run : (ℕ → Whose) → ℕ → (ℕ → Interval) → Reply RunningWeek

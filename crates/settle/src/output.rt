@@ -1,14 +1,13 @@
-// Lines to standard output, each as soon as it is made; a writing that takes nothing ends the listing.
+// Lines to standard output, each as soon as it is made. Each function answers whether the listing goes on: a writing that takes nothing ends it, which is told
+// on standard error.
+ghost use Prim.Native.Nat.{_≤_};
 use libc::STDERR_FILENO;
 use libc::STDOUT_FILENO;
 use listing::Amounts;
-use listing::Figures;
-use listing::Written;
+use listing::LINE;
+use listing::RequirementLine;
 use rules::Refusal;
 use rules::Standing;
-
-// As long as the longest line: each is made in a text of this length.
-pub(crate) const LINE: usize = 165;
 
 fn write(file: i32, text: &[u8]) -> bool {
     let mut done: usize = 0;
@@ -23,32 +22,31 @@ fn write(file: i32, text: &[u8]) -> bool {
     true
 }
 
-// A line that was made at the start of the text; a line too long for it is not printed.
-fn print(written: Written, text: &[u8]) -> bool {
-    match written {
-        Written::Length(length) => {
-            if length <= text.len() {
-                return write(STDOUT_FILENO, &text[..length]);
-            }
-            false
-        }
-        Written::Refused(_) => false,
+// The line that starts there and ends with the text.
+fn print(start: usize, text: &[u8; LINE]) -> bool
+    requires { ⌜ start ≤ 165 ⌝ }
+{
+    let whole = &text[..];
+    if write(STDOUT_FILENO, &whole[start..]) {
+        return true;
     }
+    write(STDERR_FILENO, b"settle: the listing cannot be written\n");
+    false
 }
 
 pub(crate) fn interval(interval: u32, text: &mut [u8; LINE]) -> bool {
-    let written = listing::lines::interval_line(interval, text);
-    print(written, text)
+    let start = listing::lines::interval_line(interval, text);
+    print(start, text)
 }
 
 pub(crate) fn refused(refusal: Refusal, text: &mut [u8; LINE]) -> bool {
-    let written = listing::lines::refused_line(refusal, text);
-    print(written, text)
+    let start = listing::lines::refused_line(refusal, text);
+    print(start, text)
 }
 
-pub(crate) fn requirement(figures: Figures, text: &mut [u8; LINE]) -> bool {
-    let written = listing::lines::requirement_line(figures, text);
-    print(written, text)
+pub(crate) fn requirement(said: RequirementLine, text: &mut [u8; LINE]) -> bool {
+    let start = listing::lines::requirement_line(said, text);
+    print(start, text)
 }
 
 pub(crate) fn unit(
@@ -57,19 +55,24 @@ pub(crate) fn unit(
     amounts: Amounts,
     text: &mut [u8; LINE],
 ) -> bool {
-    let written = listing::lines::unit_line(number, standing, amounts, text);
-    print(written, text)
+    let start = listing::lines::unit_line(number, standing, amounts, text);
+    print(start, text)
 }
 
 pub(crate) fn residual(standing: Standing, amounts: Amounts, text: &mut [u8; LINE]) -> bool {
-    let written = listing::lines::residual_line(standing, amounts, text);
-    print(written, text)
+    let start = listing::lines::residual_line(standing, amounts, text);
+    print(start, text)
+}
+
+// A book that the calls have taken is never refused after that; if it were, the listing would end, and say so.
+pub(crate) fn broken_off(refusal: Refusal, text: &mut [u8; LINE]) -> bool {
+    let start = listing::lines::refused_line(refusal, text);
+    write(STDERR_FILENO, b"settle: the listing is broken off: ");
+    let whole = &text[..];
+    write(STDERR_FILENO, &whole[start..]);
+    false
 }
 
 pub(crate) fn reading_failed() {
     write(STDERR_FILENO, b"settle: standard input cannot be read\n");
-}
-
-pub(crate) fn writing_failed() {
-    write(STDERR_FILENO, b"settle: the listing cannot be written\n");
 }

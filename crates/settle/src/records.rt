@@ -1,19 +1,22 @@
 // The records of a book from standard input, each handed to its call: whole, or the short part that came before the input ended.
 ghost use Prim.Native.Nat.{_≤_};
 ghost use lib.ListN.{length};
-use super::input::Filled;
-use super::input::read_record;
+use super::MEMBERS;
+use super::UNITS;
 use book::CONTENTS;
-use book::FREQUENCIES;
-use book::FREQUENCY;
-use book::POINTS;
 use book::REQUIREMENT;
-use book::SETTINGS;
-use book::UNIT;
+use intake::input::fill;
+use intake::turn::size;
+use intake::turn::take;
+use interval::FIGURES_LENGTH;
 use interval::Opened;
-use interval::Step;
+use interval::ROWS_LENGTH;
+use interval::SERIES_LENGTH;
+use interval::SUMS_LENGTH;
 use interval::Taking;
 use interval::Tally;
+use interval::requirement::requirement;
+use interval::turns::BEFORE_UNITS;
 use rules::Refusal;
 
 // How many requirements the bytes have room for.
@@ -26,58 +29,11 @@ pub(crate) enum Next {
     Failed,
 }
 
-// What a call did with a record. A reading that failed brought no byte, so that its call refused and left all as it was.
-fn after(got: Filled, step: Step) -> Next {
-    let tally = step.tally;
-    let taking = step.taking;
-    match taking {
-        Taking::Taken => Next::Taken(tally),
-        Taking::Refused(refusal) => {
-            if got.failed {
-                return Next::Failed;
-            }
-            Next::Refused(refusal)
-        }
-    }
-}
-
-// The tally so far; where the book stopped, one to which nothing is to come.
-pub(crate) fn tally_of(next: Next) -> Tally {
-    match next {
-        Next::Taken(tally) => tally,
-        Next::Refused(_) => nothing_to_come(),
-        Next::Failed => nothing_to_come(),
-    }
-}
-
-fn nothing_to_come() -> Tally {
-    Tally {
-        units: 0,
-        requirements: 0,
-        records: 0,
-        least: 0,
-        smoothing: 0,
-        limit: 0,
-        percent: 0,
-        interval: 0,
-    }
-}
-
-// How many of the records to come are to be read: none where the book stopped.
-fn to_read(next: Next, records: u16) -> u16
-    ensures { λ r. ⌜ r ≤ records ⌝ }
-{
-    match next {
-        Next::Taken(_) => records,
-        Next::Refused(_) => 0,
-        Next::Failed => 0,
-    }
-}
-
-fn take_contents(bytes: &mut [u8]) -> Next
+// The table of contents.
+fn open(bytes: &mut [u8]) -> Next
     requires { ⌜ 769 ≤ length (now bytes) ⌝ }
 {
-    let got = read_record(bytes, 0, CONTENTS);
+    let got = fill(&mut bytes[0..CONTENTS]);
     if got.failed {
         return Next::Failed;
     }
@@ -89,90 +45,49 @@ fn take_contents(bytes: &mut [u8]) -> Next
     }
 }
 
-// The contents, then the settings.
-fn take_opening(bytes: &mut [u8]) -> Next
+// The records before the requirements, each in the place of the one before.
+pub(crate) fn take_units(
+    bytes: &mut [u8],
+    measures: &mut [i32; SERIES_LENGTH],
+    sums: &mut [i64; SUMS_LENGTH],
+    figures: &mut [i64; FIGURES_LENGTH],
+    numbers: &mut [u16; UNITS],
+    homes: &mut [u8; UNITS],
+    rows: &mut [i64; ROWS_LENGTH],
+) -> Next
     requires { ⌜ 769 ≤ length (now bytes) ⌝ }
 {
-    let opened = take_contents(bytes);
-    let Next::Taken(tally) = opened else {
+    let opened = open(bytes);
+    let Next::Taken(fresh) = opened else {
         return opened;
     };
-    let got = read_record(bytes, 0, SETTINGS);
-    let count = got.count;
-    after(got, interval::settings::settings(tally, &bytes[0..count]))
-}
-
-// The records before the units.
-pub(crate) fn take_head(
-    bytes: &mut [u8],
-    measures: &mut [i32],
-    positive: &mut [i64],
-    negative: &mut [i64],
-    figures: &mut [i64],
-) -> Next
-    requires { ⌜ 769 ≤ length (now bytes) ⌝ }
-{
-    let mut frequencies = [0u32; POINTS];
-    let mut next = take_opening(bytes);
-    let mut left = to_read(next, FREQUENCIES);
+    let mut tally = fresh;
+    let mut left = BEFORE_UNITS as u32 + tally.units as u32;
     while left > 0 {
-        let got = read_record(bytes, 0, FREQUENCY);
+        let end = size(tally);
+        let got = fill(&mut bytes[0..end]);
+        if got.failed {
+            return Next::Failed;
+        }
         let count = got.count;
-        let step = frequencies::frequency::frequency(
-            tally_of(next),
-            &bytes[0..count],
-            &mut frequencies,
-            measures,
-            positive,
-            negative,
-            figures,
-        );
-        next = after(got, step);
-        left = to_read(next, left - 1);
-    }
-    next
-}
-
-pub(crate) fn take_units(
-    mut next: Next,
-    bytes: &mut [u8],
-    measures: &[i32],
-    positive: &mut [i64],
-    negative: &mut [i64],
-    numbers: &mut [u16],
-    places: &mut [u8],
-    raise: &mut [i64],
-    lower: &mut [i64],
-    defaults: &mut [i64],
-    deviations: &mut [i64],
-) -> Next
-    requires { ⌜ 769 ≤ length (now bytes) ⌝ }
-{
-    let mut readings = [0i32; POINTS];
-    let mut tally = tally_of(next);
-    let mut left = tally.units;
-    while left > 0 {
-        let got = read_record(bytes, 0, UNIT);
-        let count = got.count;
-        let step = units::unit::unit(
+        let step = take(
             tally,
             &bytes[0..count],
-            &mut readings,
-            deviations,
             measures,
-            positive,
-            negative,
+            sums,
+            figures,
             numbers,
-            places,
-            raise,
-            lower,
-            defaults,
+            homes,
+            rows,
         );
+        let taking = step.taking;
+        if let Taking::Refused(refusal) = taking {
+            return Next::Refused(refusal);
+        }
         tally = step.tally;
-        next = after(got, step);
-        left = to_read(next, left - 1);
+        left -= 1;
     }
-    next
+    Next::Taken(tally)
 }
 
 // With the last requirement a byte more is asked for, so that its call sees whether bytes follow the book.
@@ -196,20 +111,30 @@ pub(crate) fn within_room(requirements: u16) -> u16
 }
 
 // The requirements are kept, one after the other.
-pub(crate) fn take_requirements(mut next: Next, bytes: &mut [u8]) -> Next
+pub(crate) fn take_requirements(next: Next, bytes: &mut [u8]) -> Next
     requires { ⌜ 769 ≤ length (now bytes) ⌝ }
 {
-    let mut tally = tally_of(next);
+    let Next::Taken(listed) = next else {
+        return next;
+    };
+    let mut tally = listed;
     let mut left = within_room(tally.requirements);
     let mut start: usize = 0;
     while left > 0 {
-        let got = read_record(bytes, start, start + asked(left));
+        let end = start + asked(left);
+        let got = fill(&mut bytes[start..end]);
+        if got.failed {
+            return Next::Failed;
+        }
         let until = start + got.count;
-        let step = interval::requirement::requirement(tally, &bytes[start..until]);
+        let step = requirement(tally, &bytes[start..until]);
+        let outcome = step.taking;
+        if let Taking::Refused(refusal) = outcome {
+            return Next::Refused(refusal);
+        }
         tally = step.tally;
-        next = after(got, step);
         start += REQUIREMENT;
-        left = to_read(next, left - 1);
+        left -= 1;
     }
-    next
+    Next::Taken(tally)
 }

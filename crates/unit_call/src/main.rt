@@ -1,5 +1,5 @@
 // unit_call: takes a frequency record of region 0 and then two units' records from standard input, so that bench/unit_call can count what a unit call
-// executes. It prints how many records the tally counts, and on which side of zero the first number of each list is.
+// executes. It prints how many records the tally counts, and on which side of zero the first numbers of the lists are.
 use interval::Tally;
 use libc::STDIN_FILENO;
 use libc::STDOUT_FILENO;
@@ -31,43 +31,22 @@ fn print_side(number: i64) {
     io::write_all(STDOUT_FILENO, b" 0");
 }
 
-fn print_reading(reading: i32) {
-    if reading < 0 {
-        print_side(-1);
-        return;
-    }
-    if 0 < reading {
-        print_side(1);
-        return;
-    }
-    print_side(0);
-}
-
 fn print_number(number: u16) {
     print_side(number as i64);
 }
 
-fn print_place(place: u8) {
-    print_side(place as i64);
+fn print_home(home: u8) {
+    print_side(home as i64);
 }
 
+// The other four regions have figures of the same interval number, 1, already.
 fn take_region(
     part: &[u8; 368],
     measures: &mut [i32; 375],
-    positive: &mut [i64; 375],
-    negative: &mut [i64; 375],
+    sums: &mut [i64; 750],
+    figures: &mut [i64; 50],
 ) {
-    let mut frequencies = [0u32; 75];
-    let mut figures = [0i64; 45];
-    frequencies::frequency::frequency(
-        tally_after(1),
-        part,
-        &mut frequencies,
-        measures,
-        positive,
-        negative,
-        &mut figures,
-    );
+    frequencies::frequency::frequency(tally_after(1), part, measures, sums, figures);
 }
 
 // Two calls: one that is called once would be made a part of its caller.
@@ -75,52 +54,38 @@ fn take_units(
     first: &[u8; 372],
     second: &[u8; 372],
     measures: &[i32; 375],
-    positive: &mut [i64; 375],
-    negative: &mut [i64; 375],
+    sums: &mut [i64; 750],
+    figures: &[i64; 50],
 ) {
-    let mut readings = [0i32; 75];
-    let mut deviations = [0i64; 75];
     let mut numbers = [0u16; 512];
-    let mut places = [0u8; 512];
-    let mut raise = [0i64; 512];
-    let mut lower = [0i64; 512];
-    let mut defaults = [0i64; 3072];
+    let mut homes = [0u8; 512];
+    let mut rows = [0i64; 4096];
     let once = units::unit::unit(
         tally_after(6),
         first,
-        &mut readings,
-        &mut deviations,
         measures,
-        positive,
-        negative,
+        sums,
+        figures,
         &mut numbers,
-        &mut places,
-        &mut raise,
-        &mut lower,
-        &mut defaults,
+        &mut homes,
+        &mut rows,
     );
     let twice = units::unit::unit(
         once.tally,
         second,
-        &mut readings,
-        &mut deviations,
         measures,
-        positive,
-        negative,
+        sums,
+        figures,
         &mut numbers,
-        &mut places,
-        &mut raise,
-        &mut lower,
-        &mut defaults,
+        &mut homes,
+        &mut rows,
     );
     io::print_decimal(STDOUT_FILENO, twice.tally.records as u64);
-    print_reading(readings[0]);
-    print_side(deviations[0]);
     print_number(numbers[0]);
-    print_place(places[0]);
-    print_side(raise[0]);
-    print_side(lower[0]);
-    print_side(defaults[0]);
+    print_home(homes[0]);
+    print_side(rows[0]);
+    print_side(rows[1]);
+    print_side(rows[2]);
 }
 
 fn main() {
@@ -131,11 +96,11 @@ fn main() {
     io::read_full(STDIN_FILENO, &mut first);
     io::read_full(STDIN_FILENO, &mut second);
     let mut measures = [0i32; 375];
-    let mut positive = [0i64; 375];
-    let mut negative = [0i64; 375];
-    take_region(&region, &mut measures, &mut positive, &mut negative);
-    take_units(&first, &second, &measures, &mut positive, &mut negative);
-    print_side(positive[0]);
-    print_side(negative[0]);
+    let mut sums = [0i64; 750];
+    let mut figures = [1i64; 50];
+    take_region(&region, &mut measures, &mut sums, &mut figures);
+    take_units(&first, &second, &measures, &mut sums, &figures);
+    print_side(sums[0]);
+    print_side(sums[75]);
     io::write_all(STDOUT_FILENO, b"\n");
 }

@@ -1,5 +1,5 @@
 pub mod PointsLaws
 pub mod RangeLaws
+pub mod RowsLaws
 pub mod TestedLaws
 pub mod UnitAnswer
-pub mod UnitLaws

@@ -1,4 +1,3 @@
--- What the parts of a unit call promise each other, and how they make its promise
+-- What the parts of a unit call promise each other
 pub mod Points
-pub mod UnitLaws
-pub mod Tested
+pub mod Rows

@@ -3,12 +3,11 @@
 ghost use mathlib.Core.Path.{_≡_};
 ghost use Prim.Native.Nat.{_+_, _<_, _≤_, _^_};
 ghost use lib.Dec.{eqb};
-ghost use lib.IntN.{pos};
-ghost use lib.ListN.{length, getD};
+ghost use lib.ListN.{length};
 ghost use mir.Syntax.{w64};
 ghost use mir.Val.{ofZ};
 ghost use Rattle.rules.specs.Fields.{sized};
-ghost use Rattle.integers.specs.Sums.{every};
+ghost use Rattle.interval.specs.Lent.{each-sized};
 use book::frequency::MEASURE_LIMIT;
 
 const MOST_BITS: u64 = 0xffff_ffff_ffff_ffff;
@@ -36,15 +35,15 @@ fn outside(limit: u64, x: i64) -> u64
     above / SIGN_BIT + below / SIGN_BIT
 }
 
-// Is each of a region's 75 numbers at most so much either way?
-pub(crate) fn each_within(limit: u64, start: usize, numbers: &[i64]) -> bool
-    requires { ⌜ (limit < 2 ^ 40) × (start + 75 ≤ length (now numbers)) ⌝ }
-    ensures { λ r. ⌜ r ≡ every 75 (λ t. sized limit (getD (now (numbers .entry)) (start + t) (pos 0))) ⌝ }
+// Is each of a region's 150 sums at most so much either way?
+pub(crate) fn each_sum_within(limit: u64, start: usize, sums: &[i64]) -> bool
+    requires { ⌜ (limit < 2 ^ 40) × (start + 150 ≤ length (now sums)) ⌝ }
+    ensures { λ r. ⌜ r ≡ each-sized limit start 150 (now (sums .entry)) ⌝ }
 {
     let mut many: u64 = 0;
     let mut t: u32 = 0;
-    while t < 75 {
-        many += outside(limit, numbers[start + t as usize]);
+    while t < 150 {
+        many += outside(limit, sums[start + t as usize]);
         t += 1;
     }
     many == 0
@@ -67,7 +66,7 @@ fn past_limit(measure: i32) -> u32
 // Is each of a region's 75 measures within its limit?
 pub(crate) fn each_measure_within(start: usize, measures: &[i32]) -> bool
     requires { ⌜ start + 75 ≤ length (now measures) ⌝ }
-    ensures { λ r. ⌜ r ≡ every 75 (λ t. sized 5_000_000 (getD (now (measures .entry)) (start + t) (pos 0))) ⌝ }
+    ensures { λ r. ⌜ r ≡ each-sized 5_000_000 start 75 (now (measures .entry)) ⌝ }
 {
     let mut many: u32 = 0;
     let mut t: u32 = 0;

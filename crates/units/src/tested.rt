@@ -1,19 +1,22 @@
 // What is tested before a unit is written, in the order of the refusals; past the tests the unit's record decides.
 ghost use mathlib.Core.Path.{_≡_};
 ghost use Prim.Native.Nat.{_≤_};
+ghost use Rattle.book.specs.Unit.{unit-answer};
 ghost use Rattle.interval.specs.Tally.{units-taken};
-ghost use Rattle.units.specs.Tested.{tested-unit, UnitAnswered};
-use super::lent::columns_room;
+ghost use Rattle.interval.specs.Lent.{lent-unit};
+ghost use Rattle.interval.specs.Calls.{unit-reply};
 use super::lent::named_region;
+use super::lent::regions_long;
 use super::lent::series_in_range;
-use super::lent::series_room;
+use super::lent::units_long;
 use book::UnitRead;
 use interval::Tally;
+use interval::lent::of_interval;
 use interval::turns::BEFORE_UNITS;
 use interval::turns::unit_turn;
 use rules::Refusal;
 
-// The row that comes next in the columns.
+// The row that comes next.
 pub(crate) fn next_row(tally: Tally) -> usize
     requires { ⌜ 6 ≤ tally .records ⌝ }
     ensures { λ r. ⌜ r ≡ units-taken tally ⌝ }
@@ -21,47 +24,37 @@ pub(crate) fn next_row(tally: Tally) -> usize
     (tally.records - BEFORE_UNITS) as usize
 }
 
-// The unit whose record `part` starts with; its readings are left in the lent list. Of the lists that are not read the lengths are tested.
+// The unit whose record `part` starts with. Of the lists that are not read the lengths are tested.
 pub(crate) fn tested_unit(
     tally: Tally,
     part: &[u8],
-    readings: &mut [i32],
-    deviations: usize,
     measures: &[i32],
-    positive: &[i64],
-    negative: &[i64],
-    numbers: usize,
-    places: usize,
-    raise: usize,
-    lower: usize,
-    defaults: usize,
+    sums: &[i64],
+    figures: &[i64],
+    numbers: &[u16],
+    homes: &[u8],
+    rows: &[i64],
 ) -> UnitRead
     ensures { λ r. ⌜
-        UnitAnswered
-        (tested-unit tally (now (part .entry)) (now (readings .entry)) deviations (now (measures .entry)) (now (positive .entry)) (now (negative .entry))
-        numbers places raise lower defaults)
-        (now (readings .entry)) r (now (readings .exit))
+        r ≡ unit-answer (unit-reply tally (now (part .entry)) (lent-unit (now (measures .entry)) (now (sums .entry)) (now (figures .entry))
+        (now (numbers .entry)) (now (homes .entry)) (now (rows .entry))))
         ⌝ }
 {
     if !unit_turn(tally) {
-        return UnitRead::Refused(Refusal::OutOfTurn);
+        return UnitRead::Refused(Refusal::WrongState);
     }
-    if !series_room(
-        readings.len(),
-        deviations,
-        measures.len(),
-        positive.len(),
-        negative.len(),
-    ) {
+    if !regions_long(measures.len(), sums.len(), figures.len()) {
         return UnitRead::Refused(Refusal::TooShort);
     }
     let row = next_row(tally);
-    if !columns_room(row, numbers, places, raise, lower, defaults) {
+    if !units_long(row + 1, numbers.len(), homes.len(), rows.len()) {
         return UnitRead::Refused(Refusal::TooShort);
     }
-    let region = named_region(part);
-    if !series_in_range(region, row, measures, positive, negative) {
-        return UnitRead::Refused(Refusal::OutOfTurn);
+    if !of_interval(tally.interval, figures) {
+        return UnitRead::Refused(Refusal::WrongState);
     }
-    book::unit::read_unit(part, tally.least, readings)
+    if !series_in_range(named_region(part), row, measures, sums) {
+        return UnitRead::Refused(Refusal::WrongState);
+    }
+    book::unit::read_unit(part, tally.least)
 }

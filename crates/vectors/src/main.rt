@@ -1,8 +1,13 @@
 // vectors: the calls on figures that source document 000 (the guide) publishes. It takes two records from standard input: a frequency record with Table 15's
 // region frequency deviation on top of 50,000,000 µHz (its first point has no FM yet: it is bad, and holds 0), and a unit that stays at the start of Table 5's
-// trajectory, 28.89 MW to 31.11. It prints what is compared: a number of each line is what the calls leave, beside the published one.
+// trajectory, 28.89 MW to 31.11. It prints what is compared: a number of each line is what the calls leave, beside the published one. The record is taken
+// for each of the five regions; the unit is alone in the first, so that the sums of this region are its deviations.
 ghost use Prim.Native.Nat.{_≤_};
 ghost use Rattle.integers.specs.Bounds.{Within};
+use interval::FIGURES_LENGTH;
+use interval::ROW_EACH;
+use interval::SERIES_LENGTH;
+use interval::SUMS_LENGTH;
 use interval::Taking;
 use interval::Tally;
 use libc::STDIN_FILENO;
@@ -126,7 +131,7 @@ fn one_if(test: bool) -> u64
 }
 
 // At how many points of the first region are two lists no further apart than the tolerance?
-fn near_points(measures: &[i32; 375], published: &[i64; 75]) -> u64 {
+fn near_points(measures: &[i32; SERIES_LENGTH], published: &[i64; 75]) -> u64 {
     let mut near: u64 = 0;
     let mut t: usize = 0;
     while t < 75 {
@@ -136,7 +141,7 @@ fn near_points(measures: &[i32; 375], published: &[i64; 75]) -> u64 {
     near
 }
 
-fn largest_difference(measures: &[i32; 375], published: &[i64; 75]) -> u64 {
+fn largest_difference(measures: &[i32; SERIES_LENGTH], published: &[i64; 75]) -> u64 {
     let mut largest: u64 = 0;
     let mut t: usize = 0;
     while t < 75 {
@@ -184,37 +189,47 @@ fn is_taken(taking: Taking) -> bool {
     }
 }
 
+// The record of a region starts with the region's number.
 fn take_region(
-    part: &[u8; 368],
-    measures: &mut [i32; 375],
-    positive: &mut [i64; 375],
-    negative: &mut [i64; 375],
-    figures: &mut [i64; 45],
+    region: u8,
+    part: &mut [u8; 368],
+    measures: &mut [i32; SERIES_LENGTH],
+    sums: &mut [i64; SUMS_LENGTH],
+    figures: &mut [i64; FIGURES_LENGTH],
 ) -> bool {
-    let mut frequencies = [0u32; 75];
-    let step = frequencies::frequency::frequency(
-        tally_after(1),
-        part,
-        &mut frequencies,
-        measures,
-        positive,
-        negative,
-        figures,
-    );
+    part[0] = region;
+    let tally = tally_after(region as u16 + 1);
+    let step = frequencies::frequency::frequency(tally, part, measures, sums, figures);
     let taking = step.taking;
     is_taken(taking)
 }
 
-fn say_table_15(measures: &[i32; 375], figures: &[i64; 45]) {
+fn take_regions(
+    part: &mut [u8; 368],
+    measures: &mut [i32; SERIES_LENGTH],
+    sums: &mut [i64; SUMS_LENGTH],
+    figures: &mut [i64; FIGURES_LENGTH],
+) -> bool {
+    let mut region: u8 = 0;
+    while region < 5 {
+        if !take_region(region, part, measures, sums, figures) {
+            return false;
+        }
+        region += 1;
+    }
+    true
+}
+
+fn say_table_15(measures: &[i32; SERIES_LENGTH], figures: &[i64; FIGURES_LENGTH]) {
     let published = PUBLISHED;
     say(b"table 15: of 75 measures within 10 uHz of the published: ");
     say_number(near_points(measures, &published));
     say(b"; largest difference in uHz: ");
     say_number(largest_difference(measures, &published));
     say(b"\nreliable for raise:");
-    say_reliable(figures[1]);
-    say(b"reliable for lower:");
     say_reliable(figures[2]);
+    say(b"reliable for lower:");
+    say_reliable(figures[3]);
 }
 
 // A unit that stays at the start is off the line by the start less the trajectory: ten times its deviation is 75 times that in thousandths of a MW.
@@ -227,45 +242,42 @@ fn minute(deviation: i64, thousandths: i64) {
     say(b"\n");
 }
 
-fn say_minutes(deviations: &[i64; 75]) {
+// A deviation stands in one of its point's two sums, and in the other 0.
+fn either(above: i64, below: i64) -> i64 {
+    bounded(above) + bounded(below)
+}
+
+fn say_minutes(sums: &[i64; SUMS_LENGTH]) {
     say(b"table 4: 29.334 MW");
-    minute(deviations[14], 29_334);
+    minute(either(sums[14], sums[89]), 29_334);
     say(b"table 4: 29.778 MW");
-    minute(deviations[29], 29_778);
+    minute(either(sums[29], sums[104]), 29_778);
     say(b"table 4: 30.222 MW");
-    minute(deviations[44], 30_222);
+    minute(either(sums[44], sums[119]), 30_222);
     say(b"table 4: 30.666 MW");
-    minute(deviations[59], 30_666);
+    minute(either(sums[59], sums[134]), 30_666);
     say(b"table 5: 31.110 MW");
-    minute(deviations[74], 31_110);
+    minute(either(sums[74], sums[149]), 31_110);
 }
 
 fn take_unit(
     part: &[u8; 372],
-    measures: &[i32; 375],
-    positive: &mut [i64; 375],
-    negative: &mut [i64; 375],
-    deviations: &mut [i64; 75],
+    measures: &[i32; SERIES_LENGTH],
+    sums: &mut [i64; SUMS_LENGTH],
+    figures: &[i64; FIGURES_LENGTH],
 ) -> bool {
-    let mut readings = [0i32; 75];
     let mut numbers = [0u16; 1];
-    let mut places = [0u8; 1];
-    let mut raise = [0i64; 1];
-    let mut lower = [0i64; 1];
-    let mut defaults = [0i64; 6];
+    let mut homes = [0u8; 1];
+    let mut rows = [0i64; ROW_EACH];
     let step = units::unit::unit(
         tally_after(6),
         part,
-        &mut readings,
-        deviations,
         measures,
-        positive,
-        negative,
+        sums,
+        figures,
         &mut numbers,
-        &mut places,
-        &mut raise,
-        &mut lower,
-        &mut defaults,
+        &mut homes,
+        &mut rows,
     );
     let taking = step.taking;
     is_taken(taking)
@@ -276,31 +288,17 @@ fn main() {
     let mut unit = [0u8; 372];
     io::read_full(STDIN_FILENO, &mut region);
     io::read_full(STDIN_FILENO, &mut unit);
-    let mut measures = [0i32; 375];
-    let mut positive = [0i64; 375];
-    let mut negative = [0i64; 375];
-    let mut figures = [0i64; 45];
-    let mut deviations = [0i64; 75];
-    if !take_region(
-        &region,
-        &mut measures,
-        &mut positive,
-        &mut negative,
-        &mut figures,
-    ) {
+    let mut measures = [0i32; SERIES_LENGTH];
+    let mut sums = [0i64; SUMS_LENGTH];
+    let mut figures = [0i64; FIGURES_LENGTH];
+    if !take_regions(&mut region, &mut measures, &mut sums, &mut figures) {
         say(b"table 15: refused\n");
         return;
     }
     say_table_15(&measures, &figures);
-    if !take_unit(
-        &unit,
-        &measures,
-        &mut positive,
-        &mut negative,
-        &mut deviations,
-    ) {
+    if !take_unit(&unit, &measures, &mut sums, &figures) {
         say(b"table 4: refused\n");
         return;
     }
-    say_minutes(&deviations);
+    say_minutes(&sums);
 }

@@ -2,25 +2,25 @@
 // count of live intervals and the default that they give, for raise and for lower. A refused book ends it with one line. How far it is, and what goes
 // wrong with reading or writing, is told on standard error.
 mod books;
-mod input;
 mod output;
 mod performances;
 mod replay;
 mod running;
 
 // The buffers, in bytes, each array once:
-//   a book's series: measures 1,500, positive 3,000, negative 3,000; figures 360
-//   its units: numbers 1,024, places 512, raise 4,096, lower 4,096, defaults 24,576
-//   bytes of a record 372; points of a record (books.rt): frequencies 300, readings 300, deviations 600
+//   a book's regions: measures 1,500, sums 6,000, figures 400
+//   its units: numbers 1,024, homes 512, rows 32,768
+//   bytes of a record 372, and one to see that the books end; a unit's readings 300 (`units`)
 //   an answer's columns (performances.rt): performances, factors, payments, used, unused 4,104 each, and its requirement 24
-//   a direction's performances by row: 4,096, and whether they are live 512
+//   a book's performances (replay.rt) 8,272, and whether they are live 1,034
 //   the weeks: names 1,024, lives 2,068, highs 2,068, lows 8,272
 //   the library's own, while a line is written: 4,096
-// Together 86,416, within 131,072.
+// Together 90,255, within 131,072.
 use book::UNIT;
-use interval::DEFAULTS_LENGTH;
 use interval::FIGURES_LENGTH;
+use interval::ROWS_LENGTH;
 use interval::SERIES_LENGTH;
+use interval::SUMS_LENGTH;
 use performances::ROWS;
 use running::MEMBERS;
 use running::WEEKS;
@@ -28,14 +28,11 @@ use running::WEEKS;
 fn main() {
     let mut bytes = [0u8; UNIT];
     let mut measures = [0i32; SERIES_LENGTH];
-    let mut positive = [0i64; SERIES_LENGTH];
-    let mut negative = [0i64; SERIES_LENGTH];
+    let mut sums = [0i64; SUMS_LENGTH];
     let mut figures = [0i64; FIGURES_LENGTH];
     let mut numbers = [0u16; ROWS];
-    let mut places = [0u8; ROWS];
-    let mut raise = [0i64; ROWS];
-    let mut lower = [0i64; ROWS];
-    let mut defaults = [0i64; DEFAULTS_LENGTH];
+    let mut homes = [0u8; ROWS];
+    let mut rows = [0i64; ROWS_LENGTH];
     let mut names = [0u16; MEMBERS];
     let mut lives = [0u16; WEEKS];
     let mut highs = [0u16; WEEKS];
@@ -43,14 +40,11 @@ fn main() {
     let end = replay::replay(
         &mut bytes,
         &mut measures,
-        &mut positive,
-        &mut negative,
+        &mut sums,
         &mut figures,
         &mut numbers,
-        &mut places,
-        &mut raise,
-        &mut lower,
-        &mut defaults,
+        &mut homes,
+        &mut rows,
         &mut names,
         &mut lives,
         &mut highs,

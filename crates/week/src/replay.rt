@@ -1,11 +1,9 @@
 // The books of the week, one after another: each is taken whole, then every running week has one interval more.
 use super::books::Next;
 use super::books::take_book;
-use super::input::read_record;
 use super::output::tell_books;
-use super::performances::Done;
 use super::performances::ROWS;
-use super::performances::region_done;
+use super::performances::note_book;
 use super::performances::within_rows;
 use super::running::Kept;
 use super::running::MEMBERS;
@@ -14,16 +12,15 @@ use super::running::WEEKS;
 use super::running::add_at;
 use super::running::find;
 use super::running::join;
-use interval::Tally;
-use rules::Direction;
 use rules::Refusal;
 ghost use Prim.Native.Nat.{_+_, _*_, _<_, _≤_};
 ghost use lib.ListN.{length};
-use book::FREQUENCIES;
 use book::UNIT;
-use interval::DEFAULTS_LENGTH;
+use intake::input::fill;
 use interval::FIGURES_LENGTH;
+use interval::ROWS_LENGTH;
 use interval::SERIES_LENGTH;
+use interval::SUMS_LENGTH;
 
 const MOST_BOOKS: u16 = 2016;
 
@@ -58,223 +55,104 @@ fn join_all(numbers: &[u16; ROWS], units: u16, names: &mut [u16; MEMBERS], membe
     joined
 }
 
-// What a number did: the row of its unit, or not live where the book has none.
-fn done_by(
-    number: u16,
-    units: u16,
-    numbers: &[u16; ROWS],
-    rows: &[i64; ROWS],
-    live: &[u8; ROWS],
-) -> Done
-    requires { ⌜ units ≤ 512 ⌝ }
-{
-    let most = units as usize;
-    let row = find(numbers, most, number);
-    if row < most {
-        return Done::Is(live[row], rows[row]);
-    }
-    Done::Is(0, 0)
+// What was done in a week's interval: whether it is live, and the performance.
+struct Done {
+    live: u8,
+    performance: i64,
 }
 
-// What was done is added to the week at a place. A calculator that refuses what its own calls have left is out of turn.
-fn add_done(
-    done: Done,
+// What was done for the week at a place. A number's is that of its row, or not live where the book has no such unit.
+fn done_at(
     at: usize,
-    books: u16,
-    lives: &mut [u16; WEEKS],
-    highs: &mut [u16; WEEKS],
-    lows: &mut [u64; WEEKS],
-) -> Kept
-    requires { ⌜ at < 1034 ⌝ }
-{
-    match done {
-        Done::Is(live, performance) => {
-            add_at(at, books, live != 0, performance, lives, highs, lows)
-        }
-        Done::None => Kept::No(Refusal::OutOfTurn),
-    }
-}
-
-// The five regions of a direction: their units' performances go to the rows, and their residuals' weeks have an interval more.
-fn add_regions(
-    tally: Tally,
-    books: u16,
-    direction: Direction,
-    offset: usize,
-    measures: &[i32],
-    positive: &[i64],
-    negative: &[i64],
-    figures: &[i64],
-    numbers: &[u16],
-    places: &[u8],
-    raise: &[i64],
-    lower: &[i64],
-    defaults: &[i64],
-    rows: &mut [i64; ROWS],
-    live: &mut [u8; ROWS],
-    lives: &mut [u16; WEEKS],
-    highs: &mut [u16; WEEKS],
-    lows: &mut [u64; WEEKS],
-) -> Kept
-    requires { ⌜ offset ≤ 1 ⌝ }
-{
-    let mut region: u16 = 0;
-    while region < FREQUENCIES {
-        let done = region_done(
-            tally,
-            region,
-            direction,
-            measures,
-            positive,
-            negative,
-            figures,
-            numbers,
-            places,
-            raise,
-            lower,
-            defaults,
-            rows,
-            live,
-        );
-        let at = RESIDUALS + 2 * (region as usize) + offset;
-        let kept = add_done(done, at, books, lives, highs, lows);
-        if let Kept::No(_) = kept {
-            return kept;
-        }
-        region += 1;
-    }
-    Kept::Yes
-}
-
-// Every number's week has an interval more.
-fn add_members(
     units: u16,
-    books: u16,
-    members: usize,
-    offset: usize,
     numbers: &[u16; ROWS],
-    rows: &[i64; ROWS],
-    live: &[u8; ROWS],
     names: &[u16; MEMBERS],
+    done: &[i64; WEEKS],
+    live: &[u8; WEEKS],
+) -> Done
+    requires { ⌜ (at < 1_034) × (units ≤ 512) ⌝ }
+{
+    if RESIDUALS <= at {
+        return Done {
+            live: live[at],
+            performance: done[at],
+        };
+    }
+    let most = units as usize;
+    let row = find(numbers, most, names[at / 2]);
+    if most <= row {
+        return Done {
+            live: 0,
+            performance: 0,
+        };
+    }
+    let from = 2 * row + at % 2;
+    Done {
+        live: live[from],
+        performance: done[from],
+    }
+}
+
+// The weeks from one place to another have an interval more.
+fn add_weeks(
+    from: usize,
+    to: usize,
+    books: u16,
+    units: u16,
+    numbers: &[u16; ROWS],
+    names: &[u16; MEMBERS],
+    done: &[i64; WEEKS],
+    live: &[u8; WEEKS],
     lives: &mut [u16; WEEKS],
     highs: &mut [u16; WEEKS],
     lows: &mut [u64; WEEKS],
 ) -> Kept
-    requires { ⌜ (units ≤ 512) × (members ≤ 512) × (offset ≤ 1) ⌝ }
+    requires { ⌜ (to ≤ 1_034) × (units ≤ 512) ⌝ }
 {
-    let mut slot: usize = 0;
-    while slot < members {
-        let done = done_by(names[slot], units, numbers, rows, live);
-        let kept = add_done(done, 2 * slot + offset, books, lives, highs, lows);
+    let mut at = from;
+    while at < to {
+        let what = done_at(at, units, numbers, names, done, live);
+        let kept = add_at(
+            at,
+            books,
+            what.live != 0,
+            what.performance,
+            lives,
+            highs,
+            lows,
+        );
         if let Kept::No(_) = kept {
             return kept;
         }
-        slot += 1;
+        at += 1;
     }
     Kept::Yes
 }
 
-// A direction of a book that was taken.
-fn add_direction(
-    tally: Tally,
-    books: u16,
-    members: usize,
-    direction: Direction,
-    offset: usize,
-    measures: &[i32],
-    positive: &[i64],
-    negative: &[i64],
-    figures: &[i64],
-    numbers: &[u16; ROWS],
-    places: &[u8],
-    raise: &[i64],
-    lower: &[i64],
-    defaults: &[i64],
-    names: &[u16; MEMBERS],
-    lives: &mut [u16; WEEKS],
-    highs: &mut [u16; WEEKS],
-    lows: &mut [u64; WEEKS],
-) -> Kept
-    requires { ⌜ (members ≤ 512) × (offset ≤ 1) ⌝ }
-{
-    let mut rows = [0i64; ROWS];
-    let mut live = [0u8; ROWS];
-    let kept = add_regions(
-        tally,
-        books,
-        direction,
-        offset,
-        measures,
-        positive,
-        negative,
-        figures,
-        numbers,
-        places,
-        raise,
-        lower,
-        defaults,
-        &mut rows,
-        &mut live,
-        lives,
-        highs,
-        lows,
-    );
-    if let Kept::No(_) = kept {
-        return kept;
-    }
-    let units = within_rows(tally.units);
-    add_members(
-        units,
-        books,
-        members,
-        offset,
-        numbers,
-        &rows,
-        &live,
-        names,
-        lives,
-        highs,
-        lows,
-    )
-}
-
-// Both directions of a book.
+// Every number's and every residual's weeks have an interval more.
 fn add_book(
-    tally: Tally,
     books: u16,
     members: usize,
-    measures: &[i32],
-    positive: &[i64],
-    negative: &[i64],
-    figures: &[i64],
+    units: u16,
     numbers: &[u16; ROWS],
-    places: &[u8],
-    raise: &[i64],
-    lower: &[i64],
-    defaults: &[i64],
     names: &[u16; MEMBERS],
+    done: &[i64; WEEKS],
+    live: &[u8; WEEKS],
     lives: &mut [u16; WEEKS],
     highs: &mut [u16; WEEKS],
     lows: &mut [u64; WEEKS],
 ) -> Kept
-    requires { ⌜ members ≤ 512 ⌝ }
+    requires { ⌜ (members ≤ 512) × (units ≤ 512) ⌝ }
 {
-    let kept = add_direction(
-        tally,
-        books,
-        members,
-        Direction::Raise,
+    let kept = add_weeks(
         0,
-        measures,
-        positive,
-        negative,
-        figures,
+        2 * members,
+        books,
+        units,
         numbers,
-        places,
-        raise,
-        lower,
-        defaults,
         names,
+        done,
+        live,
         lives,
         highs,
         lows,
@@ -282,43 +160,35 @@ fn add_book(
     if let Kept::No(_) = kept {
         return kept;
     }
-    add_direction(
-        tally,
+    add_weeks(
+        RESIDUALS,
+        WEEKS,
         books,
-        members,
-        Direction::Lower,
-        1,
-        measures,
-        positive,
-        negative,
-        figures,
+        units,
         numbers,
-        places,
-        raise,
-        lower,
-        defaults,
         names,
+        done,
+        live,
         lives,
         highs,
         lows,
     )
 }
 
-// Why no more books are taken; a book's place is counted from 1.
-fn end_of(next: Next, books: u16, members: usize) -> End
-    requires { ⌜ books < 2_016 ⌝ }
-{
+// Why no more books are taken.
+fn end_of(next: Next, books: u16, members: usize, place: u16) -> End {
     match next {
         Next::Taken(_) => End::Over(books, members),
         Next::Ended => End::Over(books, members),
-        Next::Refused(refusal) => End::Refused(refusal, books + 1),
+        Next::Refused(refusal) => End::Refused(refusal, place),
         Next::Failed => End::Failed,
     }
 }
 
 // After 2,016 books any byte is one too many.
-fn last_end(members: usize, bytes: &mut [u8; UNIT]) -> End {
-    let got = read_record(bytes, 1);
+fn last_end(members: usize) -> End {
+    let mut byte = [0u8; 1];
+    let got = fill(&mut byte);
     if got.failed {
         return End::Failed;
     }
@@ -343,20 +213,17 @@ fn goes_on(end: End) -> bool {
     }
 }
 
-// The next book, after so many with so many numbers.
+// The next book, after so many with so many numbers; its place is counted from 1.
 fn replay_book(
     books: u16,
     members: usize,
     bytes: &mut [u8; UNIT],
     measures: &mut [i32; SERIES_LENGTH],
-    positive: &mut [i64; SERIES_LENGTH],
-    negative: &mut [i64; SERIES_LENGTH],
+    sums: &mut [i64; SUMS_LENGTH],
     figures: &mut [i64; FIGURES_LENGTH],
     numbers: &mut [u16; ROWS],
-    places: &mut [u8; ROWS],
-    raise: &mut [i64; ROWS],
-    lower: &mut [i64; ROWS],
-    defaults: &mut [i64; DEFAULTS_LENGTH],
+    homes: &mut [u8; ROWS],
+    rows: &mut [i64; ROWS_LENGTH],
     names: &mut [u16; MEMBERS],
     lives: &mut [u16; WEEKS],
     highs: &mut [u16; WEEKS],
@@ -365,45 +232,46 @@ fn replay_book(
     requires { ⌜ (books < 2_016) × (members ≤ 512) ⌝ }
     ensures { λ r. ⌜ r .members ≤ 512 ⌝ }
 {
-    let next = take_book(
-        bytes,
+    let place = books + 1;
+    let next = take_book(bytes, measures, sums, figures, numbers, homes, rows);
+    let Next::Taken(tally) = next else {
+        return stopped(end_of(next, books, members, place));
+    };
+    let units = within_rows(tally.units);
+    let joined = join_all(numbers, units, names, members);
+    if MEMBERS < joined {
+        return stopped(End::Refused(Refusal::WrongCount, place));
+    }
+    let mut done = [0i64; WEEKS];
+    let mut live = [0u8; WEEKS];
+    let noted = note_book(
+        tally,
         measures,
-        positive,
-        negative,
+        sums,
         figures,
         numbers,
-        places,
-        raise,
-        lower,
-        defaults,
+        homes,
+        rows,
+        &mut done,
+        &mut live,
     );
-    let Next::Taken(tally) = next else {
-        return stopped(end_of(next, books, members));
-    };
-    let joined = join_all(numbers, within_rows(tally.units), names, members);
-    if MEMBERS < joined {
-        return stopped(End::Refused(Refusal::WrongCount, books + 1));
+    if let Kept::No(refusal) = noted {
+        return stopped(End::Refused(refusal, place));
     }
     let kept = add_book(
-        tally,
         books,
         joined,
-        measures,
-        positive,
-        negative,
-        figures,
+        units,
         numbers,
-        places,
-        raise,
-        lower,
-        defaults,
         names,
+        &done,
+        &live,
         lives,
         highs,
         lows,
     );
     if let Kept::No(refusal) = kept {
-        return stopped(End::Refused(refusal, books + 1));
+        return stopped(End::Refused(refusal, place));
     }
     Turn {
         members: joined,
@@ -414,14 +282,11 @@ fn replay_book(
 pub(crate) fn replay(
     bytes: &mut [u8; UNIT],
     measures: &mut [i32; SERIES_LENGTH],
-    positive: &mut [i64; SERIES_LENGTH],
-    negative: &mut [i64; SERIES_LENGTH],
+    sums: &mut [i64; SUMS_LENGTH],
     figures: &mut [i64; FIGURES_LENGTH],
     numbers: &mut [u16; ROWS],
-    places: &mut [u8; ROWS],
-    raise: &mut [i64; ROWS],
-    lower: &mut [i64; ROWS],
-    defaults: &mut [i64; DEFAULTS_LENGTH],
+    homes: &mut [u8; ROWS],
+    rows: &mut [i64; ROWS_LENGTH],
     names: &mut [u16; MEMBERS],
     lives: &mut [u16; WEEKS],
     highs: &mut [u16; WEEKS],
@@ -435,14 +300,11 @@ pub(crate) fn replay(
             members,
             bytes,
             measures,
-            positive,
-            negative,
+            sums,
             figures,
             numbers,
-            places,
-            raise,
-            lower,
-            defaults,
+            homes,
+            rows,
             names,
             lives,
             highs,
@@ -456,5 +318,5 @@ pub(crate) fn replay(
         books += 1;
         tell_books(books);
     }
-    last_end(members, bytes)
+    last_end(members)
 }

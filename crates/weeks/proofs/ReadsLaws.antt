@@ -9,7 +9,7 @@ use lib.Dec.{leb, ltb}
 use borrow.Author.Tests.{leb-true, leb-false, ltb-true, lt-leb}
 use Rattle.integers.specs.Sums.{every, both}
 use Rattle.integers.proofs.Sums.{every-none}
-use Rattle.rules.specs.declared.Refusal.the-variants.{OutOfTurn, WrongCount, WrongWeek}
+use Rattle.rules.specs.declared.Refusal.the-variants.{WrongState, WrongCount, WrongWeek}
 use Rattle.rules.specs.declared.RunningWeek.{RunningWeek}
 use Rattle.rules.specs.declared.Whose.{Whose}
 use Rattle.rules.specs.Refusals.{Reply, taken, refused, unless, _>>=_}
@@ -37,7 +37,7 @@ passed m x r {next} e = go (left-by-a-run r) (whose-fine m) refl (ltb (r .seen) 
 
     go :
         (a b : Bool) → whose-fine m ≡ b → (c : Bool) → ltb (r .seen) most-intervals ≡ c → (d : Bool) → in-reach m x ≡ d →
-        unless a OutOfTurn (unless b WrongCount (unless (c && d) WrongWeek (taken (with-interval r x)))) ≡ taken next → Passed m x r next
+        unless a WrongState (unless b WrongCount (unless (c && d) WrongWeek (taken (with-interval r x)))) ≡ taken next → Passed m x r next
     go true true f true g true h e = record { who = f; few = ltb-true (r .seen) most-intervals g; can = h; is = cc }
     go true true f true g false h e = apart (cc)
     go true true f false g d h e = apart (cc)

@@ -12,7 +12,6 @@ use lib.Seq.{getD-take, length-take-le, take-all}
 use borrow.Author.Tests.{leb-true, leb-false, le-leb, lt-leb}
 use Rattle.integers.specs.Sums.{one, every, both}
 use Rattle.integers.proofs.Sums.{every-at, every-more, every-none, every-ext, sumℕ-ext}
-use Rattle.integers.proofs.Fills.{filled-ext}
 use Rattle.rules.specs.declared.Refusal.{Refusal}
 use Rattle.rules.specs.declared.Refusal.the-variants.{TooShort, WrongCount, AverageTooLow, WrongWeek}
 use Rattle.rules.specs.declared.WeekDefault.{WeekDefault}
@@ -36,10 +35,12 @@ use Rattle.rules.specs.Week.{
   list-reply,
 }
 use Rattle.rules.specs.WeekRoster.{whose-of, member, member-interval, member-default, long-enough, roster-reply}
+use Rattle.weeks.specs.declared.Told.{Told}
 use Rattle.weeks.specs.declared.Told.the-variants as told
+use Rattle.weeks.specs.declared.Written.{Written}
 use Rattle.weeks.specs.declared.Written.the-variants as written
 use Rattle.weeks.specs.Promises.{told-of, reply-to, RosterPromise}
-use Rattle.weeks.specs.Rosters.{ColumnsWritten, Long, averages-fine, default-in, judged, judgement, member-told, told-number, weeks-fine}
+use Rattle.weeks.specs.Rosters.{AllTold, ColumnsWritten, Long, averages-fine, judged, judgement, member-told, told-number, weeks-fine}
 
 -- the larger of two judgements is that of both tests together
 together : (a b c d : Bool) → max (judgement a b) (judgement c d) ≡ judgement (a && c) (b && d)
@@ -83,6 +84,24 @@ week-ext m n w v e =
         unless (whose-fine m) WrongCount (unless (leb n most-intervals && a) WrongWeek (default-reply m s c)) ≡ unless (whose-fine m) WrongCount
         (unless (leb n most-intervals && b) WrongWeek (default-reply m t d))
     go a b s t c d e f g = rw (e, f, g)
+
+-- a default is told once, and never as a refusal
+abbrev told-as : WeekDefault → Told → WeekDefault
+told-as d (told.Is e) = e
+told-as d (told.Refused r) = d
+
+pub told-once : {d e : WeekDefault} → told.Is d ≡ told.Is e → d ≡ e
+told-once {d} {e} same = ap (told-as d) same
+
+abbrev is-told : Told → ℕ
+is-told (told.Is d) = 1
+is-told (told.Refused r) = 0
+
+pub never-both : {d : WeekDefault} {r : Refusal} → told.Is d ≡ told.Refused r → ⊥
+never-both same = go (ap is-told same)
+  where
+    go : _≡_ {A = ℕ} 1 0 → ⊥
+    go e = omega arith
 
 module _ (n : ℕ) (ms : List ℕ) (ps : List ℤ) (bits : List ℕ) where
   pub judged-none : 0 ≡ (judged n ms ps bits) 0
@@ -128,7 +147,7 @@ module _ (n : ℕ) (ms : List ℕ) (ps : List ℤ) (bits : List ℕ) where
   -- where its tests hold, a member is told its default
   pub told-default :
       (j : ℕ) → whose-fine (member n ms ps bits j) ≡ true → (weeks-fine n ms ps bits) j ≡ true → (averages-fine n ms ps bits) j ≡ true →
-      default-in ((member-told n ms ps bits) j) ≡ member-default n ms ps bits j
+      member-told n ms ps bits j ≡ told.Is (member-default n ms ps bits j)
   unfolding week-reply
   told-default j a b c = rw (a, b, c)
 
@@ -204,24 +223,25 @@ module _ (n : ℕ) (ms : List ℕ) (ps : List ℤ) (bits counts : List ℕ) (def
           go true false f g e = roster-refused AverageTooLow (by true false f g)
           go false d f g e = absurd (omega arith)
 
-      pub roster-done :
-          (judged n ms ps bits m ≡ 17 → ⊥) → (judged n ms ps bits m ≡ 14 → ⊥) → {counts′ : List ℕ} {defaults′ : List ℤ} →
-          ColumnsWritten n ms ps bits counts defaults counts′ defaults′ →
-          RosterPromise n ms ps bits counts defaults written.Done counts′ defaults′
-      roster-done no-wrong no-low {counts′} {defaults′} columns =
-          go (every m (weeks-fine n ms ps bits)) (every m (averages-fine n ms ps bits)) refl refl no-wrong no-low
-        where
-          go :
-              (c d : Bool) → every m (weeks-fine n ms ps bits) ≡ c → every m (averages-fine n ms ps bits) ≡ d → (judgement c d ≡ 17 → ⊥) →
-              (judgement c d ≡ 14 → ⊥) → RosterPromise n ms ps bits counts defaults written.Done counts′ defaults′
-          go true true g h x y =
-              let done = by true true g h in
-              let same : (j : ℕ) → j < m → default-in (member-told n ms ps bits j) ≡ member-default n ms ps bits j = λ j l. told-default n ms ps bits j
-              (every-at m fine (sym who) j l) (every-at m (weeks-fine n ms ps bits) g j l) (every-at m (averages-fine n ms ps bits) h j l) in
-              record {
-                reply = rw done;
-                counted = rw done (columns .counted ∙ filled-ext m _ _ counts (λ j l. ap (λ (d : WeekDefault). d .count) (same j l)));
-                averaged = rw done (columns .averaged ∙ filled-ext m _ _ defaults (λ j l. ap (λ (d : WeekDefault). d .default) (same j l)));
-              }
-          go true false g h x y = absurd (y refl)
-          go false d g h x y = absurd (x refl)
+      module _ (no-wrong : judged n ms ps bits m ≡ 17 → ⊥) (no-low : judged n ms ps bits m ≡ 14 → ⊥) where
+        passed : (every m (weeks-fine n ms ps bits) ≡ true) × (every m (averages-fine n ms ps bits) ≡ true)
+        passed = go (every m (weeks-fine n ms ps bits)) (every m (averages-fine n ms ps bits)) no-wrong no-low
+          where
+            go : (c d : Bool) → (judgement c d ≡ 17 → ⊥) → (judgement c d ≡ 14 → ⊥) → (c ≡ true) × (d ≡ true)
+            go true true x y = (refl, refl)
+            go true false x y = absurd (y refl)
+            go false d x y = absurd (x refl)
+
+        pub all-told : AllTold n ms ps bits
+        all-told =
+            record {
+              all = λ j l. told-default n ms ps bits j (every-at m fine (sym who) j l) (every-at m (weeks-fine n ms ps bits) (passed .0) j l)
+                  (every-at m (averages-fine n ms ps bits) (passed .1) j l);
+            }
+
+        pub roster-done :
+            {r : Written} {counts′ : List ℕ} {defaults′ : List ℤ} → r ≡ written.Done → ColumnsWritten n ms ps bits counts defaults counts′ defaults′ →
+            RosterPromise n ms ps bits counts defaults r counts′ defaults′
+        roster-done done columns =
+            let all = by true true (passed .0) (passed .1) in
+            record { reply = done ∙ rw all; counted = rw all (columns .counted); averaged = rw all (columns .averaged) }

@@ -2,17 +2,16 @@
 use mathlib.Core.Path.{_≡_}
 use mathlib.Core.Bool.{Bool, true, cond}
 use mathlib.Core.List.{List}
-use Prim.Native.Nat.{ℕ, _*_, _≤_}
-use lib.IntN.{ℤ, pos}
+use Prim.Native.Nat.{ℕ, _*_, _≤_, _<_}
+use lib.IntN.{ℤ}
 use lib.ListN.{length, getD}
 use Rattle.integers.specs.Sums.{every}
-use Rattle.integers.specs.Fills.{filled}
-use Rattle.rules.specs.declared.WeekDefault.{WeekDefault}
 use Rattle.rules.specs.Refusals.{number}
 use Rattle.rules.specs.Week.{whose-fine, week-fine, average-fine, week-reply, bytes-for}
-use Rattle.rules.specs.WeekRoster.{whose-of, member, member-interval, member-total, member-count}
+use Rattle.rules.specs.WeekRoster.{whose-of, member, member-interval, member-total, member-count, member-default, counts-after, defaults-after}
 use Rattle.weeks.specs.declared.Told.{Told}
 use Rattle.weeks.specs.declared.Told.the-variants as told
+use Rattle.weeks.specs.declared.Written.{Written}
 use Rattle.weeks.specs.declared.Written.the-variants as written
 use Rattle.weeks.specs.Promises.{told-of}
 
@@ -21,10 +20,10 @@ abbrev pub told-number : Told → ℕ
 told-number (told.Is d) = 0
 told-number (told.Refused r) = number r
 
--- the count and the default; of a refusal there are none
-abbrev pub default-in : Told → WeekDefault
-default-in (told.Is d) = d
-default-in (told.Refused r) = record { count = 0; default = pos 0 }
+-- a refusal, passed on
+abbrev pub passed-on : Told → Written
+passed-on (told.Is d) = written.Done
+passed-on (told.Refused r) = written.Refused r
 
 -- 17, 14 or 0, by what the tests say of weeks and averages
 abbrev pub judgement : Bool → Bool → ℕ
@@ -53,8 +52,11 @@ module _ (n : ℕ) (ms : List ℕ) (ps : List ℤ) (bits : List ℕ) where
   abbrev pub judged : ℕ → ℕ
   judged k = judgement (every k weeks-fine) (every k averages-fine)
 
--- the columns are filled with what the members are told
-pub record ColumnsWritten (n : ℕ) (ms : List ℕ) (ps : List ℤ) (bits counts : List ℕ) (defaults : List ℤ) (counts′ : List ℕ)
-    (defaults′ : List ℤ) : Type 0 where
-  pub counted : counts′ ≡ filled (length ms) (λ j. default-in (member-told n ms ps bits j) .count) counts
-  pub averaged : defaults′ ≡ filled (length ms) (λ j. default-in (member-told n ms ps bits j) .default) defaults
+  -- every member is told its default
+  pub record AllTold : Type 0 where
+    pub all : (j : ℕ) → j < length ms → member-told j ≡ told.Is (member-default n ms ps bits j)
+
+  -- the columns are filled with the members' defaults
+  pub record ColumnsWritten (counts : List ℕ) (defaults : List ℤ) (counts′ : List ℕ) (defaults′ : List ℤ) : Type 0 where
+    pub counted : counts′ ≡ counts-after n ms ps bits counts
+    pub averaged : defaults′ ≡ defaults-after n ms ps bits defaults

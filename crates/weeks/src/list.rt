@@ -6,6 +6,7 @@ use super::total::one_more;
 use super::total::tell;
 use super::whose::is_fine;
 use super::whose::reach;
+use super::whose::units_of;
 use rules::Refusal;
 use rules::RunningWeek;
 use rules::Whose;
@@ -63,13 +64,14 @@ pub fn week(whose: Whose, performances: &[i64], live: &[u8]) -> Told
     if live.len() < bytes_for(performances.len()) {
         return Told::Refused(Refusal::TooShort);
     }
-    if !is_fine(whose) {
+    let units = units_of(whose);
+    if !is_fine(units) {
         return Told::Refused(Refusal::WrongCount);
     }
     if (MOST_INTERVALS as usize) < performances.len() {
         return Told::Refused(Refusal::WrongWeek);
     }
-    match gather(reach(whose), performances, live) {
+    match gather(reach(units), performances, live) {
         Added::Next(week) => tell(whose, week),
         Added::Refused(refusal) => Told::Refused(refusal),
     }

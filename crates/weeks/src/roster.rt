@@ -5,8 +5,8 @@ use super::Written;
 use super::list::bytes_for;
 use super::list::week;
 use super::whose::is_fine;
+use super::whose::units_of;
 use rules::Refusal;
-use rules::WeekDefault;
 use rules::Whose;
 use rules::refusal_number;
 ghost use mathlib.Core.Path.{_≡_};
@@ -16,8 +16,9 @@ ghost use lib.ListN.{length, getD};
 ghost use Rattle.integers.specs.Sums.{every};
 ghost use Rattle.rules.specs.Week.{whose-fine, bytes-for};
 ghost use Rattle.rules.specs.WeekRoster.{whose-of, long-enough};
+ghost use Rattle.weeks.specs.declared.Written.the-variants.{Done};
 ghost use Rattle.weeks.specs.Promises.{told-of, RosterPromise};
-ghost use Rattle.weeks.specs.Rosters.{Long, AllFine, ColumnsWritten, told-number, default-in, judged, member-told};
+ghost use Rattle.weeks.specs.Rosters.{Long, AllFine, AllTold, ColumnsWritten, told-number, passed-on, judged, member-told};
 
 // Who a member is, as a number: 0 a residual, 1 a unit, more a group of so many units.
 pub fn whose_of(number: u16) -> Whose
@@ -72,7 +73,7 @@ fn all_fine(whose: &[u16]) -> bool
 {
     let mut j: usize = 0;
     while j < whose.len() {
-        if !is_fine(whose_of(whose[j])) {
+        if !is_fine(units_of(whose_of(whose[j]))) {
             return false;
         }
         j += 1;
@@ -123,19 +124,17 @@ fn judge(intervals: usize, whose: &[u16], performances: &[i64], live: &[u8]) -> 
     worst
 }
 
-// The count and the default; of a refusal there are none.
-fn default_of(told: Told) -> WeekDefault
-    ensures { λ r. ⌜ r ≡ default-in told ⌝ }
+// A refusal, passed on.
+fn passed_on(told: Told) -> Written
+    ensures { λ r. ⌜ r ≡ passed-on told ⌝ }
 {
     match told {
-        Told::Is(default) => default,
-        Told::Refused(_) => WeekDefault {
-            count: 0,
-            default: 0,
-        },
+        Told::Is(_) => Written::Done,
+        Told::Refused(refusal) => Written::Refused(refusal),
     }
 }
 
+// Where no member's week is refused, all are written.
 fn write(
     intervals: usize,
     whose: &[u16],
@@ -143,20 +142,24 @@ fn write(
     live: &[u8],
     counts: &mut [u16],
     defaults: &mut [i64],
-)
-    requires { ⌜ Long intervals (now whose) (now performances) (now live)
+) -> Written
+    requires { ⌜ Long intervals (now whose) (now performances) (now live) × AllTold intervals (now whose) (now performances) (now live)
         × (length (now whose) ≤ length (now counts)) × (length (now whose) ≤ length (now defaults)) ⌝ }
-    ensures { λ _. ⌜ ColumnsWritten intervals (now (whose .entry)) (now (performances .entry)) (now (live .entry))
+    ensures { λ r. ⌜ (r ≡ Done) × ColumnsWritten intervals (now (whose .entry)) (now (performances .entry)) (now (live .entry))
         (now (counts .entry)) (now (defaults .entry)) (now (counts .exit)) (now (defaults .exit)) ⌝ }
 {
     let mut j: usize = 0;
     while j < whose.len() {
-        let told = default_of(member_week(intervals, whose, performances, live, j));
-        let default = told.default;
-        counts[j] = told.count;
+        let told = member_week(intervals, whose, performances, live, j);
+        let Told::Is(found) = told else {
+            return passed_on(told);
+        };
+        let default = found.default;
+        counts[j] = found.count;
         defaults[j] = default;
         j += 1;
     }
+    Written::Done
 }
 
 // Per member, count and default. Refuses 12 for a list that is too short, then for all members 5, then 17, then 14; nothing is written then.
@@ -185,6 +188,5 @@ pub fn roster(
     if worst == refusal_number(Refusal::AverageTooLow) {
         return Written::Refused(Refusal::AverageTooLow);
     }
-    write(n, whose, performances, live, counts, defaults);
-    Written::Done
+    write(n, whose, performances, live, counts, defaults)
 }

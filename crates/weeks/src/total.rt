@@ -28,8 +28,8 @@ fn size(performance: i64) -> u64
     }
 }
 
-// Is this a record that some run of calls leaves? With `low` below the base, a total is over what so many live ones can reach where `high` is
-// over their number, or is that number and `low` is not 0.
+// Is this a record that some run of calls leaves? So many live ones can reach a total whose `high` is below their number, with `low` below the base, or
+// is that number, with `low` 0: the last two are one test, which takes a register less.
 pub(crate) fn is_left_by_a_run(week: RunningWeek) -> bool
     ensures { λ r. ⌜ r ≡ left-by-a-run week ⌝ }
 {
@@ -39,16 +39,10 @@ pub(crate) fn is_left_by_a_run(week: RunningWeek) -> bool
     if MOST_INTERVALS < week.seen {
         return false;
     }
-    if BASE <= week.low {
-        return false;
-    }
     if week.high < week.live {
-        return true;
+        return week.low < BASE;
     }
-    if week.live < week.high {
-        return false;
-    }
-    week.low == 0
+    (week.high - week.live) as u64 | week.low == 0
 }
 
 // A live interval more that falls short by so much. That is at most the base, so one comparison carries; it is seldom met, and a remainder, which is dear,
@@ -74,7 +68,8 @@ fn carried(week: RunningWeek, short: u64) -> RunningWeek
     }
 }
 
-// One interval more, or 17 where a live performance is past the limit, either way. What stands at an interval that is not live is not looked at.
+// One interval more, or 17 where a live performance is past the limit, either way: below zero that is one whose sum with the limit is below zero. What
+// stands at an interval that is not live is not looked at.
 pub(crate) fn one_more(limit: u64, week: RunningWeek, live: bool, performance: i64) -> Added
     requires { ⌜ Run week × (week .seen < 2_016) × (limit ≤ base) ⌝ }
     ensures { λ r. ⌜ r ≡ added-of (more-reply limit week (interval live performance)) ⌝ }
@@ -98,11 +93,10 @@ pub(crate) fn one_more(limit: u64, week: RunningWeek, live: bool, performance: i
             low: week.low,
         });
     }
-    let short = size(performance);
-    if limit < short {
+    if limit as i64 + performance < 0 {
         return Added::Refused(Refusal::WrongWeek);
     }
-    Added::Next(carried(week, short))
+    Added::Next(carried(week, size(performance)))
 }
 
 // The nearest of the total over the live intervals, as a size. The base is divided first, so that no product passes 64 bits.

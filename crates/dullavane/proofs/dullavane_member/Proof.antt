@@ -1,4 +1,4 @@
--- The tally is ready and the row's answer is told, or it is not and the refusal is.
+-- The words hold a tally that can be asked and the row's answer is told, or they hold none and the refusal is.
 use mathlib.Core.Path.{_≡_, _∙_, ap, subst}
 use mathlib.Core.Bool.{Bool}
 use lib.Dec.{leb}
@@ -6,39 +6,40 @@ use lib.ListN.{length}
 use borrow.Author.Needs.{needs}
 use borrow.Author.Tests.{leb-true}
 use Rattle.rules.specs.declared.Direction.{Direction}
+use Rattle.interval.specs.Lent.{lent-member}
 use Rattle.answer.specs.Roster.{MemberPromise}
 use Rattle.dullavane.specs.Words.{reply-number}
-use Rattle.dullavane.proofs.Called.{was-held, was-unheld}
-use Rattle.dullavane.specs.Asked.{ready, asked-narrow, member-words}
-use Rattle.dullavane.proofs.AskedLaws.{Ready, ready-means, AskedNarrow, asked-fits}
+use Rattle.dullavane.proofs.Called.{was-called, was-refused}
+use Rattle.dullavane.specs.Asked.{asked-tally, asked-narrow, member-words}
+use Rattle.dullavane.proofs.AskedLaws.{AskedTally, asked-means, AskedNarrow, asked-fits}
 use Rattle.dullavane.proofs.dullavane_member.Statement.{statement}
 use Rattle.dullavane.proofs.dullavane_member.Tie as tie
 
-abbrev start : tie.After-unready → tie.Start
+abbrev start : tie.After-asked-refusal → tie.Start
 start c = c .before .before .before .before .before .before
 
-ready-number : (c : tie.After-unready) → let a = start c .args in c .unready .result ≡
-    reply-number (ready (a .tally .now) (asked-narrow (a .row) (a .direction) (a .set)) (leb member-words (length (a .words .now))))
-ready-number c =
+asked-number : (c : tie.After-asked-refusal) → let a = start c .args in c .asked-refusal .result ≡
+    reply-number (asked-tally (a .tally .now) (asked-narrow (a .row) (a .direction) (a .set)) (leb member-words (length (a .words .now))))
+asked-number c =
     let a = start c .args in
-    c .unready .ensures ∙ ap (λ (fine : Bool). reply-number (ready (a .tally .now) fine (leb member-words (length (a .words .now)))))
+    c .asked-refusal .ensures ∙ ap (λ (narrow : Bool). reply-number (asked-tally (a .tally .now) narrow (leb member-words (length (a .words .now)))))
     (c .before .narrow-asked .ensures)
 
-means : (c : tie.Else1) → let a = start (c .before) .args in Ready (a .tally .now) (asked-narrow (a .row) (a .direction) (a .set))
+means : (c : tie.Else1) → let a = start (c .before) .args in AskedTally (a .tally .now) (asked-narrow (a .row) (a .direction) (a .set))
     (leb member-words (length (a .words .now)))
-means c = ready-means _ _ _ (ready-number (c .before)) (c .if1 .left)
+means c = asked-means _ _ _ (asked-number (c .before)) (c .if1 .left)
 
 fits : (c : tie.Else1) → let a = start (c .before) .args in AskedNarrow (a .row) (a .direction) (a .set)
-fits c = asked-fits _ _ _ (means c .asked)
+fits c = asked-fits _ _ _ (means c .narrow-so)
 
 narrow-asked-requires : tie.Need-narrow-asked-requires
 narrow-asked-requires c κs = search needs
 
-unready-requires : tie.Need-unready-requires
-unready-requires c κs = search needs
+asked-refusal-requires : tie.Need-asked-refusal-requires
+asked-refusal-requires c κs = search needs
 
 returns : tie.Need-returns
-returns c = record { answer = was-unheld _ _ _ _ _ _ (ready-number (c .before)) (c .if1 .taken) tt }
+returns c = λ rest. record { answer = was-refused _ _ _ _ _ _ (asked-number (c .before)) (c .if1 .taken) tt }
 
 tally-in-requires : tie.Need-tally-in-requires
 tally-in-requires c κs = means c .in-words
@@ -56,7 +57,7 @@ member-requires : tie.Need-member-requires
 member-requires c κs = search needs
 
 tell-row-requires : tie.Need-tell-row-requires
-tell-row-requires c κs = leb-true _ _ (means (c .before .before .before .before) .roomy)
+tell-row-requires c κs = leb-true _ _ (means (c .before .before .before .before) .long-so)
 
 same-length : tie.Need-same-length
 same-length c = c .before .words .given
@@ -67,16 +68,19 @@ returns-2 c =
     let found = s .before .before in
     let t = found .before .before in
     let a = start (t .before .before) .args in
-    let promised = subst (λ (d : Direction). MemberPromise (a .row) (t .tally-in .result .units) d (a .set) (a .figures .now) (a .numbers .now) (a .places .now)
-    (found .member .result)) (found .before .direction-of .ensures) (found .member .ensures) in
-    record { answer = was-held _ _ _ _ _ (means (t .before) .as-held ∙ t .tally-in .ensures) promised (s .tell-row .ensures) }
+    λ rest.
+    let l = lent-member rest (a .figures .now) (a .numbers .now) (a .homes .now) in
+    let promised =
+    subst (λ (d : Direction). MemberPromise (t .tally-in .result) (a .row) d (a .set) l (found .member .result)) (found .before .direction-of .ensures)
+    (found .member .ensures rest) in
+    record { answer = was-called _ _ _ _ _ (means (t .before) .as-held ∙ t .tally-in .ensures) promised (s .tell-row .ensures) }
 
 pub dullavane-member-spec : {M : Type 1} → statement M
 dullavane-member-spec =
     tie.close
     (tie.spec
     narrow-asked-requires
-    unready-requires
+    asked-refusal-requires
     returns
     tally-in-requires
     direction-of-requires

@@ -24,8 +24,8 @@ returns c =
     let a = u .before .before .before .args in
     add-unheld (a .whose) (a .live) (a .performance) (a .week .now) (λ e. c .if1 .taken (u .week-unheld .ensures ∙ e)) (u .week-unheld .ensures)
 
-whose-of-requires : tie.Need-whose-of-requires
-whose-of-requires c κs = search needs
+as-group-requires : tie.Need-as-group-requires
+as-group-requires c κs = search needs
 
 week-in-requires : tie.Need-week-in-requires
 week-in-requires c κs =
@@ -49,7 +49,7 @@ returns-2 c =
     let w = i .before .before in
     let s = w .before .before .before .before .before in
     let a = s .args in
-    let p = subst (λ (k : Whose). AddPromise k (flag (a .live)) (a .performance) (i .week-in .result) (d .add .result)) (w .whose-of .ensures)
+    let p = subst (λ (k : Whose). AddPromise k (flag (a .live)) (a .performance) (i .week-in .result) (d .add .result)) (w .as-group .ensures)
     (simp (toZ-ofZ, s .fits .performance) at (d .add .ensures)) in
     add-told (a .whose) (a .live) (a .performance) (a .week .now) (i .week-in .result) (i .week-in .ensures) (d .add .result) p (t .tell-week .ensures .0)
     (t .tell-week .ensures .1)
@@ -61,7 +61,7 @@ dullavane-week-add-spec =
     week-unheld-requires
     same-length
     returns
-    whose-of-requires
+    as-group-requires
     week-in-requires
     add-requires
     tell-week-requires

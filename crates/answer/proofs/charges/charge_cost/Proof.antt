@@ -3,6 +3,7 @@ use mathlib.Core.Path.{_≡_, refl, _∙_, ap}
 use Prim.Native.Nat.{_≤_}
 use lib.ListN.{length}
 use native.Mathlib.Omega.{arith}
+use Rattle.answer.specs.Asked.{lent-members}
 use Rattle.answer.proofs.Lists.{headed-length}
 use Rattle.answer.proofs.PoolsLaws.{used-cents-≤}
 use Rattle.answer.proofs.ChargesLaws.{cost-charged}
@@ -22,8 +23,8 @@ within-cost c =
     let f = a .fields in
     omega (arith, c .used-pool .ensures, used-cents-≤ (f .cost) (f .enabled) (f .used) (a .reliable))
 
-same-room : (c : tie.After-charge-members) → length (c .charge-members .last .1 .1 .1 .1 .1 .1 .1 .1 .1 .1 .1 .0) ≡ length (start (pooled c) .args .values .now)
-same-room c = ap length (c .charge-members .ensures .column) ∙ headed-length _ _
+same-long : (c : tie.After-charge-members) → length (c .charge-members .last .1 .1 .1 .1 .1 .1 .1 .1 .1 .0) ≡ length (start (pooled c) .args .values .now)
+same-long c = ap length (c .charge-members .ensures .column) ∙ headed-length _ _
 
 used-pool-requires : tie.Need-used-pool-requires
 used-pool-requires c κs = search needs
@@ -39,7 +40,7 @@ charge-members-requires-2 c κs =
     let m = c .before .before .before .before in
     let u = pooled m in
     let h = start u .pre in
-    (omega (arith, h .cost, within-cost u), h .used, rw (same-room m) (h .members))
+    (omega (arith, h .cost, within-cost u), h .used, rw (same-long m) (h .members))
 
 same-length : tie.Need-same-length
 same-length c = search needs
@@ -56,7 +57,7 @@ returns c =
     let m = w .before .before .before .before .before in
     let u = pooled m in
     let a = start u .args in
-    cost-charged (a .fields) (a .reliable) (a .units) (a .figures .now) (a .places .now) (a .raise .now) (a .lower .now) (a .defaults .now)
+    cost-charged (a .fields) (a .reliable) (a .units) (lent-members (a .figures .now) (a .homes .now) (a .rows .now))
     (u .used-pool .ensures) refl (m .charge-members .ensures) (w .charge-members2 .ensures)
 
 pub charge-cost-spec : {M : Type 1} → statement M

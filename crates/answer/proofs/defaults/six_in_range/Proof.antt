@@ -20,14 +20,14 @@ Inv-loop least start defaults i₀ i = (i ≤ 6) × (every i (λ j. fine-from (t
 abbrev μ-loop : tie.MeasureT-loop
 μ-loop least start defaults i₀ i = 6 - i
 
-abbrev L : tie.After-between Inv-loop μ-loop → tie.At-loop Inv-loop μ-loop
+abbrev L : tie.After-within-bounds Inv-loop μ-loop → tie.At-loop Inv-loop μ-loop
 L c = c .before .before .before
 
-abbrev tests : tie.After-between Inv-loop μ-loop → ℕ → Bool
+abbrev tests : tie.After-within-bounds Inv-loop μ-loop → ℕ → Bool
 tests c i = let a = L c .before .args in fine-from (a .least) (a .defaults .now) (a .start + i)
 
-told : (c : tie.After-between Inv-loop μ-loop) → tests c (L c .loop .i) ≡ c .between .result
-told c = sym (rw (toZ-ofZ (L c .before .fits .least), toZ-ofZ (sfits-of (c .before .between-arg .given))) at (c .between .ensures))
+told : (c : tie.After-within-bounds Inv-loop μ-loop) → tests c (L c .loop .i) ≡ c .within-bounds .result
+told c = sym (rw (toZ-ofZ (L c .before .fits .least), toZ-ofZ (sfits-of (c .before .within-bounds-arg .given))) at (c .within-bounds .ensures))
 
 -- as the invariant has it of the parameter
 passed :
@@ -38,18 +38,18 @@ passed l = rw (toZ-ofZ (l .before .fits .least)) at (l .loop .inv .1)
 loop-holds : tie.Need-loop-holds Inv-loop μ-loop
 loop-holds c = (omega arith, every-none _)
 
-add-between : tie.Need-add-between Inv-loop μ-loop
-add-between c = omega arith
+add-within-bounds : tie.Need-add-within-bounds Inv-loop μ-loop
+add-within-bounds c = omega arith
 
-mul-between : tie.Need-mul-between Inv-loop μ-loop
-mul-between c = omega arith
+mul-within-bounds : tie.Need-mul-within-bounds Inv-loop μ-loop
+mul-within-bounds c = omega arith
 
-shared-slice-copy-out-between :
-    tie.Need-shared-slice-copy-out-between Inv-loop μ-loop
-shared-slice-copy-out-between c = omega arith
+shared-slice-copy-out-within-bounds :
+    tie.Need-shared-slice-copy-out-within-bounds Inv-loop μ-loop
+shared-slice-copy-out-within-bounds c = omega arith
 
-between-requires : tie.Need-between-requires Inv-loop μ-loop
-between-requires c κs = search needs
+within-bounds-requires : tie.Need-within-bounds-requires Inv-loop μ-loop
+within-bounds-requires c κs = search needs
 
 returns : tie.Need-returns Inv-loop μ-loop
 returns c = sym (every-fails 6 (tests (c .before)) (L (c .before) .loop .i) (omega arith) (told (c .before) ∙ not-true _ (c .if1 .taken)))
@@ -75,10 +75,10 @@ six-in-range-spec =
     Inv-loop
     μ-loop
     loop-holds
-    add-between
-    mul-between
-    shared-slice-copy-out-between
-    between-requires
+    add-within-bounds
+    mul-within-bounds
+    shared-slice-copy-out-within-bounds
+    within-bounds-requires
     returns
     add-i
     loop-less

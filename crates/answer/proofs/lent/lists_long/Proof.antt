@@ -22,64 +22,17 @@ returns-4 c =
       lt-leb _ _ (c .if4 .taken),
     )
 
-returns-5 : tie.Need-returns-5
-returns-5 c =
-    rw (
-      le-leb _ _ (c .before .before .before .before .if1 .left),
-      le-leb _ _ (c .before .before .before .if2 .left),
-      le-leb _ _ (c .before .before .if3 .left),
-      le-leb _ _ (c .before .if4 .left),
-      lt-leb _ _ (c .if5 .taken),
-    )
-
-returns-6 : tie.Need-returns-6
-returns-6 c =
-    rw (
-      le-leb _ _ (c .before .before .before .before .before .if1 .left),
-      le-leb _ _ (c .before .before .before .before .if2 .left),
-      le-leb _ _ (c .before .before .before .if3 .left),
-      le-leb _ _ (c .before .before .if4 .left),
-      le-leb _ _ (c .before .if5 .left),
-      lt-leb _ _ (c .if6 .taken),
-    )
-
-returns-7 : tie.Need-returns-7
-returns-7 c =
-    rw (
-      le-leb _ _ (c .before .before .before .before .before .before .if1 .left),
-      le-leb _ _ (c .before .before .before .before .before .if2 .left),
-      le-leb _ _ (c .before .before .before .before .if3 .left),
-      le-leb _ _ (c .before .before .before .if4 .left),
-      le-leb _ _ (c .before .before .if5 .left),
-      le-leb _ _ (c .before .if6 .left),
-      lt-leb _ _ (c .if7 .taken),
-    )
-
 mul-result : tie.Need-mul-result
 mul-result c = search needs
 
-returns-8 : tie.Need-returns-8
-returns-8 c =
+returns-5 : tie.Need-returns-5
+returns-5 c =
     rw (
-      le-leb _ _ (c .before .before .before .before .before .before .if1 .left),
-      le-leb _ _ (c .before .before .before .before .before .if2 .left),
-      le-leb _ _ (c .before .before .before .before .if3 .left),
-      le-leb _ _ (c .before .before .before .if4 .left),
-      le-leb _ _ (c .before .before .if5 .left),
-      le-leb _ _ (c .before .if6 .left),
-      le-leb _ _ (c .if7 .left),
+      le-leb _ _ (c .before .before .before .if1 .left),
+      le-leb _ _ (c .before .before .if2 .left),
+      le-leb _ _ (c .before .if3 .left),
+      le-leb _ _ (c .if4 .left),
     )
 
 pub lists-long-spec : {M : Type 1} → statement M
-lists-long-spec =
-    tie.close
-    (tie.spec
-    returns
-    returns-2
-    returns-3
-    returns-4
-    returns-5
-    returns-6
-    returns-7
-    mul-result
-    returns-8)
+lists-long-spec = tie.close (tie.spec returns returns-2 returns-3 returns-4 mul-result returns-5)

@@ -3,27 +3,29 @@ use mathlib.Core.Path.{_≡_, sym, _∙_, ap₂}
 use Prim.Native.Nat.{ℕ, _+_, _-_, _≤_, max}
 use native.Mathlib.Omega.{arith}
 use borrow.Author.Needs.{needs}
-use Rattle.integers.specs.Sums as sums
+use mathlib.Core.List.{[]}
+use Rattle.integers.specs.Sums as s
 use Rattle.integers.proofs.Sums.{largest-step, largest-none}
 use Rattle.rules.specs.Quantities.{points}
+use Rattle.answer.specs.Asked.{lent}
 use Rattle.answer.specs.Rcr.{point-response}
 use Rattle.answer.proofs.points.largest_response.Statement.{statement}
 use Rattle.answer.proofs.points.largest_response.Tie as tie
 
 abbrev Inv-loop : tie.InvT-loop
-Inv-loop direction set measures positive negative figures largest₀ t₀ largest t =
-    (t ≤ 75) × (largest ≡ sums.largest t (point-response direction set measures positive negative figures))
+Inv-loop direction set measures sums figures largest₀ t₀ largest t =
+    (t ≤ 75) × (largest ≡ s.largest t (point-response direction set (lent measures sums figures [] [])))
 
 abbrev μ-loop : tie.MeasureT-loop
-μ-loop direction set measures positive negative figures largest₀ t₀ largest t = 75 - t
+μ-loop direction set measures sums figures largest₀ t₀ largest t = 75 - t
 
 abbrev L : tie.After-larger Inv-loop μ-loop → tie.At-loop Inv-loop μ-loop
 L c = c .before .before .before
 
 abbrev here : tie.At-loop Inv-loop μ-loop → ℕ → ℕ
-here l = let a = l .before .args in point-response (a .direction) (a .set) (a .measures .now) (a .positive .now) (a .negative .now) (a .figures .now)
+here l = let a = l .before .args in point-response (a .direction) (a .set) (lent (a .measures .now) (a .sums .now) (a .figures .now) [] [])
 
-more : (c : tie.After-larger Inv-loop μ-loop) → c .larger .result ≡ sums.largest (L c .loop .t + 1) (here (L c))
+more : (c : tie.After-larger Inv-loop μ-loop) → c .larger .result ≡ s.largest (L c .loop .t + 1) (here (L c))
 more c = c .larger .ensures ∙ ap₂ max (L c .loop .inv .1) (c .before .response-at .ensures) ∙ sym (largest-step (L c .loop .t) (here (L c)))
 
 loop-holds : tie.Need-loop-holds Inv-loop μ-loop

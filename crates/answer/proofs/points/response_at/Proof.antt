@@ -10,6 +10,8 @@ use Rattle.integers.specs.Pairs.{gain, loss}
 use Rattle.integers.specs.Sums.{sum}
 use Rattle.rules.specs.Quantities.{regions}
 use Rattle.rules.specs.Book.{toward}
+use mathlib.Core.List.{[]}
+use Rattle.answer.specs.Asked.{lent}
 use Rattle.answer.specs.Rcr.{weighed-part}
 use Rattle.answer.proofs.points.response_at.Statement.{statement}
 use Rattle.answer.proofs.points.response_at.Tie as tie
@@ -19,7 +21,8 @@ S c = c .before .before .before
 
 signed :
     (c : tie.After-right-sign) → ltZ (pos 0)
-    (toward (S c .args .direction) (sum regions (weighed-part (S c .args .set) (S c .args .measures .now) (S c .args .figures .now) (S c .args .t)))) ≡
+    (toward (S c .args .direction) (sum regions
+    (weighed-part (S c .args .set) (lent (S c .args .measures .now) (S c .args .sums .now) (S c .args .figures .now) [] []) (S c .args .t)))) ≡
     c .right-sign .result
 signed c =
     ap (λ (z : ℤ). ltZ (pos 0) (toward (S c .args .direction) z)) (sym (c .before .before .sums-at .ensures .weighed))

@@ -1,6 +1,7 @@
 -- Before a region each sum is that over the regions passed; a region adds at most 10,000,000,000,000 in size, so no step of a turn wraps.
 use mathlib.Core.Path.{_≡_, sym, _∙_, ap}
 use mathlib.Core.Bool.{Bool}
+use mathlib.Core.List.{[]}
 use Prim.Native.Nat.{_+_, _*_, _-_, _≤_}
 use native.Mathlib.Omega.{arith}
 use borrow.Author.Needs.{needs, sfits-of}
@@ -12,19 +13,23 @@ use mir.Facts.{toZ-ofZ, sfits-widen}
 use Rattle.integers.specs.Sums.{sum, when}
 use Rattle.integers.proofs.Sums.{sum-none}
 use Rattle.rules.specs.Quantities.{regions}
-use Rattle.answer.specs.Ranges.{there}
+use Rattle.rules.specs.declared.Direction.the-variants.{Raise, Lower}
+use Rattle.interval.specs.Lent.{Lent, series-start, sum-place}
+use Rattle.kept.specs.Kept.{generation-of}
+use Rattle.answer.specs.Asked.{lent}
 use Rattle.answer.specs.Rcr.{weighed-part, sum-part}
-use Rattle.answer.proofs.RcrLaws.{Turn, product-fits, weighed-turn, positive-turn, negative-turn}
+use Rattle.answer.proofs.RcrLaws.{Turn, product-fits, weighed-turn, sum-turn}
 use Rattle.answer.proofs.points.sums_at.Statement.{statement}
 use Rattle.answer.proofs.points.sums_at.Tie as tie
 
 abbrev Inv-loop : tie.InvT-loop
-Inv-loop set t measures positive negative figures weighed₀ risen₀ fallen₀ region₀ weighed risen fallen region =
-    (region ≤ 5) × (toZ w64 weighed ≡ sum region (weighed-part set measures figures t)) × (toZ w64 risen ≡ sum region (sum-part set positive t))
-    × (toZ w64 fallen ≡ sum region (sum-part set negative t))
+Inv-loop set t measures sums figures weighed₀ risen₀ fallen₀ region₀ weighed risen fallen region =
+    let l = lent measures sums figures [] [] in
+    (region ≤ 5) × (toZ w64 weighed ≡ sum region (weighed-part set l t)) × (toZ w64 risen ≡ sum region (sum-part Raise set l t))
+    × (toZ w64 fallen ≡ sum region (sum-part Lower set l t))
 
 abbrev μ-loop : tie.MeasureT-loop
-μ-loop set t measures positive negative figures weighed₀ risen₀ fallen₀ region₀ weighed risen fallen region = 5 - region
+μ-loop set t measures sums figures weighed₀ risen₀ fallen₀ region₀ weighed risen fallen region = 5 - region
 
 abbrev L : tie.After-covers Inv-loop μ-loop → tie.At-loop Inv-loop μ-loop
 L c = c .before .before
@@ -32,121 +37,136 @@ L c = c .before .before
 abbrev S : tie.After-covers Inv-loop μ-loop → tie.Start Inv-loop μ-loop
 S c = L c .before
 
+abbrev lists : tie.After-covers Inv-loop μ-loop → Lent
+lists c = lent (S c .args .measures .now) (S c .args .sums .now) (S c .args .figures .now) [] []
+
 abbrev generated : tie.After-covers Inv-loop μ-loop → ℤ
-generated c = getD (S c .args .figures .now) (9 * L c .loop .region + 0) (pos 0)
+generated c = generation-of (lists c) (L c .loop .region)
 
 abbrev measured : tie.After-covers Inv-loop μ-loop → ℤ
-measured c = there (S c .args .measures .now) (S c .args .t) (L c .loop .region)
+measured c = getD (S c .args .measures .now) (series-start (L c .loop .region) + S c .args .t) (pos 0)
 
 whole-fits : (c : tie.After-covers Inv-loop μ-loop) → SFits w64 (generated c *ℤ measured c)
 whole-fits c = product-fits (S c .pre .1) (S c .args .set) (S c .args .t) (S c .pre .0) (L c .loop .region) (omega arith)
 
-generated-fits : (c : tie.After-part-arg2 Inv-loop μ-loop) → SFits w64 (generated (c .before .before))
-generated-fits c = sfits-of (c .before .part-arg .given)
+generated-fits : (c : tie.After-if-counted-arg2 Inv-loop μ-loop) → SFits w64 (generated (c .before .before))
+generated-fits c = sfits-of (c .before .if-counted-arg .given)
 
-narrow : (c : tie.After-part-arg2 Inv-loop μ-loop) → SFits w32 (measured (c .before .before))
-narrow c = sfits-of (c .part-arg2 .given)
+narrow : (c : tie.After-if-counted-arg2 Inv-loop μ-loop) → SFits w32 (measured (c .before .before))
+narrow c = sfits-of (c .if-counted-arg2 .given)
 
-measure-fits : (c : tie.After-part-arg2 Inv-loop μ-loop) → SFits w64 (measured (c .before .before))
+measure-fits : (c : tie.After-if-counted-arg2 Inv-loop μ-loop) → SFits w64 (measured (c .before .before))
 measure-fits c = sfits-widen {w′ = w64} tt (narrow c)
 
 weighing :
-    (c : tie.After-part Inv-loop μ-loop) → Turn
-    (weighed-part (S (c .before .before .before) .args .set) (S (c .before .before .before) .args .measures .now)
-    (S (c .before .before .before) .args .figures .now) (S (c .before .before .before) .args .t)) (L (c .before .before .before) .loop .region)
-    (toZ w64 (L (c .before .before .before) .loop .weighed)) (c .part .result)
+    (c : tie.After-if-counted Inv-loop μ-loop) → Turn
+    (weighed-part (S (c .before .before .before) .args .set) (lists (c .before .before .before)) (S (c .before .before .before) .args .t))
+    (L (c .before .before .before) .loop .region)
+    (toZ w64 (L (c .before .before .before) .loop .weighed)) (c .if-counted .result)
 weighing c =
     let d = c .before .before .before in
     let a = c .before in
     weighed-turn (S d .pre .1) (S d .args .set) (S d .args .t) (S d .pre .0) _ _ _ (omega arith) (L d .loop .inv .1)
-    (simp (toZ-ofZ, generated-fits a, narrow a, measure-fits a, whole-fits d) at (c .part .ensures)
+    (simp (toZ-ofZ, generated-fits a, narrow a, measure-fits a, whole-fits d) at (c .if-counted .ensures)
     ∙ ap (λ (s : Bool). when s (generated d *ℤ measured d)) (d .covers .ensures))
 
 rising :
-    (c : tie.After-part2 Inv-loop μ-loop) → Turn
-    (sum-part (S (c .before .before .before .before .before) .args .set) (S (c .before .before .before .before .before) .args .positive .now)
+    (c : tie.After-if-counted2 Inv-loop μ-loop) → Turn
+    (sum-part Raise (S (c .before .before .before .before .before) .args .set) (lists (c .before .before .before .before .before))
     (S (c .before .before .before .before .before) .args .t)) (L (c .before .before .before .before .before) .loop .region)
-    (toZ w64 (L (c .before .before .before .before .before) .loop .risen)) (c .part2 .result)
+    (toZ w64 (L (c .before .before .before .before .before) .loop .risen)) (c .if-counted2 .result)
 rising c =
     let d = c .before .before .before .before .before in
-    positive-turn (S d .pre .1) (S d .args .set) (S d .args .t) (S d .pre .0) _ _ _ (omega arith) (L d .loop .inv .2)
-    (rw (toZ-ofZ (sfits-of (c .before .part-arg3 .given))) at (c .part2 .ensures)
-    ∙ ap (λ (s : Bool). when s (there (S d .args .positive .now) (S d .args .t) (L d .loop .region))) (d .covers .ensures))
+    sum-turn (S d .pre .1) (S d .args .set) (S d .args .t) (S d .pre .0) Raise _ _ _ (omega arith) (L d .loop .inv .2)
+    (rw (toZ-ofZ (sfits-of (c .before .if-counted-arg3 .given))) at (c .if-counted2 .ensures)
+    ∙ ap (λ (s : Bool). when s (getD (S d .args .sums .now) (sum-place Raise (L d .loop .region) (S d .args .t)) (pos 0))) (d .covers .ensures))
 
 falling :
-    (c : tie.After-part3 Inv-loop μ-loop) → Turn
-    (sum-part (S (c .before .before .before .before .before .before .before) .args .set)
-    (S (c .before .before .before .before .before .before .before) .args .negative .now)
+    (c : tie.After-if-counted3 Inv-loop μ-loop) → Turn
+    (sum-part Lower (S (c .before .before .before .before .before .before .before) .args .set)
+    (lists (c .before .before .before .before .before .before .before))
     (S (c .before .before .before .before .before .before .before) .args .t)) (L (c .before .before .before .before .before .before .before) .loop .region)
-    (toZ w64 (L (c .before .before .before .before .before .before .before) .loop .fallen)) (c .part3 .result)
+    (toZ w64 (L (c .before .before .before .before .before .before .before) .loop .fallen)) (c .if-counted3 .result)
 falling c =
     let d = c .before .before .before .before .before .before .before in
-    negative-turn (S d .pre .1) (S d .args .set) (S d .args .t) (S d .pre .0) _ _ _ (omega arith) (L d .loop .inv .3)
-    (rw (toZ-ofZ (sfits-of (c .before .part-arg4 .given))) at (c .part3 .ensures)
-    ∙ ap (λ (s : Bool). when s (there (S d .args .negative .now) (S d .args .t) (L d .loop .region))) (d .covers .ensures))
+    sum-turn (S d .pre .1) (S d .args .set) (S d .args .t) (S d .pre .0) Lower _ _ _ (omega arith) (L d .loop .inv .3)
+    (rw (toZ-ofZ (sfits-of (c .before .if-counted-arg4 .given))) at (c .if-counted3 .ensures)
+    ∙ ap (λ (s : Bool). when s (getD (S d .args .sums .now) (sum-place Lower (L d .loop .region) (S d .args .t)) (pos 0))) (d .covers .ensures))
 
 loop-holds : tie.Need-loop-holds Inv-loop μ-loop
 loop-holds c = (omega arith, sym (sum-none _), sym (sum-none _), sym (sum-none _))
 
-mul-at : tie.Need-mul-at Inv-loop μ-loop
-mul-at c = omega arith
-
-add-at : tie.Need-add-at Inv-loop μ-loop
-add-at c = omega arith
+mul-start : tie.Need-mul-start Inv-loop μ-loop
+mul-start c = omega arith
 
 covers-requires : tie.Need-covers-requires Inv-loop μ-loop
 covers-requires c κs = omega arith
 
-mul-part : tie.Need-mul-part Inv-loop μ-loop
-mul-part c = omega arith
+mul-if-counted : tie.Need-mul-if-counted Inv-loop μ-loop
+mul-if-counted c = omega arith
 
-add-part : tie.Need-add-part Inv-loop μ-loop
-add-part c = omega arith
+add-if-counted : tie.Need-add-if-counted Inv-loop μ-loop
+add-if-counted c = omega arith
 
-mul-part-2 : tie.Need-mul-part-2 Inv-loop μ-loop
-mul-part-2 c = omega arith
+mul-if-counted-2 : tie.Need-mul-if-counted-2 Inv-loop μ-loop
+mul-if-counted-2 c = omega arith
 
-shared-slice-copy-out-part : tie.Need-shared-slice-copy-out-part Inv-loop μ-loop
-shared-slice-copy-out-part c = omega arith
+shared-slice-copy-out-if-counted : tie.Need-shared-slice-copy-out-if-counted Inv-loop μ-loop
+shared-slice-copy-out-if-counted c = omega (arith, S c .pre .1 .figures-long)
 
-mul-part-3 : tie.Need-mul-part-3 Inv-loop μ-loop
-mul-part-3 c = omega arith
+mul-if-counted-3 : tie.Need-mul-if-counted-3 Inv-loop μ-loop
+mul-if-counted-3 c = omega arith
 
-shared-slice-copy-out-part-2 : tie.Need-shared-slice-copy-out-part-2 Inv-loop μ-loop
-shared-slice-copy-out-part-2 c = omega arith
+add-if-counted-2 : tie.Need-add-if-counted-2 Inv-loop μ-loop
+add-if-counted-2 c = omega arith
 
-cast-part : tie.Need-cast-part Inv-loop μ-loop
-cast-part c = rw (toZ-ofZ (narrow c)) (measure-fits c)
+mul-if-counted-4 : tie.Need-mul-if-counted-4 Inv-loop μ-loop
+mul-if-counted-4 c = omega arith
 
-mul-part-4 : tie.Need-mul-part-4 Inv-loop μ-loop
-mul-part-4 c = simp (toZ-ofZ, generated-fits c, narrow c, measure-fits c) (whole-fits (c .before .before))
+shared-slice-copy-out-if-counted-2 : tie.Need-shared-slice-copy-out-if-counted-2 Inv-loop μ-loop
+shared-slice-copy-out-if-counted-2 c = omega (arith, S (c .before) .pre .1 .measures-long)
 
-part-requires : tie.Need-part-requires Inv-loop μ-loop
-part-requires c κs = search needs
+cast-if-counted : tie.Need-cast-if-counted Inv-loop μ-loop
+cast-if-counted c = rw (toZ-ofZ (narrow c)) (measure-fits c)
+
+mul-if-counted-5 : tie.Need-mul-if-counted-5 Inv-loop μ-loop
+mul-if-counted-5 c = simp (toZ-ofZ, generated-fits c, narrow c, measure-fits c) (whole-fits (c .before .before))
+
+if-counted-requires : tie.Need-if-counted-requires Inv-loop μ-loop
+if-counted-requires c κs = search needs
 
 add-weighed : tie.Need-add-weighed Inv-loop μ-loop
 add-weighed c = let k = weighing c in rw (toZ-ofZ (k .part-fits)) (k .sum-fits)
 
-mul-part-5 : tie.Need-mul-part-5 Inv-loop μ-loop
-mul-part-5 c = omega arith
+add-if-counted-3 : tie.Need-add-if-counted-3 Inv-loop μ-loop
+add-if-counted-3 c = omega arith
 
-shared-slice-copy-out-part-3 : tie.Need-shared-slice-copy-out-part-3 Inv-loop μ-loop
-shared-slice-copy-out-part-3 c = omega arith
+mul-if-counted-6 : tie.Need-mul-if-counted-6 Inv-loop μ-loop
+mul-if-counted-6 c = omega arith
 
-part-requires-2 : tie.Need-part-requires-2 Inv-loop μ-loop
-part-requires-2 c κs = search needs
+shared-slice-copy-out-if-counted-3 : tie.Need-shared-slice-copy-out-if-counted-3 Inv-loop μ-loop
+shared-slice-copy-out-if-counted-3 c = omega (arith, S (c .before .before .before) .pre .1 .sums-long)
+
+if-counted-requires-2 : tie.Need-if-counted-requires-2 Inv-loop μ-loop
+if-counted-requires-2 c κs = search needs
 
 add-risen : tie.Need-add-risen Inv-loop μ-loop
 add-risen c = let k = rising c in rw (toZ-ofZ (k .part-fits)) (k .sum-fits)
 
-mul-part-6 : tie.Need-mul-part-6 Inv-loop μ-loop
-mul-part-6 c = omega arith
+add-if-counted-4 : tie.Need-add-if-counted-4 Inv-loop μ-loop
+add-if-counted-4 c = omega arith
 
-shared-slice-copy-out-part-4 : tie.Need-shared-slice-copy-out-part-4 Inv-loop μ-loop
-shared-slice-copy-out-part-4 c = omega arith
+add-if-counted-5 : tie.Need-add-if-counted-5 Inv-loop μ-loop
+add-if-counted-5 c = omega arith
 
-part-requires-3 : tie.Need-part-requires-3 Inv-loop μ-loop
-part-requires-3 c κs = search needs
+mul-if-counted-7 : tie.Need-mul-if-counted-7 Inv-loop μ-loop
+mul-if-counted-7 c = omega arith
+
+shared-slice-copy-out-if-counted-4 : tie.Need-shared-slice-copy-out-if-counted-4 Inv-loop μ-loop
+shared-slice-copy-out-if-counted-4 c = omega (arith, S (c .before .before .before .before .before) .pre .1 .sums-long)
+
+if-counted-requires-3 : tie.Need-if-counted-requires-3 Inv-loop μ-loop
+if-counted-requires-3 c κs = search needs
 
 add-fallen : tie.Need-add-fallen Inv-loop μ-loop
 add-fallen c = let k = falling c in rw (toZ-ofZ (k .part-fits)) (k .sum-fits)
@@ -178,26 +198,30 @@ sums-at-spec =
     Inv-loop
     μ-loop
     loop-holds
-    mul-at
-    add-at
+    mul-start
     covers-requires
-    mul-part
-    add-part
-    mul-part-2
-    shared-slice-copy-out-part
-    mul-part-3
-    shared-slice-copy-out-part-2
-    cast-part
-    mul-part-4
-    part-requires
+    mul-if-counted
+    add-if-counted
+    mul-if-counted-2
+    shared-slice-copy-out-if-counted
+    mul-if-counted-3
+    add-if-counted-2
+    mul-if-counted-4
+    shared-slice-copy-out-if-counted-2
+    cast-if-counted
+    mul-if-counted-5
+    if-counted-requires
     add-weighed
-    mul-part-5
-    shared-slice-copy-out-part-3
-    part-requires-2
+    add-if-counted-3
+    mul-if-counted-6
+    shared-slice-copy-out-if-counted-3
+    if-counted-requires-2
     add-risen
-    mul-part-6
-    shared-slice-copy-out-part-4
-    part-requires-3
+    add-if-counted-4
+    add-if-counted-5
+    mul-if-counted-7
+    shared-slice-copy-out-if-counted-4
+    if-counted-requires-3
     add-fallen
     add-region
     loop-less

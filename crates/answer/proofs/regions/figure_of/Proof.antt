@@ -1,4 +1,4 @@
--- The figure at the direction's place, which is among the nine of the region.
+-- The figure at the direction's place, which is among the ten of the region.
 use mathlib.Core.Path.{ap}
 use Prim.Native.Nat.{ℕ, _+_, _*_, _≤_}
 use native.Mathlib.Omega.{arith}
@@ -10,7 +10,7 @@ use Rattle.answer.proofs.MadeLaws.{reliable-at-≤}
 use Rattle.answer.proofs.regions.figure_of.Statement.{statement}
 use Rattle.answer.proofs.regions.figure_of.Tie as tie
 
-place : (c : tie.After-reliable-place) → c .reliable-place .result ≤ 2
+place : (c : tie.After-reliable-place) → c .reliable-place .result ≤ 3
 place c = rw (c .reliable-place .ensures) (reliable-at-≤ (c .before .args .direction))
 
 mul-result : tie.Need-mul-result
@@ -32,7 +32,7 @@ returns : tie.Need-returns
 returns c =
     let s = c .before .before in
     rw (toZ-ofZ (sfits-of (c .result .given)))
-    (ap (λ (n : ℕ). getD (s .args .figures .now) (9 * s .args .region + n) (pos 0)) (c .before .reliable-place .ensures))
+    (ap (λ (n : ℕ). getD (s .args .figures .now) (10 * s .args .region + n) (pos 0)) (c .before .reliable-place .ensures))
 
 pub figure-of-spec : {M : Type 1} → statement M
 figure-of-spec =

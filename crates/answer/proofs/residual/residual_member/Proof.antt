@@ -2,21 +2,22 @@
 use mathlib.Core.Path.{_≡_}
 use Prim.Native.Nat.{_-_, _≤_}
 use native.Mathlib.Omega.{arith}
-use Rattle.answer.specs.Made.{residual-to}
+use Rattle.answer.specs.Asked.{lent-members}
+use Rattle.answer.specs.Residual.{residual-to}
 use Rattle.answer.proofs.ResidualLaws.{none-yet}
 use Rattle.answer.proofs.residual.residual_member.Statement.{statement}
 use Rattle.answer.proofs.residual.residual_member.Tie as tie
 
 abbrev Inv-loop : tie.InvT-loop
-Inv-loop direction set units figures places raise lower sum₀ region₀ sum region =
-    (region ≤ 5) × (sum ≡ residual-to direction set units figures places raise lower region)
+Inv-loop direction set units figures homes rows sum₀ region₀ sum region =
+    (region ≤ 5) × (sum ≡ residual-to units (lent-members figures homes rows) direction set region)
 
 abbrev μ-loop : tie.MeasureT-loop
-μ-loop direction set units figures places raise lower sum₀ region₀ sum region = 5 - region
+μ-loop direction set units figures homes rows sum₀ region₀ sum region = 5 - region
 
 loop-holds : tie.Need-loop-holds Inv-loop μ-loop
 loop-holds c =
-    let a = c .before .args in (omega arith, none-yet (a .direction) (a .set) (a .units) (a .figures .now) (a .places .now) (a .raise .now) (a .lower .now))
+    let a = c .before .args in (omega arith, none-yet (a .units) (lent-members (a .figures .now) (a .homes .now) (a .rows .now)) (a .direction) (a .set))
 
 with-region-requires : tie.Need-with-region-requires Inv-loop μ-loop
 with-region-requires c κs = let s = c .before .before .before in (omega arith, s .pre, c .before .loop .inv .1)

@@ -1,4 +1,4 @@
--- The place and its region's reliability first, then the set.
+-- The home and its region's reliability first, then the set.
 use mathlib.Core.Path.{_≡_, sym, _∙_, ap}
 use mathlib.Core.Bool.{true}
 use Prim.Native.Nat.{_<_}
@@ -7,34 +7,34 @@ use borrow.Author.Needs.{needs}
 use borrow.Author.Tests.{not-true, not-false}
 use Rattle.rules.specs.declared.Standing.{Standing}
 use Rattle.answer.specs.declared.Row.the-variants.{Unit}
-use Rattle.answer.specs.Roster.{place-fine}
-use Rattle.answer.proofs.RosterLaws.{place-means}
+use Rattle.answer.specs.Roster.{home-fine}
+use Rattle.answer.proofs.RosterLaws.{home-means}
 use Rattle.answer.proofs.roster.unit_or_other.Statement.{statement}
 use Rattle.answer.proofs.roster.unit_or_other.Tie as tie
 
 abbrev S : tie.Else1 → tie.Start
 S c = c .before .before
 
-fine : (c : tie.Else1) → place-fine (S c .args .direction) (S c .args .place) (S c .args .figures .now) ≡ true
-fine c = sym (c .before .place-in-range .ensures) ∙ not-false _ (c .if1 .left)
+fine : (c : tie.Else1) → home-fine (S c .args .direction) (S c .args .home) (S c .args .figures .now) ≡ true
+fine c = sym (c .before .home-in-range .ensures) ∙ not-false _ (c .if1 .left)
 
-placed : (c : tie.Else1) → S c .args .place < 10
-placed c = place-means (S c .args .direction) (S c .args .place) (S c .args .figures .now) (fine c)
+homed : (c : tie.Else1) → S c .args .home < 10
+homed c = home-means (S c .args .direction) (S c .args .home) (S c .args .figures .now) (fine c)
 
-place-in-range-requires : tie.Need-place-in-range-requires
-place-in-range-requires c κs = search needs
+home-in-range-requires : tie.Need-home-in-range-requires
+home-in-range-requires c κs = search needs
 
 returns : tie.Need-returns
-returns c = rw (sym (c .before .place-in-range .ensures) ∙ not-true _ (c .if1 .taken))
+returns c = rw (sym (c .before .home-in-range .ensures) ∙ not-true _ (c .if1 .taken))
 
 in-set-requires : tie.Need-in-set-requires
-in-set-requires c κs = omega (arith, placed c)
+in-set-requires c κs = omega (arith, homed c)
 
 returns-2 : tie.Need-returns-2
 returns-2 c = rw (fine (c .before .before), sym (c .before .in-set .ensures) ∙ not-true _ (c .if2 .taken))
 
 row-standing-requires : tie.Need-row-standing-requires
-row-standing-requires c κs = (placed (c .before .before), S (c .before .before) .pre)
+row-standing-requires c κs = (homed (c .before .before), S (c .before .before) .pre)
 
 returns-3 : tie.Need-returns-3
 returns-3 c =
@@ -46,7 +46,7 @@ pub unit-or-other-spec : {M : Type 1} → statement M
 unit-or-other-spec =
     tie.close
     (tie.spec
-    place-in-range-requires
+    home-in-range-requires
     returns
     in-set-requires
     returns-2

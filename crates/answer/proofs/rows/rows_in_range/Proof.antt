@@ -1,35 +1,34 @@
 -- Before a row every one passed is in range; the first that is not ends the loop.
 use mathlib.Core.Path.{_≡_, sym, _∙_}
 use mathlib.Core.Bool.{Bool, true}
+use mathlib.Core.List.{[]}
 use Prim.Native.Nat.{ℕ, _-_, _≤_}
 use native.Mathlib.Omega.{arith}
 use borrow.Author.Tests.{not-true, not-false}
 use Rattle.integers.specs.Sums.{every}
 use Rattle.integers.proofs.Sums.{every-step, every-none, every-fails}
-use Rattle.kept.specs.Range.{rows-fine}
-use Rattle.answer.specs.Ranges.{row-fine}
+use Rattle.kept.specs.Range.{row-fine, rows-fine}
+use Rattle.answer.specs.Asked.{lent-members}
 use Rattle.answer.proofs.rows.rows_in_range.Statement.{statement}
 use Rattle.answer.proofs.rows.rows_in_range.Tie as tie
 
 abbrev Inv-loop : tie.InvT-loop
-Inv-loop units places raise lower defaults row₀ row = (row ≤ units) × (every row (λ i. row-fine i places raise lower defaults) ≡ true)
+Inv-loop units homes rows row₀ row = (row ≤ units) × (every row (row-fine (lent-members [] homes rows)) ≡ true)
 
 abbrev μ-loop : tie.MeasureT-loop
-μ-loop units places raise lower defaults row₀ row = units - row
+μ-loop units homes rows row₀ row = units - row
 
 abbrev L : tie.After-row-in-range Inv-loop μ-loop → tie.At-loop Inv-loop μ-loop
 L c = c .before .before
 
 abbrev tests : tie.After-row-in-range Inv-loop μ-loop → ℕ → Bool
-tests c i =
-    let a = L c .before .before .args in
-    row-fine i (a .places .now) (a .raise .now) (a .lower .now) (a .defaults .now)
+tests c = row-fine (lent-members [] (L c .before .before .args .homes .now) (L c .before .before .args .rows .now))
 
 loop-holds : tie.Need-loop-holds Inv-loop μ-loop
 loop-holds c = (omega arith, every-none _)
 
 row-in-range-requires : tie.Need-row-in-range-requires Inv-loop μ-loop
-row-in-range-requires c κs = record { few = omega arith; places = omega arith; raise = omega arith; lower = omega arith; defaults = omega arith }
+row-in-range-requires c κs = (omega arith, omega arith, omega arith)
 
 returns : tie.Need-returns Inv-loop μ-loop
 unfolding rows-fine

@@ -1,11 +1,13 @@
 -- Before a region every one passed is within the limit; the first that is not ends the loop.
 use mathlib.Core.Path.{_≡_, sym, _∙_}
 use mathlib.Core.Bool.{Bool, true}
-use Prim.Native.Nat.{ℕ, _-_, _≤_}
+use Prim.Native.Nat.{ℕ, _+_, _-_, _≤_}
 use native.Mathlib.Omega.{arith}
 use borrow.Author.Needs.{needs, sfits-of}
 use borrow.Author.Tests.{not-true, not-false}
-use lib.IntN.{ℤ}
+use mathlib.Core.List.{List}
+use lib.IntN.{ℤ, pos}
+use lib.ListN.{getD}
 use mir.Syntax.{w32, w64}
 use mir.Val.{SFits}
 use mir.Facts.{toZ-ofZ, sfits-widen}
@@ -13,10 +15,13 @@ use Rattle.integers.specs.Sums.{every}
 use Rattle.integers.proofs.Sums.{every-step, every-none, every-fails}
 use Rattle.rules.specs.Quantities.{regions, measure-limit}
 use Rattle.rules.specs.Fields.{sized}
-use Rattle.answer.proofs.Ranges.{sized-between}
-use Rattle.answer.specs.Ranges.{there}
+use Rattle.answer.proofs.Ranges.{sized-within-bounds}
+use Rattle.interval.specs.Lent.{series-start}
 use Rattle.answer.proofs.series.measures_within.Statement.{statement}
 use Rattle.answer.proofs.series.measures_within.Tie as tie
+
+abbrev there : List ℤ → ℕ → ℕ → ℤ
+there xs t r = getD xs (series-start r + t) (pos 0)
 
 abbrev Inv-loop : tie.InvT-loop
 Inv-loop t measures region₀ region = (region ≤ 5) × (every region (λ r. sized measure-limit (there measures t r)) ≡ true)
@@ -24,7 +29,7 @@ Inv-loop t measures region₀ region = (region ≤ 5) × (every region (λ r. si
 abbrev μ-loop : tie.MeasureT-loop
 μ-loop t measures region₀ region = 5 - region
 
-abbrev L : tie.After-between Inv-loop μ-loop → tie.At-loop Inv-loop μ-loop
+abbrev L : tie.After-within-bounds Inv-loop μ-loop → tie.At-loop Inv-loop μ-loop
 L c = c .before .before .before
 
 abbrev tests : tie.At-loop Inv-loop μ-loop → ℕ → Bool
@@ -39,10 +44,10 @@ narrow c = sfits-of (c .measure .given)
 wide : (c : tie.After-measure Inv-loop μ-loop) → SFits w64 (measured c)
 wide c = sfits-widen {w′ = w64} tt (narrow c)
 
-told : (c : tie.After-between Inv-loop μ-loop) → tests (L c) (L c .loop .region) ≡ c .between .result
+told : (c : tie.After-within-bounds Inv-loop μ-loop) → tests (L c) (L c .loop .region) ≡ c .within-bounds .result
 told c =
     let m = c .before in
-    sym (rw (toZ-ofZ (narrow m), toZ-ofZ (wide m)) at (c .between .ensures) ∙ sized-between measure-limit (measured m))
+    sym (rw (toZ-ofZ (narrow m), toZ-ofZ (wide m)) at (c .within-bounds .ensures) ∙ sized-within-bounds measure-limit (measured m))
 
 loop-holds : tie.Need-loop-holds Inv-loop μ-loop
 loop-holds c = (omega arith, every-none _)
@@ -62,8 +67,8 @@ shared-slice-copy-out-measure c = omega arith
 cast-measure : tie.Need-cast-measure Inv-loop μ-loop
 cast-measure c = rw (toZ-ofZ (narrow c)) (wide c)
 
-between-requires : tie.Need-between-requires Inv-loop μ-loop
-between-requires c κs = search needs
+within-bounds-requires : tie.Need-within-bounds-requires Inv-loop μ-loop
+within-bounds-requires c κs = search needs
 
 returns : tie.Need-returns Inv-loop μ-loop
 returns c = sym (every-fails regions (tests (L (c .before))) (L (c .before) .loop .region) (omega arith) (told (c .before) ∙ not-true _ (c .if1 .taken)))
@@ -92,7 +97,7 @@ measures-within-spec =
     mul-measure-2
     shared-slice-copy-out-measure
     cast-measure
-    between-requires
+    within-bounds-requires
     returns
     add-region
     loop-less

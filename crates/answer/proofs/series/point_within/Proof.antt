@@ -19,6 +19,9 @@ returns-2 c =
     let d = c .before .before in
     rw (sym (d .before .measures-within .ensures) ∙ not-false _ (d .if1 .left), sym (c .before .sums-within .ensures) ∙ not-true _ (c .if2 .taken))
 
+add-sums-within : tie.Need-add-sums-within
+add-sums-within c = omega arith
+
 sums-within-requires-2 : tie.Need-sums-within-requires-2
 sums-within-requires-2 c κs = omega arith
 
@@ -37,5 +40,6 @@ point-within-spec =
     returns
     sums-within-requires
     returns-2
+    add-sums-within
     sums-within-requires-2
     returns-3)

@@ -1,32 +1,35 @@
 -- Before point t every point passed is in range; the first that is not ends the loop.
 use mathlib.Core.Path.{_≡_, sym, _∙_}
 use mathlib.Core.Bool.{Bool, true, _&&_}
+use mathlib.Core.List.{[]}
 use Prim.Native.Nat.{ℕ, _*_, _-_, _≤_}
 use native.Mathlib.Omega.{arith}
 use borrow.Author.Tests.{not-true, not-false}
 use Rattle.integers.specs.Sums.{every}
 use Rattle.integers.proofs.Sums.{every-step, every-none, every-fails}
 use Rattle.rules.specs.Quantities.{points, deviation-limit}
-use Rattle.kept.specs.Range.{series-fine}
-use Rattle.answer.specs.Ranges.{measures-here, sums-here}
+use Rattle.rules.specs.declared.Direction.the-variants.{Raise, Lower}
+use Rattle.kept.specs.Range.{measures-fine, sums-fine, series-fine}
+use Rattle.answer.specs.Asked.{lent}
 use Rattle.answer.proofs.series.series_in_range.Statement.{statement}
 use Rattle.answer.proofs.series.series_in_range.Tie as tie
 
 abbrev Inv-loop : tie.InvT-loop
-Inv-loop units measures positive negative most t₀ t =
-    (t ≤ 75) × (every t (λ i. measures-here measures i && (sums-here most positive i && sums-here most negative i)) ≡ true)
+Inv-loop units measures sums most t₀ t =
+    (t ≤ 75) × (every t (λ i. measures-fine (lent measures sums [] [] []) i
+    && (sums-fine most (lent measures sums [] [] []) Raise i && sums-fine most (lent measures sums [] [] []) Lower i)) ≡ true)
 
 abbrev μ-loop : tie.MeasureT-loop
-μ-loop units measures positive negative most t₀ t = 75 - t
+μ-loop units measures sums most t₀ t = 75 - t
 
 abbrev L : tie.After-point-within Inv-loop μ-loop → tie.At-loop Inv-loop μ-loop
 L c = c .before .before
 
 abbrev tests : tie.At-loop Inv-loop μ-loop → ℕ → Bool
 tests l t =
-    let a = l .before .args in
-    measures-here (a .measures .now) t &&
-    (sums-here (deviation-limit * a .units) (a .positive .now) t && sums-here (deviation-limit * a .units) (a .negative .now) t)
+    let most = deviation-limit * l .before .args .units in
+    let all = lent (l .before .args .measures .now) (l .before .args .sums .now) [] [] [] in
+    measures-fine all t && (sums-fine most all Raise t && sums-fine most all Lower t)
 
 mul-most : tie.Need-mul-most Inv-loop μ-loop
 mul-most c = omega arith

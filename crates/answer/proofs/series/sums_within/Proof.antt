@@ -4,26 +4,31 @@ use Prim.Native.Nat.{ℕ, _+_, _-_, _≤_}
 use native.Mathlib.Omega.{arith}
 use borrow.Author.Needs.{needs, sfits-of}
 use borrow.Author.Tests.{lt-leb, le-leb}
-use lib.IntN.{natAbs}
+use mathlib.Core.List.{List}
+use lib.IntN.{ℤ, pos, natAbs}
+use lib.ListN.{getD}
 use mir.Facts.{toZ-ofZ}
 use Rattle.integers.specs.Sums.{sumℕ}
 use Rattle.integers.proofs.Sums.{sumℕ-step, sumℕ-none, sumℕ-prefix}
 use Rattle.rules.specs.Quantities.{regions}
-use Rattle.answer.specs.Ranges.{there}
+use Rattle.interval.specs.Lent.{sums-start}
 use Rattle.answer.proofs.series.sums_within.Statement.{statement}
 use Rattle.answer.proofs.series.sums_within.Tie as tie
 
+abbrev there : List ℤ → ℕ → ℕ → ℤ
+there xs at r = getD xs (sums-start r + at) (pos 0)
+
 abbrev Inv-loop : tie.InvT-loop
-Inv-loop most t sums left₀ region₀ left region = (region ≤ 5) × (left + sumℕ region (λ r. natAbs (there sums t r)) ≡ most)
+Inv-loop most at sums left₀ region₀ left region = (region ≤ 5) × (left + sumℕ region (λ r. natAbs (there sums at r)) ≡ most)
 
 abbrev μ-loop : tie.MeasureT-loop
-μ-loop most t sums left₀ region₀ left region = 5 - region
+μ-loop most at sums left₀ region₀ left region = 5 - region
 
 abbrev L : tie.After-size Inv-loop μ-loop → tie.At-loop Inv-loop μ-loop
 L c = c .before .before .before
 
 abbrev sizes : tie.At-loop Inv-loop μ-loop → ℕ → ℕ
-sizes l r = natAbs (there (l .before .args .sums .now) (l .before .args .t) r)
+sizes l r = natAbs (there (l .before .args .sums .now) (l .before .args .at) r)
 
 more : (c : tie.After-size Inv-loop μ-loop) → sumℕ (L c .loop .region + 1) (sizes (L c)) ≡ sumℕ (L c .loop .region) (sizes (L c)) + c .size .result
 more c =
@@ -31,7 +36,7 @@ more c =
     (sym (rw (toZ-ofZ (sfits-of (c .before .size-arg .given))) at (c .size .ensures)))
 
 loop-holds : tie.Need-loop-holds Inv-loop μ-loop
-loop-holds c = (omega arith, omega (arith, sumℕ-none (λ r. natAbs (there (c .args .sums .now) (c .args .t) r))))
+loop-holds c = (omega arith, omega (arith, sumℕ-none (λ r. natAbs (there (c .args .sums .now) (c .args .at) r))))
 
 mul-size : tie.Need-mul-size Inv-loop μ-loop
 mul-size c = omega arith

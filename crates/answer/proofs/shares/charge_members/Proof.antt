@@ -1,7 +1,7 @@
 -- What was listed is within the share's limits, and the share goes over it.
 use Rattle.integers.specs.Pairs.{loss}
 use Rattle.integers.proofs.Bounds.{loss-≤}
-use Rattle.answer.proofs.SharesLaws.{front, front-fits, members-charged}
+use Rattle.answer.proofs.SharesLaws.{front, front-shareable, members-charged}
 use borrow.Author.Needs.{needs}
 use Rattle.answer.proofs.shares.charge_members.Statement.{statement}
 use Rattle.answer.proofs.shares.charge_members.Tie as tie
@@ -13,7 +13,8 @@ charge-requires : tie.Need-charge-requires
 charge-requires c κs =
     let g = c .before .before .before in
     let s = g .before .before .before in
-    (front (s .pre .2) (g .put-members .ensures) .0, front-fits (s .pre .2) (g .put-members .ensures) (s .args .pool) loss loss-≤ (s .pre .0) _ (s .pre .1))
+    let l = g .put-members .ensures in
+    (front (s .pre .2) l .0, front-shareable (s .pre .2) l (s .args .pool) loss loss-≤ (s .pre .0) _ (s .pre .1))
 
 same-length : tie.Need-same-length
 same-length c = search needs

@@ -1,13 +1,13 @@
 -- What was listed is within the limits of both shares; the factors' unplaced tell the pool.
 use mathlib.Core.Path.{sym, _∙_}
-use Prim.Native.Nat.{ℕ, _≤_}
+use Prim.Native.Nat.{_≤_}
 use lib.Dec.{eqb}
 use native.Mathlib.Omega.{arith}
 use Rattle.integers.specs.Pairs.{gain, loss}
 use Rattle.integers.proofs.Bounds.{gain-≤, loss-≤}
 use Rattle.rules.specs.Quantities.{total-limit}
 use Rattle.answer.proofs.PoolsLaws.{pool-cents-within}
-use Rattle.answer.proofs.SharesLaws.{front, front-fits, members-513, members-paid, not-refused}
+use Rattle.answer.proofs.SharesLaws.{front, front-shareable, members-513, members-paid, not-refused}
 use borrow.Author.Needs.{needs}
 use Rattle.answer.proofs.shares.pay.Statement.{statement}
 use Rattle.answer.proofs.shares.pay.Tie as tie
@@ -36,8 +36,8 @@ share-both-requires c κs =
     let s = start g in
     let l = g .put-members .ensures in (
       front (s .pre .4) l .0,
-      front-fits (s .pre .4) l _ gain gain-≤ (omega arith) _ (s .pre .2),
-      front-fits (s .pre .4) l _ loss loss-≤ (omega arith) _ (s .pre .2),
+      front-shareable (s .pre .4) l _ gain gain-≤ (omega arith) _ (s .pre .2),
+      front-shareable (s .pre .4) l _ loss loss-≤ (omega arith) _ (s .pre .2),
     )
 
 enum-known-sides : tie.Need-enum-known-sides
@@ -54,8 +54,8 @@ pay-pool-requires c κs =
     let l = g .put-members .ensures in (
       members-513 (s .pre .4) l,
       front (s .pre .4) l .0,
-      front-fits (s .pre .4) l (p .pool .result) gain gain-≤ (small p) _ (s .pre .3),
-      front-fits (s .pre .4) l (p .pool .result) loss loss-≤ (small p) _ (s .pre .3),
+      front-shareable (s .pre .4) l (p .pool .result) gain gain-≤ (small p) _ (s .pre .3),
+      front-shareable (s .pre .4) l (p .pool .result) loss loss-≤ (small p) _ (s .pre .3),
     )
 
 enum-known-sides-2 : tie.Need-enum-known-sides-2

@@ -4,15 +4,20 @@ use Prim.Native.Nat.{ℕ, _+_, _-_, _≤_}
 use native.Mathlib.Omega.{arith}
 use borrow.Author.Needs.{needs}
 use Rattle.integers.proofs.Sums.{count-≤, sumℕ-step, sumℕ-none}
-use Rattle.answer.specs.Rcr.{unit-there, bad-unit-there, units-there, bad-there}
+use mathlib.Core.List.{[]}
+use Rattle.integers.specs.Sums.{count}
+use Rattle.answer.specs.Asked.{lent-members}
+use Rattle.answer.specs.Values.{meant}
+use Rattle.answer.specs.Rcr.{bad-there}
 use Rattle.answer.proofs.units.count_units.Statement.{statement}
 use Rattle.answer.proofs.units.count_units.Tie as tie
 
 abbrev Inv-loop : tie.InvT-loop
-Inv-loop units set places all₀ bad₀ row₀ all bad row = (row ≤ units) × (all ≡ units-there row set places) × (bad ≡ bad-there row set places)
+Inv-loop units set homes all₀ bad₀ row₀ all bad row =
+    (row ≤ units) × (all ≡ count row (meant set (lent-members [] homes []))) × (bad ≡ count row (bad-there set (lent-members [] homes [])))
 
 abbrev μ-loop : tie.MeasureT-loop
-μ-loop units set places all₀ bad₀ row₀ all bad row = units - row
+μ-loop units set homes all₀ bad₀ row₀ all bad row = units - row
 
 abbrev L : tie.After-shared-slice-known2 Inv-loop μ-loop → tie.At-loop Inv-loop μ-loop
 L c = c .before .before
@@ -21,16 +26,16 @@ abbrev S : tie.After-shared-slice-known2 Inv-loop μ-loop → tie.Start Inv-loop
 S c = L c .before .before
 
 more :
-    (c : tie.After-counted Inv-loop μ-loop) → L (c .before .before) .loop .all + c .counted .result ≡ units-there (L (c .before .before) .loop .row + 1)
-    (S (c .before .before) .args .set) (S (c .before .before) .args .places .now)
+    (c : tie.After-counted Inv-loop μ-loop) → L (c .before .before) .loop .all + c .counted .result ≡ count (L (c .before .before) .loop .row + 1)
+    (meant (S (c .before .before) .args .set) (lent-members [] (S (c .before .before) .args .homes .now) []))
 more c =
     rw (sumℕ-step, ← L (c .before .before) .loop .inv .1, ← c .before .in-set .ensures)
     (ap (λ (n : ℕ). L (c .before .before) .loop .all + n) (c .counted .ensures))
 
 more-bad :
-    (c : tie.After-counted2 Inv-loop μ-loop) → L (c .before .before .before .before) .loop .bad + c .counted2 .result ≡ bad-there
-    (L (c .before .before .before .before) .loop .row + 1) (S (c .before .before .before .before) .args .set)
-    (S (c .before .before .before .before) .args .places .now)
+    (c : tie.After-counted2 Inv-loop μ-loop) → L (c .before .before .before .before) .loop .bad + c .counted2 .result ≡ count
+    (L (c .before .before .before .before) .loop .row + 1)
+    (bad-there (S (c .before .before .before .before) .args .set) (lent-members [] (S (c .before .before .before .before) .args .homes .now) []))
 more-bad c =
     rw (sumℕ-step, ← L (c .before .before .before .before) .loop .inv .2, ← c .before .bad-in-set .ensures)
     (ap (λ (n : ℕ). L (c .before .before .before .before) .loop .bad + n) (c .counted2 .ensures))
@@ -38,11 +43,11 @@ more-bad c =
 loop-holds : tie.Need-loop-holds Inv-loop μ-loop
 loop-holds c = (omega arith, sym (sumℕ-none _), sym (sumℕ-none _))
 
-shared-slice-read-place : tie.Need-shared-slice-read-place Inv-loop μ-loop
-shared-slice-read-place c = omega arith
+shared-slice-read-home : tie.Need-shared-slice-read-home Inv-loop μ-loop
+shared-slice-read-home c = omega (arith, c .before .before .before .before .pre .1 .long)
 
 in-set-requires : tie.Need-in-set-requires Inv-loop μ-loop
-in-set-requires c κs = S c .pre .2 .here (L c .loop .row) (omega arith)
+in-set-requires c κs = S c .pre .1 .here (L c .loop .row) (omega arith)
 
 counted-requires : tie.Need-counted-requires Inv-loop μ-loop
 counted-requires c κs = search needs
@@ -53,11 +58,11 @@ add-all c =
       arith,
       more c,
       count-≤ (L (c .before .before) .loop .row + 1)
-          (unit-there (S (c .before .before) .args .set) (S (c .before .before) .args .places .now)),
+          (meant (S (c .before .before) .args .set) (lent-members [] (S (c .before .before) .args .homes .now) [])),
     )
 
 bad-in-set-requires : tie.Need-bad-in-set-requires Inv-loop μ-loop
-bad-in-set-requires c κs = S (c .before .before) .pre .2 .here (L (c .before .before) .loop .row) (omega arith)
+bad-in-set-requires c κs = S (c .before .before) .pre .1 .here (L (c .before .before) .loop .row) (omega arith)
 
 counted-requires-2 : tie.Need-counted-requires-2 Inv-loop μ-loop
 counted-requires-2 c κs = search needs
@@ -68,7 +73,7 @@ add-bad c =
       arith,
       more-bad c,
       count-≤ (L (c .before .before .before .before) .loop .row + 1)
-          (bad-unit-there (S (c .before .before .before .before) .args .set) (S (c .before .before .before .before) .args .places .now)),
+          (bad-there (S (c .before .before .before .before) .args .set) (lent-members [] (S (c .before .before .before .before) .args .homes .now) [])),
     )
 
 add-row : tie.Need-add-row Inv-loop μ-loop
@@ -93,7 +98,7 @@ count-units-spec =
     Inv-loop
     μ-loop
     loop-holds
-    shared-slice-read-place
+    shared-slice-read-home
     in-set-requires
     counted-requires
     add-all

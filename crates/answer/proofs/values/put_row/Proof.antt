@@ -20,8 +20,8 @@ returns c = let e = sym (c .before .in-set .ensures) ∙ not-true _ (c .if1 .tak
 row-value-requires : tie.Need-row-value-requires
 row-value-requires c κs = search needs
 
-mul-t17 : tie.Need-mul-t17
-mul-t17 c = search needs
+mul-t15 : tie.Need-mul-t15
+mul-t15 c = search needs
 
 slice-set-from-column : tie.Need-slice-set-from-column
 slice-set-from-column c = search needs
@@ -49,7 +49,7 @@ put-row-spec =
     in-set-requires
     returns
     row-value-requires
-    mul-t17
+    mul-t15
     slice-set-from-column
     add-result
     same-length

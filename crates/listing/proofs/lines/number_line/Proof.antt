@@ -1,52 +1,28 @@
--- The number, then the word before it; what stands from there on is the line.
+-- The line feed, the number before it, then the word.
 use borrow.Author.Needs.{needs}
 use Rattle.rules.specs.Text.{text, words}
 use Rattle.listing.specs.Pieces.{Room}
-use Rattle.listing.proofs.PiecesLaws.{room-less, room-after, put-inside, put-onto, natural-most}
-use Rattle.listing.proofs.LinesLaws.{line-room, line-end}
+use Rattle.listing.proofs.PiecesLaws.{room-less, room-after, natural-most}
+use Rattle.listing.proofs.LinesLaws.{put-onto}
 use Rattle.listing.proofs.lines.number_line.Statement.{statement}
 use Rattle.listing.proofs.lines.number_line.Tie as tie
 
 numbered : (c : tie.After-put-natural) → Room 143 (c .put-natural .result) (c .put-natural .last .1 .1 .0)
-numbered c = room-after {k = 143} {j = 21} line-room (natural-most _) (c .put-natural .ensures)
+numbered c = room-after {k = 143} {j = 21} (c .before .before .put-end .ensures .1) (natural-most _) (c .put-natural .ensures)
 
-slice-aggregate-put-natural : tie.Need-slice-aggregate-put-natural
-slice-aggregate-put-natural c = search needs
+put-end-requires : tie.Need-put-end-requires
+put-end-requires c κs = c .put-end-arg .given .0 .1
 
 put-natural-requires : tie.Need-put-natural-requires
 put-natural-requires c κs = search needs
 
-slice-aggregate-put : tie.Need-slice-aggregate-put
-slice-aggregate-put c = search needs
-
 put-requires : tie.Need-put-requires
-put-requires c κs = let n = c .before .before in room-less (n .before .before .before .before .pre) (numbered n)
-
-slice-aggregate-hand-over : tie.Need-slice-aggregate-hand-over
-slice-aggregate-hand-over c = search needs
-
-hand-over-requires : tie.Need-hand-over-requires
-hand-over-requires c κs = let p = c .before .before .before in put-inside (numbered (p .before .before .before)) (p .put .ensures)
-
-same-length : tie.Need-same-length
-same-length c = c .before .text .given
+put-requires c κs = let n = c .before in room-less (n .before .before .before .before .before .pre) (numbered n)
 
 returns : tie.Need-returns
 unfolding text words
 returns c =
-    let h = c .before .before in
-    let p = h .before .before .before .before in
-    rw (put-onto (p .put .ensures) (put-onto (p .before .before .before .put-natural .ensures) line-end)) at (h .hand-over .ensures)
+    put-onto (c .put .ensures) (put-onto (c .before .before .put-natural .ensures) (c .before .before .before .before .put-end .ensures .0))
 
 pub number-line-spec : {M : Type 1} → statement M
-number-line-spec =
-    tie.close
-    (tie.spec
-    slice-aggregate-put-natural
-    put-natural-requires
-    slice-aggregate-put
-    put-requires
-    slice-aggregate-hand-over
-    hand-over-requires
-    same-length
-    returns)
+number-line-spec = tie.close (tie.spec put-end-requires put-natural-requires put-requires returns)

@@ -12,50 +12,58 @@ use Rattle.listing.proofs.lines.put_amounts.Tie as tie
 abbrev S : tie.After-put-integer → tie.Start
 S c = c .before .before .before .before
 
-unused-put : (c : tie.After-put-integer) → Put (after-space (integer (S c .args .amounts .unused))) 164 (S c .args .line .now) (c .put-integer .result)
-    (c .put-integer .last .1 .1 .0)
+-- each amount's place, from the one after it
+abbrev P₂ : tie.After-put-integer2 → tie.After-put-integer
+P₂ c = c .before .before .before .before .before
+
+abbrev P₃ : tie.After-put-integer3 → tie.After-put-integer2
+P₃ c = c .before .before .before .before .before
+
+abbrev P₄ : tie.After-put-integer4 → tie.After-put-integer3
+P₄ c = c .before .before .before .before .before
+
+abbrev P₅ : tie.After-put-integer5 → tie.After-put-integer4
+P₅ c = c .before .before .before .before .before
+
+unused-put : (c : tie.After-put-integer) → Put (after-space (integer ((S c) .args .amounts .unused))) (S c .args .last) (S c .args .line .now)
+    (c .put-integer .result) (c .put-integer .last .1 .1 .0)
 unused-put c = rw (toZ-ofZ (sfits-of (c .before .struct-told .given .1 .1 .1 .1 .0 .1))) at (c .put-integer .ensures)
 
 unused-room : (c : tie.After-put-integer) → Room 142 (c .put-integer .result) (c .put-integer .last .1 .1 .0)
-unused-room c = room-after {k = 142} {j = 22} (S c .pre) (integer-most (S c .args .amounts .unused)) (unused-put c)
+unused-room c = room-after {k = 142} {j = 22} (S c .pre) (integer-most ((S c) .args .amounts .unused)) (unused-put c)
 
-used-put : (c : tie.After-put-integer2) → Put (after-space (integer (S (c .before .before .before .before .before) .args .amounts .used)))
-    (c .before .before .before .before .before .put-integer .result) (c .before .before .before .before .before .put-integer .last .1 .1 .0)
+used-put : (c : tie.After-put-integer2) → Put (after-space (integer ((S (P₂ c)) .args .amounts .used)))
+    ((P₂ c) .put-integer .result) ((P₂ c) .put-integer .last .1 .1 .0)
     (c .put-integer2 .result) (c .put-integer2 .last .1 .1 .0)
 used-put c = rw (toZ-ofZ (sfits-of (c .before .struct-told2 .given .1 .1 .1 .0 .1))) at (c .put-integer2 .ensures)
 
 used-room : (c : tie.After-put-integer2) → Room 120 (c .put-integer2 .result) (c .put-integer2 .last .1 .1 .0)
-used-room c = room-after {k = 120} {j = 22} (unused-room (c .before .before .before .before .before))
-    (integer-most (S (c .before .before .before .before .before) .args .amounts .used)) (used-put c)
+used-room c = room-after {k = 120} {j = 22} (unused-room (P₂ c)) (integer-most ((S (P₂ c)) .args .amounts .used)) (used-put c)
 
-payment-put : (c : tie.After-put-integer3) → Put (after-space (integer (S
-    (c .before .before .before .before .before .before .before .before .before .before) .args .amounts .payment)))
-    (c .before .before .before .before .before .put-integer2 .result) (c .before .before .before .before .before .put-integer2 .last .1 .1 .0)
+payment-put : (c : tie.After-put-integer3) → Put (after-space (integer ((S (P₂ (P₃ c))) .args .amounts .payment)))
+    ((P₃ c) .put-integer2 .result) ((P₃ c) .put-integer2 .last .1 .1 .0)
     (c .put-integer3 .result) (c .put-integer3 .last .1 .1 .0)
 payment-put c = rw (toZ-ofZ (sfits-of (c .before .struct-told3 .given .1 .1 .0 .1))) at (c .put-integer3 .ensures)
 
 payment-room : (c : tie.After-put-integer3) → Room 98 (c .put-integer3 .result) (c .put-integer3 .last .1 .1 .0)
-payment-room c = room-after {k = 98} {j = 22} (used-room (c .before .before .before .before .before))
-    (integer-most (S (c .before .before .before .before .before .before .before .before .before .before) .args .amounts .payment)) (payment-put c)
+payment-room c = room-after {k = 98} {j = 22} (used-room (P₃ c)) (integer-most ((S (P₂ (P₃ c))) .args .amounts .payment)) (payment-put c)
 
-factor-put : (c : tie.After-put-integer4) →
-    Put (after-space (integer
-    (S (c .before .before .before .before .before .before .before .before .before .before .before .before .before .before .before) .args .amounts .factor)))
-    (c .before .before .before .before .before .put-integer3 .result) (c .before .before .before .before .before .put-integer3 .last .1 .1 .0)
+factor-put : (c : tie.After-put-integer4) → Put (after-space (integer ((S (P₂ (P₃ (P₄ c)))) .args .amounts .factor)))
+    ((P₄ c) .put-integer3 .result) ((P₄ c) .put-integer3 .last .1 .1 .0)
     (c .put-integer4 .result) (c .put-integer4 .last .1 .1 .0)
 factor-put c = rw (toZ-ofZ (sfits-of (c .before .struct-told4 .given .1 .0 .1))) at (c .put-integer4 .ensures)
 
 factor-room : (c : tie.After-put-integer4) → Room 76 (c .put-integer4 .result) (c .put-integer4 .last .1 .1 .0)
-factor-room c = room-after {k = 76} {j = 22} (payment-room (c .before .before .before .before .before))
-    (integer-most (S (c .before .before .before .before .before .before .before .before .before .before .before .before .before .before .before) .args .amounts .factor)) (factor-put c)
+factor-room c = room-after {k = 76} {j = 22} (payment-room (P₄ c)) (integer-most ((S (P₂ (P₃ (P₄ c)))) .args .amounts .factor)) (factor-put c)
 
-performance-put : (c : tie.After-put-integer5) → Put (after-space (integer
-    (S (c .before .before .before .before .before .before .before .before .before .before .before .before .before .before .before .before .before .before .before .before) .args .amounts .performance))) (c .before .before .before .before .before .put-integer4 .result) (c .before .before .before .before .before .put-integer4 .last .1 .1 .0) (c .put-integer5 .result) (c .put-integer5 .last .1 .1 .0)
+performance-put : (c : tie.After-put-integer5) → Put (after-space (integer ((S (P₂ (P₃ (P₄ (P₅ c))))) .args .amounts .performance)))
+    ((P₅ c) .put-integer4 .result) ((P₅ c) .put-integer4 .last .1 .1 .0)
+    (c .put-integer5 .result) (c .put-integer5 .last .1 .1 .0)
 performance-put c = rw (toZ-ofZ (sfits-of (c .before .struct-told5 .given .0 .1))) at (c .put-integer5 .ensures)
 
 performance-room : (c : tie.After-put-integer5) → Room 54 (c .put-integer5 .result) (c .put-integer5 .last .1 .1 .0)
-performance-room c = room-after {k = 54} {j = 22} (factor-room (c .before .before .before .before .before))
-    (integer-most (S (c .before .before .before .before .before .before .before .before .before .before .before .before .before .before .before .before .before .before .before .before) .args .amounts .performance)) (performance-put c)
+performance-room c = room-after {k = 54} {j = 22} (factor-room (P₅ c))
+    (integer-most ((S (P₂ (P₃ (P₄ (P₅ c))))) .args .amounts .performance)) (performance-put c)
 
 put-integer-requires : tie.Need-put-integer-requires
 put-integer-requires c κs = search needs

@@ -1,6 +1,7 @@
 -- A word and the refusal's number.
 use borrow.Author.Needs.{needs}
 use Rattle.rules.specs.Text.{text}
+use Rattle.listing.proofs.LinesLaws.{line-starts}
 use Rattle.listing.proofs.lines.refused_line.Statement.{statement}
 use Rattle.listing.proofs.lines.refused_line.Tie as tie
 
@@ -16,14 +17,9 @@ cast-number-line c = search needs
 number-line-requires : tie.Need-number-line-requires
 number-line-requires c κs = search needs
 
-same-length : tie.Need-same-length
-same-length c = c .before .text .given
-
 returns : tie.Need-returns
 unfolding text
-returns c =
-    let n = c .before .before in
-    rw (n .before .before .refusal-number .ensures) at (n .number-line .ensures)
+returns c = let w = rw (c .before .before .refusal-number .ensures) at (c .number-line .ensures) in (w, line-starts w)
 
 pub refused-line-spec : {M : Type 1} → statement M
 refused-line-spec =
@@ -33,5 +29,4 @@ refused-line-spec =
     refusal-number-requires
     cast-number-line
     number-line-requires
-    same-length
     returns)

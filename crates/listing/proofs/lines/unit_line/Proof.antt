@@ -1,68 +1,51 @@
--- The amounts, then the number and the name before them; what stands from there on is the line.
-use mathlib.Core.Path.{_∙_}
-use lib.Dec.{lit≤}
+-- The line feed, the amounts before it, then the number and the name.
 use borrow.Author.Needs.{needs}
+use lib.Dec.{lit≤}
 use Rattle.rules.specs.Text.{text, words}
 use Rattle.listing.specs.Pieces.{Room}
-use Rattle.listing.proofs.PiecesLaws.{room-less, room-after, put-inside, put-onto, natural-most}
-use Rattle.listing.proofs.LinesLaws.{line-room, line-end, amounts-end, amounts-most}
+use Rattle.listing.proofs.PiecesLaws.{room-less, room-after, natural-most}
+use Rattle.listing.proofs.LinesLaws.{put-onto, amounts-onto, amounts-most, line-starts}
 use Rattle.listing.proofs.lines.unit_line.Statement.{statement}
 use Rattle.listing.proofs.lines.unit_line.Tie as tie
 
-weighed : (c : tie.After-put-amounts) → Room 46 (c .put-amounts .result) (c .put-amounts .last .1 .1 .0)
-weighed c = room-after {k = 46} {j = 118} line-room (amounts-most _ _) (c .put-amounts .ensures)
+weighed : (c : tie.After-put-amounts) → Room 46 (c .put-amounts .result) (c .put-amounts .last .1 .1 .1 .0)
+weighed c = room-after {k = 46} {j = 118} (c .before .before .put-end .ensures .1) (amounts-most _ _) (c .put-amounts .ensures)
 
 numbered : (c : tie.After-put-natural) → Room 25 (c .put-natural .result) (c .put-natural .last .1 .1 .0)
-numbered c = room-after {k = 25} {j = 21} (weighed (c .before .before .before)) (natural-most _) (c .put-natural .ensures)
+numbered c = room-after {k = 25} {j = 21} (weighed (c .before .before)) (natural-most _) (c .put-natural .ensures)
 
-slice-aggregate-put-amounts : tie.Need-slice-aggregate-put-amounts
-slice-aggregate-put-amounts c = search needs
+put-end-requires : tie.Need-put-end-requires
+put-end-requires c κs = c .put-end-arg .given .0 .1
 
 put-amounts-requires : tie.Need-put-amounts-requires
 put-amounts-requires c κs = search needs
 
-slice-aggregate-put-natural : tie.Need-slice-aggregate-put-natural
-slice-aggregate-put-natural c = search needs
-
 put-natural-requires : tie.Need-put-natural-requires
-put-natural-requires c κs = room-less (lit≤ tt) (weighed (c .before .before))
+put-natural-requires c κs = room-less (lit≤ tt) (weighed (c .before))
 
 slice-aggregate-put : tie.Need-slice-aggregate-put
 slice-aggregate-put c = search needs
 
-slice-aggregate-put-2 : tie.Need-slice-aggregate-put-2
-slice-aggregate-put-2 c = search needs
-
 put-requires : tie.Need-put-requires
-put-requires c κs = room-less (lit≤ tt) (numbered (c .before .before .before))
-
-slice-aggregate-hand-over : tie.Need-slice-aggregate-hand-over
-slice-aggregate-hand-over c = search needs
-
-hand-over-requires : tie.Need-hand-over-requires
-hand-over-requires c κs = let p = c .before .before .before in put-inside (numbered (p .before .before .before .before)) (p .put .ensures)
-
-same-length : tie.Need-same-length
-same-length c = c .before .text .given
+put-requires c κs = room-less (lit≤ tt) (numbered (c .before .before))
 
 returns : tie.Need-returns
 unfolding text words
-returns c = let h = c .before .before in let p = h .before .before .before .before in let n = p .before .before .before .before in rw
-    (put-onto (p .put .ensures) (put-onto (n .put-natural .ensures) (put-onto (n .before .before .before .put-amounts .ensures) line-end ∙ amounts-end _ _))) at
-    (h .hand-over .ensures)
+returns c =
+    let n = c .before .before .before in
+    let a = n .before .before in
+    let w =
+    put-onto (c .put .ensures) (put-onto (n .put-natural .ensures)
+    (amounts-onto _ _ (a .put-amounts .ensures) (a .before .before .put-end .ensures .0))) in
+    (w, line-starts w)
 
 pub unit-line-spec : {M : Type 1} → statement M
 unit-line-spec =
     tie.close
     (tie.spec
-    slice-aggregate-put-amounts
+    put-end-requires
     put-amounts-requires
-    slice-aggregate-put-natural
     put-natural-requires
     slice-aggregate-put
-    slice-aggregate-put-2
     put-requires
-    slice-aggregate-hand-over
-    hand-over-requires
-    same-length
     returns)

@@ -1,5 +1,5 @@
--- The three lent slices keep their lengths; the turns left fall.
-use mathlib.Core.Path.{_≡_, refl, _∙_}
+-- The lent bytes keep their length; the turns left fall.
+use mathlib.Core.Path.{_≡_, refl}
 use native.Mathlib.Omega.{arith}
 use lib.ListN.{length}
 use borrow.Author.Needs.{needs}
@@ -7,29 +7,22 @@ use Rattle.records.proofs.line.all.Statement.{statement}
 use Rattle.records.proofs.line.all.Tie as tie
 
 abbrev Inv-loop : tie.InvT-loop
-Inv-loop bytes₀ frequencies₀ readings₀ line₀ turns₀ bytes frequencies readings line turns = (length bytes ≡ length bytes₀) ×
-    (length frequencies ≡ length frequencies₀) × (length readings ≡ length readings₀)
+Inv-loop bytes₀ line₀ turns₀ bytes line turns = length bytes ≡ length bytes₀
 
 abbrev μ-loop : tie.MeasureT-loop
-μ-loop bytes₀ frequencies₀ readings₀ line₀ turns₀ bytes frequencies readings line turns = turns
+μ-loop bytes₀ line₀ turns₀ bytes line turns = turns
 
 fresh-requires : tie.Need-fresh-requires Inv-loop μ-loop
 fresh-requires c κs = search needs
 
 loop-holds : tie.Need-loop-holds Inv-loop μ-loop
-loop-holds c = (refl, refl, refl)
+loop-holds c = refl
 
 turn-requires : tie.Need-turn-requires Inv-loop μ-loop
 turn-requires c κs = search needs
 
 same-length : tie.Need-same-length Inv-loop μ-loop
 same-length c = omega arith
-
-same-length-2 : tie.Need-same-length-2 Inv-loop μ-loop
-same-length-2 c = omega arith
-
-same-length-3 : tie.Need-same-length-3 Inv-loop μ-loop
-same-length-3 c = omega arith
 
 returns : tie.Need-returns Inv-loop μ-loop
 returns c = search needs
@@ -43,14 +36,8 @@ loop-less c = omega arith
 loop-again : tie.Need-loop-again Inv-loop μ-loop
 loop-again c = omega arith
 
-same-length-4 : tie.Need-same-length-4 Inv-loop μ-loop
-same-length-4 c = c .before .loop .inv .0
-
-same-length-5 : tie.Need-same-length-5 Inv-loop μ-loop
-same-length-5 c = c .before .loop .inv .1
-
-same-length-6 : tie.Need-same-length-6 Inv-loop μ-loop
-same-length-6 c = c .before .loop .inv .2
+same-length-2 : tie.Need-same-length-2 Inv-loop μ-loop
+same-length-2 c = c .before .loop .inv
 
 returns-2 : tie.Need-returns-2 Inv-loop μ-loop
 returns-2 c = search needs
@@ -65,13 +52,9 @@ all-spec =
     loop-holds
     turn-requires
     same-length
-    same-length-2
-    same-length-3
     returns
     sub-turns
     loop-less
     loop-again
-    same-length-4
-    same-length-5
-    same-length-6
+    same-length-2
     returns-2)

@@ -11,12 +11,6 @@ slice-aggregate-answer c = sym (length-take-le _ _ (c .before .if1 .taken))
 answer-requires : tie.Need-answer-requires
 answer-requires c κs = search needs
 
-same-length : tie.Need-same-length
-same-length c = search needs
-
-same-length-2 : tie.Need-same-length-2
-same-length-2 c = search needs
-
 returns : tie.Need-returns
 returns c = search needs
 
@@ -26,4 +20,4 @@ returns-2 c = search needs
 pub finish-spec : {M : Type 1} → statement M
 finish-spec =
     tie.close
-    (tie.spec slice-aggregate-answer answer-requires same-length same-length-2 returns returns-2)
+    (tie.spec slice-aggregate-answer answer-requires returns returns-2)

@@ -1,5 +1,5 @@
--- The three lent slices keep their lengths, whatever a step writes.
-use mathlib.Core.Path.{_≡_, refl, _∙_}
+-- The lent bytes keep their length, whatever a step writes.
+use mathlib.Core.Path.{_≡_, refl}
 use Prim.Native.Nat.{_-_, _≤_}
 use native.Mathlib.Omega.{arith}
 use lib.ListN.{length}
@@ -8,14 +8,13 @@ use Rattle.records.proofs.line.pass.Statement.{statement}
 use Rattle.records.proofs.line.pass.Tie as tie
 
 abbrev Inv-loop : tie.InvT-loop
-Inv-loop text bytes₀ frequencies₀ readings₀ line₀ i₀ bytes frequencies readings line i = (i ≤ length text) × (length bytes ≡ length bytes₀) ×
-    (length frequencies ≡ length frequencies₀) × (length readings ≡ length readings₀)
+Inv-loop text bytes₀ line₀ i₀ bytes line i = (i ≤ length text) × (length bytes ≡ length bytes₀)
 
 abbrev μ-loop : tie.MeasureT-loop
-μ-loop text bytes₀ frequencies₀ readings₀ line₀ i₀ bytes frequencies readings line i = length text - i
+μ-loop text bytes₀ line₀ i₀ bytes line i = length text - i
 
 loop-holds : tie.Need-loop-holds Inv-loop μ-loop
-loop-holds c = (omega arith, refl, refl, refl)
+loop-holds c = (omega arith, refl)
 
 shared-slice-read-step : tie.Need-shared-slice-read-step Inv-loop μ-loop
 shared-slice-read-step c = omega arith
@@ -35,12 +34,6 @@ loop-again c = omega arith
 same-length : tie.Need-same-length Inv-loop μ-loop
 same-length c = c .before .loop .inv .1
 
-same-length-2 : tie.Need-same-length-2 Inv-loop μ-loop
-same-length-2 c = c .before .loop .inv .2
-
-same-length-3 : tie.Need-same-length-3 Inv-loop μ-loop
-same-length-3 c = c .before .loop .inv .3
-
 returns : tie.Need-returns Inv-loop μ-loop
 returns c = search needs
 
@@ -57,6 +50,4 @@ pass-spec =
     loop-less
     loop-again
     same-length
-    same-length-2
-    same-length-3
     returns)

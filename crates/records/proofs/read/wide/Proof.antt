@@ -1,6 +1,6 @@
 -- A number of 32 bits fits 64.
 use mir.Facts.{toZ-ofZ, sfits-widen}
-use mir.Syntax.{w32, w64}
+use mir.Syntax.{w64}
 use borrow.Author.Needs.{needs}
 use Rattle.records.proofs.read.wide.Statement.{statement}
 use Rattle.records.proofs.read.wide.Tie as tie

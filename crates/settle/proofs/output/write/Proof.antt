@@ -1,7 +1,6 @@
 -- What was taken is within the text, and every turn takes some of it.
 use Prim.Native.Nat.{_-_, _≤_}
-use native.Mathlib.Omega.{arith}
-use lib.ListN.{length, take, drop, length-take, length-drop}
+use lib.ListN.{length}
 use borrow.Author.Needs.{needs}
 use Rattle.settle.proofs.output.write.Statement.{statement}
 use Rattle.settle.proofs.output.write.Tie as tie

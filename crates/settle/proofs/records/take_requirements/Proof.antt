@@ -1,6 +1,6 @@
--- There is room for the requirements left, which fall, and the bytes keep their length.
-use mathlib.Core.Path.{_≡_, refl, _∙_}
-use Prim.Native.Nat.{_+_, _*_, _≤_}
+-- The records of the requirements left, which fall, are within the bytes.
+use mathlib.Core.Path.{_≡_}
+use Prim.Native.Nat.{_+_, _*_, _-_, _≤_}
 use native.Mathlib.Omega.{arith}
 use lib.ListN.{length}
 use borrow.Author.Needs.{needs}
@@ -8,30 +8,46 @@ use Rattle.settle.proofs.records.take_requirements.Statement.{statement
 use Rattle.settle.proofs.records.take_requirements.Tie as tie
 
 abbrev Inv-loop : tie.InvT-loop
-Inv-loop next₀ bytes₀ tally₀ left₀ start₀ next bytes tally left start =
-    (start + 24 * left ≤ 768) × (length bytes ≡ length bytes₀)
+Inv-loop bytes₀ tally₀ left₀ start₀ bytes tally left start = (length bytes ≡ length bytes₀) × (start + 24 * left ≤ 768)
 
 abbrev μ-loop : tie.MeasureT-loop
-μ-loop next₀ bytes₀ tally₀ left₀ start₀ next bytes tally left start =
-    left
+μ-loop bytes₀ tally₀ left₀ start₀ bytes tally left start = left
 
-tally-of-requires : tie.Need-tally-of-requires Inv-loop μ-loop
-tally-of-requires c κs = search needs
+enum-known-next : tie.Need-enum-known-next Inv-loop μ-loop
+enum-known-next c = search needs
+
+returns : tie.Need-returns Inv-loop μ-loop
+returns c = search needs
 
 within-room-requires : tie.Need-within-room-requires Inv-loop μ-loop
 within-room-requires c κs = search needs
 
 loop-holds : tie.Need-loop-holds Inv-loop μ-loop
-loop-holds c = (omega arith, refl)
+loop-holds c = omega arith
 
 asked-requires : tie.Need-asked-requires Inv-loop μ-loop
 asked-requires c κs = search needs
 
-add-read-record : tie.Need-add-read-record Inv-loop μ-loop
-add-read-record c = omega arith
+add-end : tie.Need-add-end Inv-loop μ-loop
+add-end c = omega arith
 
-read-record-requires : tie.Need-read-record-requires Inv-loop μ-loop
-read-record-requires c κs = omega arith
+sub-fill : tie.Need-sub-fill Inv-loop μ-loop
+sub-fill c = omega arith
+
+part-fill-start : tie.Need-part-fill-start Inv-loop μ-loop
+part-fill-start c = omega arith
+
+part-fill-end : tie.Need-part-fill-end Inv-loop μ-loop
+part-fill-end c = omega arith
+
+fill-requires : tie.Need-fill-requires Inv-loop μ-loop
+fill-requires c κs = search needs
+
+same-length : tie.Need-same-length Inv-loop μ-loop
+same-length c = omega arith
+
+returns-2 : tie.Need-returns-2 Inv-loop μ-loop
+returns-2 c = search needs
 
 add-until : tie.Need-add-until Inv-loop μ-loop
 add-until c = omega arith
@@ -48,33 +64,35 @@ part-requirement-end c = omega arith
 requirement-requires : tie.Need-requirement-requires Inv-loop μ-loop
 requirement-requires c κs = search needs
 
-after-requires : tie.Need-after-requires Inv-loop μ-loop
-after-requires c κs = search needs
+enum-known-outcome : tie.Need-enum-known-outcome Inv-loop μ-loop
+enum-known-outcome c = search needs
+
+same-length-2 : tie.Need-same-length-2 Inv-loop μ-loop
+same-length-2 c = omega arith
+
+returns-3 : tie.Need-returns-3 Inv-loop μ-loop
+returns-3 c = search needs
+
+enum-told : tie.Need-enum-told Inv-loop μ-loop
+enum-told c = search needs
 
 add-start : tie.Need-add-start Inv-loop μ-loop
-add-start c = let i = c .before .before .before .before .before .before .before .before .before .before .before .before .loop .inv in omega (arith, i .0)
+add-start c = omega arith
 
-sub-to-read : tie.Need-sub-to-read Inv-loop μ-loop
-sub-to-read c = omega arith
-
-to-read-requires : tie.Need-to-read-requires Inv-loop μ-loop
-to-read-requires c κs = search needs
+sub-left : tie.Need-sub-left Inv-loop μ-loop
+sub-left c = omega arith
 
 loop-less : tie.Need-loop-less Inv-loop μ-loop
 loop-less c = omega arith
 
 loop-again : tie.Need-loop-again Inv-loop μ-loop
-loop-again c =
-    let r = c .before .before .before .before .before .before .before .before .before in
-    let t = r .before .before .before in
-    let i = t .before .loop .inv in
-    (omega (arith, i .0, t .loop-test .taken), r .read-record .kept .0 ∙ i .1)
+loop-again c = omega arith
 
-same-length : tie.Need-same-length Inv-loop μ-loop
-same-length c = c .before .loop .inv .1
+same-length-3 : tie.Need-same-length-3 Inv-loop μ-loop
+same-length-3 c = omega arith
 
-returns : tie.Need-returns Inv-loop μ-loop
-returns c = search needs
+returns-4 : tie.Need-returns-4 Inv-loop μ-loop
+returns-4 c = search needs
 
 pub take-requirements-spec : {M : Type 1} → statement M
 take-requirements-spec =
@@ -82,22 +100,30 @@ take-requirements-spec =
     (tie.spec
     Inv-loop
     μ-loop
-    tally-of-requires
+    enum-known-next
+    returns
     within-room-requires
     loop-holds
     asked-requires
-    add-read-record
-    read-record-requires
+    add-end
+    sub-fill
+    part-fill-start
+    part-fill-end
+    fill-requires
+    same-length
+    returns-2
     add-until
     sub-requirement
     part-requirement-start
     part-requirement-end
     requirement-requires
-    after-requires
+    enum-known-outcome
+    same-length-2
+    returns-3
+    enum-told
     add-start
-    sub-to-read
-    to-read-requires
+    sub-left
     loop-less
     loop-again
-    same-length
-    returns)
+    same-length-3
+    returns-4)

@@ -10,6 +10,7 @@ use Rattle.integers.specs.Sums.{every}
 use Rattle.integers.proofs.Sums.{every-more, every-none}
 use Rattle.rules.specs.Quantities.{points, measure-limit}
 use Rattle.rules.specs.Fields.{sized}
+use Rattle.interval.specs.Lent.{each-sized}
 use Rattle.book.proofs.UnitLaws.{none-of-both}
 use Rattle.units.specs.Points.{at}
 use Rattle.units.proofs.range.each_measure_within.Statement.{statement}
@@ -67,6 +68,7 @@ loop-again c =
     )
 
 returns : tie.Need-returns Inv-loop μ-loop
+unfolding each-sized
 returns c = let e : c .before .loop .t ≡ points = omega arith in rw e at (c .before .loop .inv .2)
 
 pub each-measure-within-spec : {M : Type 1} → statement M

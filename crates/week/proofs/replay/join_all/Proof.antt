@@ -1,9 +1,7 @@
 -- There is room for the names so far.
 use borrow.Author.Needs.{needs}
 use native.Mathlib.Omega.{arith}
-use lib.ListN.{length}
 use Prim.Native.Nat.{_-_, _≤_}
-use mathlib.Core.Path.{_≡_, refl, _∙_}
 use Rattle.week.proofs.replay.join_all.Statement.{statement}
 use Rattle.week.proofs.replay.join_all.Tie as tie
 

@@ -1,17 +1,21 @@
--- The books left fall, and there is room for the names so far.
-use borrow.Author.Needs.{needs}
-use native.Mathlib.Omega.{arith}
-use lib.ListN.{length}
+-- The books left fall.
 use Prim.Native.Nat.{_-_, _≤_}
-use mathlib.Core.Path.{_≡_, refl, _∙_}
+use native.Mathlib.Omega.{arith}
+use borrow.Author.Needs.{needs}
 use Rattle.week.proofs.replay.replay.Statement.{statement}
 use Rattle.week.proofs.replay.replay.Tie as tie
 
 abbrev Inv-loop : tie.InvT-loop
-Inv-loop _ _ _ _ _ _ _ _ _ _ _ _ _ _ _ _ _ _ _ _ _ _ _ _ _ _ _ _ _ _ members books = (books ≤ 2_016) × (members ≤ 512)
+Inv-loop bytes₀ measures₀ sums₀ figures₀ numbers₀ homes₀ rows₀ names₀ lives₀ highs₀
+    lows₀ members₀ books₀ bytes measures sums figures numbers homes rows names lives highs
+    lows members books =
+    (members ≤ 512) × (books ≤ 2_016)
 
 abbrev μ-loop : tie.MeasureT-loop
-μ-loop _ _ _ _ _ _ _ _ _ _ _ _ _ _ _ _ _ _ _ _ _ _ _ _ _ _ _ _ _ _ _ books = 2_016 - books
+μ-loop bytes₀ measures₀ sums₀ figures₀ numbers₀ homes₀ rows₀ names₀ lives₀ highs₀ lows₀
+    members₀ books₀ bytes measures sums figures numbers homes rows names lives highs lows
+    members books =
+    2_016 - books
 
 loop-holds : tie.Need-loop-holds Inv-loop μ-loop
 loop-holds c = omega arith

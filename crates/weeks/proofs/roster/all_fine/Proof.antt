@@ -11,6 +11,8 @@ use Rattle.integers.specs.Sums.{every}
 use Rattle.integers.proofs.Sums.{every-none, every-step, every-fails}
 use Rattle.rules.specs.Week.{whose-fine}
 use Rattle.rules.specs.WeekRoster.{whose-of}
+use Rattle.weeks.specs.Runs.{units-fine}
+use Rattle.weeks.proofs.Runs.{fine-units}
 use Rattle.weeks.proofs.roster.all_fine.Statement.{statement}
 use Rattle.weeks.proofs.roster.all_fine.Tie as tie
 
@@ -27,8 +29,10 @@ abbrev μ-loop : tie.MeasureT-loop
 
 told :
     (c : tie.After-is-fine Inv-loop μ-loop) →
-    let l = c .before .before .before .before in c .is-fine .result ≡ fine (l .before .before .args .whose .now) (l .loop .j)
-told c = c .is-fine .ensures ∙ ap whose-fine (c .before .whose-of .ensures)
+    let l = c .before .before .before .before .before in c .is-fine .result ≡ fine (l .before .before .args .whose .now) (l .loop .j)
+told c =
+    let w = c .before .before in
+    c .is-fine .ensures ∙ ap units-fine (c .before .units-of .ensures) ∙ fine-units (w .whose-of .result) ∙ ap whose-fine (w .whose-of .ensures)
 
 loop-holds : tie.Need-loop-holds Inv-loop μ-loop
 loop-holds c =
@@ -46,6 +50,10 @@ whose-of-requires : tie.Need-whose-of-requires Inv-loop μ-loop
 whose-of-requires c κs =
     search needs
 
+units-of-requires : tie.Need-units-of-requires Inv-loop μ-loop
+units-of-requires c κs =
+    search needs
+
 is-fine-requires : tie.Need-is-fine-requires Inv-loop μ-loop
 is-fine-requires c κs =
     search needs
@@ -53,9 +61,9 @@ is-fine-requires c κs =
 returns : tie.Need-returns Inv-loop μ-loop
 returns c =
     let t = c .before in
-    let l = t .before .before .before .before in
+    let l = t .before .before .before .before .before in
     let ms = l .before .before .args .whose .now in
-    sym (every-fails (length ms) (fine ms) (l .loop .j) (t .before .before .before .loop-test .taken) (sym (told t) ∙ not-true _ (c .if1 .taken)))
+    sym (every-fails (length ms) (fine ms) (l .loop .j) (t .before .before .before .before .loop-test .taken) (sym (told t) ∙ not-true _ (c .if1 .taken)))
 
 add-j : tie.Need-add-j Inv-loop μ-loop
 add-j c =
@@ -68,7 +76,7 @@ loop-less c =
 loop-again : tie.Need-loop-again Inv-loop μ-loop
 loop-again c =
     let t = c .before in
-    let l = t .before .before .before .before in
+    let l = t .before .before .before .before .before in
     (omega arith, every-step (l .loop .j) (fine (l .before .before .args .whose .now)) (l .loop .inv .1) (sym (told t) ∙ not-false _ (c .if1 .left)))
 
 returns-2 : tie.Need-returns-2 Inv-loop μ-loop
@@ -88,6 +96,7 @@ all-fine-spec =
     mul-whose-of
     shared-slice-read-whose-of
     whose-of-requires
+    units-of-requires
     is-fine-requires
     returns
     add-j

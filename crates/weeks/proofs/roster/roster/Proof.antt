@@ -9,7 +9,7 @@ use Rattle.integers.specs.Sums.{every}
 use Rattle.rules.specs.Week.{whose-fine}
 use Rattle.rules.specs.WeekRoster.{long-enough, whose-of, member}
 use Rattle.weeks.specs.Rosters.{judged}
-use Rattle.weeks.proofs.Rosters.{Roomy, roomy, roster-short, roster-unfit, roster-wrong, roster-low, roster-done}
+use Rattle.weeks.proofs.Rosters.{Roomy, roomy, roster-short, roster-unfit, roster-wrong, roster-low, all-told, roster-done}
 use Rattle.weeks.proofs.roster.roster.Statement.{statement}
 use Rattle.weeks.proofs.roster.roster.Tie as tie
 
@@ -89,11 +89,35 @@ returns-4 c =
     roster-low (a .intervals) (a .whose .now) (a .performances .now) (a .live .now) (a .counts .now) (a .defaults .now) (long (first s)) (who s)
     (sym (found g) ∙ c .if4 .taken ∙ t .refusal-number2 .ensures)
 
+-- neither test of all weeks found anything
+module _ (c : tie.Else4) where
+  abbrev low : tie.After-refusal-number2
+  low = c .before
+
+  abbrev third : tie.Else3
+  third = low .before
+
+  abbrev judged-all : tie.After-judge
+  judged-all = third .before .before
+
+  no-wrong : worst judged-all ≡ 17 → ⊥
+  no-wrong e = third .if3 .left (found judged-all ∙ e ∙ sym (third .before .refusal-number .ensures))
+
+  no-low : worst judged-all ≡ 14 → ⊥
+  no-low e = c .if4 .left (found judged-all ∙ e ∙ sym (low .refusal-number2 .ensures))
+
 write-requires : tie.Need-write-requires
 write-requires c κs =
-    let s = c .before .before .before .before .before .before .before in
-    let r = room (first s) in
-    (r .lists, r .counts-room, r .defaults-room)
+    let u = c .before .before in
+    let s = judged-all u .before in
+    let a = S (first s) .args in
+    let r = room (first s) in (
+      r .lists,
+      all-told (a .intervals) (a .whose .now) (a .performances .now) (a .live .now) (a .counts .now) (a .defaults .now) (long (first s)) (who s)
+          (no-wrong u) (no-low u),
+      r .counts-room,
+      r .defaults-room,
+    )
 
 same-length : tie.Need-same-length
 same-length c = search needs
@@ -105,14 +129,10 @@ returns-5 : tie.Need-returns-5
 returns-5 c =
     let w = c .before .before .before in
     let u = w .before .before .before in
-    let t = u .before in
-    let v = t .before in
-    let g = v .before .before in
-    let s = g .before in
+    let s = judged-all u .before in
     let a = S (first s) .args in
     roster-done (a .intervals) (a .whose .now) (a .performances .now) (a .live .now) (a .counts .now) (a .defaults .now) (long (first s)) (who s)
-    (λ e. v .if3 .left (found g ∙ e ∙ sym (v .before .refusal-number .ensures))) (λ e. u .if4 .left (found g ∙ e ∙ sym (t .refusal-number2 .ensures)))
-    (w .write .ensures)
+    (no-wrong u) (no-low u) (w .write .ensures .0) (w .write .ensures .1)
 
 pub roster-spec : {M : Type 1} → statement M
 roster-spec =

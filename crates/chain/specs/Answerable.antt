@@ -1,0 +1,19 @@
+-- What an answer asks of tally and lent lists, and the rules' answer from them.
+use mathlib.Core.Path.{_≡_}
+use mathlib.Core.Bool.{true}
+use Prim.Native.Nat.{_≤_}
+use Rattle.rules.specs.Book.{Requirement, Book}
+use Rattle.rules.specs.Answer.{answer}
+use Rattle.interval.specs.declared.Tally.{Tally}
+use Rattle.interval.specs.Tally.{units-end, in-range}
+use Rattle.interval.specs.Lent.{Lent}
+use Rattle.kept.specs.Kept.{kept-answer}
+use Rattle.kept.specs.Range.{kept-fine}
+use Rattle.chain.specs.Long.{Long}
+
+pub record Answerable (b : Book) (t : Tally) (l : Lent) : Type 0 where
+  pub tally : in-range t ≡ true
+  pub turn : units-end t ≤ t .records
+  pub long : Long l (t .units)
+  pub lent : kept-fine t l ≡ true
+  pub answers : (q : Requirement) → kept-answer t l q ≡ answer b q

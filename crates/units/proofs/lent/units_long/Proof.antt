@@ -1,0 +1,20 @@
+-- Each branch settles one length, in the order of the lists.
+use native.Mathlib.Omega.{arith}
+use borrow.Author.Tests.{le-leb, lt-leb}
+use Rattle.units.proofs.lent.units_long.Statement.{statement}
+use Rattle.units.proofs.lent.units_long.Tie as tie
+
+returns : tie.Need-returns
+returns c = simp (lt-leb _ _ (c .if1 .taken))
+
+returns-2 : tie.Need-returns-2
+returns-2 c = simp (le-leb _ _ (c .before .if1 .left), lt-leb _ _ (c .if2 .taken))
+
+mul-result : tie.Need-mul-result
+mul-result c = omega arith
+
+returns-3 : tie.Need-returns-3
+returns-3 c = rw (le-leb _ _ (c .before .if1 .left), le-leb _ _ (c .if2 .left))
+
+pub units-long-spec : {M : Type 1} → statement M
+units-long-spec = tie.close (tie.spec returns returns-2 mul-result returns-3)
