@@ -19,11 +19,9 @@ pub fn share(total: i128, weights: &[i128]) -> Result<Shared, Refusal> {
         return Ok(Shared { amounts: vec![0; weights.len()], unplaced: total });
     }
     let mut amounts: Vec<i128> = weights.iter().map(|weight| total * weight / sum).collect();
+    // The remainders add up to left_over·W and each is below W, so that more members than left-overs have one
+    // above 0 (or nothing is left over): every left-over finds a member, and only members with weight get one.
     let left_over = total - amounts.iter().sum::<i128>();
-    let with_weight = weights.iter().filter(|&&weight| weight > 0).count() as i128;
-    if left_over >= with_weight {
-        return Err(Refusal(13));
-    }
     // A stable sort keeps the earlier member first among equal remainders.
     let mut order: Vec<usize> = (0..weights.len()).collect();
     order.sort_by_key(|&member| -(total * weights[member] % sum));

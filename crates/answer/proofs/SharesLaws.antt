@@ -17,7 +17,6 @@ use Rattle.rules.specs.Quantities.{total-limit, weight-limit, billion}
 use Rattle.rules.specs.Cents.{any-weight}
 use Rattle.rules.specs.Refusals.{Reply, taken}
 use Rattle.rules.specs.Share.{weight-sum, weight-at, share-of, unplaced-of, share-reply}
-use Rattle.laws.proofs.ShareLaws.{never-left-overs}
 use Rattle.interval.specs.Lent.{Lent}
 use Rattle.share.specs.declared.Shared.{Shared}
 use Rattle.share.specs.declared.SharedSigns.{SharedSigns}
@@ -46,7 +45,6 @@ fits-taken {T} {side} {ps} {n} h =
       le-leb (length ws) n (h .long),
       le-leb T total-limit (h .total),
       le-leb (weight-sum (length ws) (weight-at ws)) weight-limit (rw (total-indexes ws) (h .weights)),
-      never-left-overs T (length ws) (weight-at ws),
     )
 
 pub charged :

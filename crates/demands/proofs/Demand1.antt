@@ -48,7 +48,7 @@ use Rattle.demands.specs.WordsChain.{
   unit-called,
   requirement-called,
 }
-use Rattle.demands.proofs.WordsLaws.{refusal-numbered}
+use Rattle.laws.proofs.RefusalLaws.{refusal-numbered}
 use Rattle.demands.specs.WordsCalls.{StepCall, settings-step, frequency-step, unit-step, requirement-step}
 use Rattle.demands.proofs.WordsCalls.{due-call, refused-call}
 use Rattle.demands.specs.OtherBook.{ToldApart}

@@ -18,7 +18,7 @@ use Rattle.weeks.proofs.ReadsLaws.{run-leaves, running-reads-the-list}
 use Rattle.dullavane.specs.Words.{reply-number}
 use Rattle.dullavane.specs.Weekly.{week-held, with-week, with-default, default-numbers, WeekAddCalled, WeekReadCalled}
 use Rattle.dullavane.proofs.WeeklyLaws.{week-there, week-kept}
-use Rattle.demands.proofs.WordsLaws.{refusal-numbered}
+use Rattle.laws.proofs.RefusalLaws.{refusal-numbered}
 use Rattle.demands.specs.WeekDefaults.{Added, Stands, added, runs}
 
 -- 0 is told of a taken interval alone

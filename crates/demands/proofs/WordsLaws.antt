@@ -6,27 +6,11 @@ use native.Mathlib.Omega.{arith}
 use lib.ListN.{length}
 use borrow.Author.Tests.{le-leb, lt-ltb}
 use Rattle.rules.specs.declared.Refusal.{Refusal}
-use Rattle.rules.specs.declared.Refusal.the-variants.{
-  EndsEarly,
-  WrongMark,
-  WrongTable,
-  BytesFollow,
-  WrongCount,
-  SettingsField,
-  FrequencyField,
-  UnitField,
-  UnitNotRising,
-  RequirementField,
-  WrongState,
-  TooShort,
-  LeftOvers,
-  AverageTooLow,
-  WrongWeek,
-}
 use Rattle.rules.specs.declared.Reason.the-variants.{UnreliableRegion, BadUnit, NoGoodUnit}
 use Rattle.rules.specs.declared.Standing.{Standing}
 use Rattle.rules.specs.declared.Standing.the-variants.{Live, Default}
 use Rattle.rules.specs.Refusals.{Reply, taken, refused, number}
+use Rattle.laws.proofs.RefusalLaws.{refusal-numbered}
 use Rattle.interval.specs.declared.Tally.{Tally}
 use Rattle.interval.specs.declared.Taking as k
 use Rattle.interval.specs.declared.Taking.{Taking}
@@ -38,23 +22,6 @@ use Rattle.dullavane.specs.Asked.{standing-number}
 use Rattle.demands.specs.WordsLaws.{standing-of}
 
 -- ---- no refusal has the number 0, so 0 is told of a record taken alone
-pub refusal-numbered : (r : Refusal) → 0 < number r
-refusal-numbered EndsEarly = omega arith
-refusal-numbered WrongMark = omega arith
-refusal-numbered WrongTable = omega arith
-refusal-numbered BytesFollow = omega arith
-refusal-numbered WrongCount = omega arith
-refusal-numbered SettingsField = omega arith
-refusal-numbered FrequencyField = omega arith
-refusal-numbered UnitField = omega arith
-refusal-numbered UnitNotRising = omega arith
-refusal-numbered RequirementField = omega arith
-refusal-numbered WrongState = omega arith
-refusal-numbered TooShort = omega arith
-refusal-numbered LeftOvers = omega arith
-refusal-numbered AverageTooLow = omega arith
-refusal-numbered WrongWeek = omega arith
-
 pub told-taken : (s : Step) → told s ≡ 0 → s .taking ≡ k.the-variants.Taken
 told-taken s e = go (s .taking) e
   where

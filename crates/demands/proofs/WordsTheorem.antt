@@ -33,7 +33,8 @@ use Rattle.dullavane.specs.Called.{Stepped}
 use Rattle.dullavane.specs.Promises.{contents-reply, ContentsCalled}
 use Rattle.dullavane.proofs.Promises.{contents-opened}
 use Rattle.demands.specs.WordsChain.{Turn, WordsCall, WordsChain, begun, took, refused-record, refused-contents}
-use Rattle.demands.proofs.WordsLaws.{refusal-numbered, told-taken, words-hold}
+use Rattle.laws.proofs.RefusalLaws.{refusal-numbered}
+use Rattle.demands.proofs.WordsLaws.{told-taken, words-hold}
 use Rattle.demands.specs.WordsCalls.{StepCall, settings-step, frequency-step, unit-step, requirement-step}
 use Rattle.demands.proofs.WordsCalls.{refused-call, call-steps, step-calls, refused-stays}
 

@@ -12,7 +12,7 @@ use Rattle.integers.specs.Sums.{one, sumℕ, count}
 use Rattle.integers.proofs.Sums.{sumℕ-ext, sumℕ-zero, sumℕ-plus, sumℕ-times, sumℕ-scale, sumℕ-≤, sumℕ-<, some-term, one-≤, one-mono, count-≤, count-below}
 use Rattle.integers.proofs.Ranks.{rank, Total, ranked}
 use Rattle.integers.proofs.Division.{taken-≤, taken-rest}
-use Rattle.rules.specs.Share.{weight-sum, whole, remainder, left-over, ahead, gets-one, amount, unplaced, with-weight}
+use Rattle.rules.specs.Share.{weight-sum, whole, remainder, left-over, ahead, gets-one, amount, unplaced}
 
 -- ---- who comes first
 module _ (r : ℕ → ℕ) where
@@ -168,9 +168,13 @@ module _ (T n : ℕ) (w : ℕ → ℕ) (h : 0 < weight-sum n w) where
       go true e = omega (arith, div-add-mod' (T * w i) (weight-sum n w), mod-lt (T * w i) h, add-mul (whole T n w i) 1 (weight-sum n w), gets-one-remainder i e)
       go false e = omega (arith, div-add-mod' (T * w i) (weight-sum n w), mod-lt (T * w i) h, add-mul (whole T n w i) 0 (weight-sum n w))
 
--- what is left over is less than the members with weight: refusal 13 is never given for a real share
+-- THE LEFT-OVERS ARE FEWER THAN THE MEMBERS WITH WEIGHT, in every share whose weights are not all 0 (02, R-10): each whole part is less than one short, and
+-- a member without weight falls short by nothing. No rule that breaks ties stands in it, so it holds under each: one left-over cent a member is enough.
+abbrev pub with-weight : ℕ → (ℕ → ℕ) → ℕ
+with-weight n w = count n (λ i. ltb 0 (w i))
+
 module _ (T n : ℕ) (w : ℕ → ℕ) (h : 0 < weight-sum n w) where
-  pub left-overs-few : left-over T n w < with-weight T n w
+  pub left-overs-few : left-over T n w < with-weight n w
   left-overs-few =
       let k = some-term n w h in
       lt-of-mul-lt-mul-right (weight-sum n w) (rw (left-over-is T n w h, ← sumℕ-times n (weight-sum n w) (λ i. one (ltb 0 (w i))))
@@ -256,11 +260,3 @@ module _ (T n : ℕ) (w : ℕ → ℕ) where
       go : (t : Bool) → eqb (weight-sum n w) 0 ≡ t → amount T n w i ≡ 0
       go true e = amount-none e i
       go false e = small (amount T n w i) (weight-sum n w) (w i) z (amount-close T n w (not-zero (weight-sum n w) e) i .0)
-
--- refusal 13 is never met: a share that has room and is within the limits is placed, or T is unplaced
-pub never-left-overs : (T n : ℕ) (w : ℕ → ℕ) → (eqb (weight-sum n w) 0 || ltb (left-over T n w) (with-weight T n w)) ≡ true
-never-left-overs T n w = go (eqb (weight-sum n w) 0) refl
-  where
-    go : (t : Bool) → eqb (weight-sum n w) 0 ≡ t → (t || ltb (left-over T n w) (with-weight T n w)) ≡ true
-    go true e = refl
-    go false e = lt-ltb (left-over T n w) (with-weight T n w) (left-overs-few T n w (not-zero (weight-sum n w) e))

@@ -1,5 +1,5 @@
--- The numbers that the box can say no with (01), each by its name. Three of them come with no book: 11 is a call's alone; 12 comes with a call or a share whose
--- room is too short (ShareLimits); and no share gives 13, since the left-overs are always fewer than the members with weight (`laws`, left-overs-few).
+-- The numbers that the box can say no with (01), each by its name. Two of them come with no book: 11 is a call's alone, and 12 comes with a call or a share
+-- whose room is too short (ShareLimits). None has the number 13 (`laws`, never-thirteen); 14 and 17 are those of a week (02, R-7).
 use mathlib.Core.Path.{_≡_, refl}
 use mathlib.Core.List.{List, [], _∷_, map}
 use Rattle.rules.specs.declared.Refusal.the-variants.{
@@ -15,7 +15,8 @@ use Rattle.rules.specs.declared.Refusal.the-variants.{
   RequirementField,
   WrongState,
   TooShort,
-  LeftOvers,
+  AverageTooLow,
+  WrongWeek,
 }
 use Rattle.rules.specs.Refusals.{number}
 
@@ -26,5 +27,8 @@ pub of-a-book :
     ≡ (1 ∷ 2 ∷ 3 ∷ 4 ∷ 5 ∷ 6 ∷ 7 ∷ 8 ∷ 9 ∷ 10 ∷ [])
 of-a-book = refl
 
-pub of-a-call : map number (WrongState ∷ TooShort ∷ LeftOvers ∷ []) ≡ (11 ∷ 12 ∷ 13 ∷ [])
+pub of-a-call : map number (WrongState ∷ TooShort ∷ []) ≡ (11 ∷ 12 ∷ [])
 of-a-call = refl
+
+pub of-a-week : map number (AverageTooLow ∷ WrongWeek ∷ []) ≡ (14 ∷ 17 ∷ [])
+of-a-week = refl

@@ -15,7 +15,6 @@ use Rattle.rules.specs.declared.Refusal.the-variants.{
   RequirementField,
   WrongState,
   TooShort,
-  LeftOvers,
   AverageTooLow,
   WrongWeek,
 }
@@ -44,8 +43,7 @@ number RequirementField = 10
 number WrongState = 11
 -- a lent buffer is too short for its answer
 number TooShort = 12
--- in a share with W above 0, the left-overs are not fewer than the members with weight
-number LeftOvers = 13
+-- 13 is nobody's: no share could meet it (02, R-10), and it is not given again
 -- the average of a week is below the limit of its book field (02, R-7)
 number AverageTooLow = 14
 -- a week of more than 2,016 intervals, or a live performance that no such member can have (02, R-7)

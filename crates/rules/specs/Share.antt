@@ -5,7 +5,7 @@ use Prim.Native.Nat.{ℕ, _+_, _*_, _-_, _/_, _%_}
 use lib.Dec.{leb, ltb, eqb}
 use lib.ListN.{length, getD}
 use Rattle.integers.specs.Sums.{one, sumℕ, count}
-use Rattle.rules.specs.declared.Refusal.the-variants.{TooShort, WrongCount, LeftOvers}
+use Rattle.rules.specs.declared.Refusal.the-variants.{TooShort, WrongCount}
 use Rattle.rules.specs.Quantities.{total-limit, weight-limit}
 use Rattle.rules.specs.Refusals.{Reply, taken, unless}
 use Rattle.rules.specs.Bytes.{listed}
@@ -42,9 +42,6 @@ module _ (T n : ℕ) (w : ℕ → ℕ) where
   unfoldable pub unplaced : ℕ
   unplaced = cond (eqb (weight-sum n w) 0) T 0
 
-  abbrev pub with-weight : ℕ
-  with-weight = count n (λ i. ltb 0 (w i))
-
 -- the same over a list of weights
 abbrev pub weight-at : List ℕ → ℕ → ℕ
 weight-at ws i = getD ws i 0
@@ -61,5 +58,4 @@ share-reply T ws room =
     let W = weight-sum (length ws) (weight-at ws) in
     unless (leb (length ws) room) TooShort
     (unless (leb T total-limit && leb W weight-limit) WrongCount
-    (unless (eqb W 0 || ltb (left-over T (length ws) (weight-at ws)) (with-weight T (length ws) (weight-at ws))) LeftOvers
-    (taken (unplaced-of T ws))))
+    (taken (unplaced-of T ws)))

@@ -50,7 +50,7 @@ pub struct RunningWeek {
     pub low: u64,
 }
 
-// What the box says no with, in the order of the numbers 1 to 13, 14 and 17.
+// What the box says no with, in the order of the numbers 1 to 12, 14 and 17. None has the number 13, and none will (02, R-10).
 pub enum Refusal {
     EndsEarly,
     WrongMark,
@@ -64,7 +64,6 @@ pub enum Refusal {
     RequirementField,
     WrongState,
     TooShort,
-    LeftOvers,
     AverageTooLow,
     WrongWeek,
 }
@@ -86,7 +85,6 @@ pub fn refusal_number(refusal: Refusal) -> u32
         Refusal::RequirementField => 10,
         Refusal::WrongState => 11,
         Refusal::TooShort => 12,
-        Refusal::LeftOvers => 13,
         Refusal::AverageTooLow => 14,
         Refusal::WrongWeek => 17,
     }

@@ -12,11 +12,11 @@ use Rattle.integers.specs.Pairs.{loss}
 use Rattle.integers.specs.Sums.{both}
 use Rattle.integers.specs.Fills.{filled}
 use Rattle.rules.specs.declared.Refusal.{Refusal}
-use Rattle.rules.specs.declared.Refusal.the-variants.{TooShort, WrongCount, LeftOvers}
+use Rattle.rules.specs.declared.Refusal.the-variants.{TooShort, WrongCount}
 use Rattle.rules.specs.Quantities.{total-limit, weight-limit}
 use Rattle.rules.specs.Refusals.{Reply, taken, refused, unless}
 use Rattle.rules.specs.Share.{weight-at, share-of, unplaced, share-reply}
-use Rattle.laws.proofs.ShareLaws.{not-zero, left-overs-few}
+use Rattle.laws.proofs.ShareLaws.{not-zero}
 use Rattle.share.specs.declared.Shared.{Shared}
 use Rattle.share.specs.declared.Shared.the-variants.{Placed, Refused}
 use Rattle.share.specs.declared.Tested.{Tested}
@@ -56,20 +56,15 @@ found T (Unfit refusal) = refused refusal
 pub tests-tell : (T : ℕ) (xs : List ℕ) (room : ℕ) → share-reply T xs room ≡ found T (tested T xs room)
 unfolding tested share-reply unplaced
 tests-tell T xs room =
-    go (leb (length xs) room) (leb T total-limit && leb (sum-of xs) weight-limit) (eqb (sum-of xs) 0) refl (ltb (left-of T xs) (weighty xs)) refl
+    go (leb (length xs) room) (leb T total-limit && leb (sum-of xs) weight-limit) (eqb (sum-of xs) 0)
   where
-    few : (d : Bool) → ltb (left-of T xs) (weighty xs) ≡ d → eqb (sum-of xs) 0 ≡ false → d ≡ true
-    few d e f =
-        sym e ∙ lt-ltb (left-of T xs) (weighty xs) (left-overs-few T (length xs) (weight-at xs) (omega (arith, not-zero (sum-of xs) f)))
-
-    go : (a b c : Bool) → eqb (sum-of xs) 0 ≡ c → (d : Bool) → ltb (left-of T xs) (weighty xs) ≡ d →
-        unless a TooShort (unless b WrongCount (unless (c || d) LeftOvers (taken (cond c T 0)))) ≡
+    go : (a b c : Bool) →
+        unless a TooShort (unless b WrongCount (taken (cond c T 0))) ≡
         found T (cond a (cond b (cond c Weightless (Ready (sum-of xs))) (Unfit WrongCount)) (Unfit TooShort))
-    go true true true e d f = refl
-    go true true false e true f = refl
-    go true true false e false f = absurd (false≢true (few false f e))
-    go true false c e d f = refl
-    go false b c e d f = refl
+    go true true true = refl
+    go true true false = refl
+    go true false c = refl
+    go false b c = refl
 
 -- what the tests have shown of a share that passes, and of one without weight
 pub record Passed (T : ℕ) (xs : List ℕ) (room W : ℕ) : Type 0 where

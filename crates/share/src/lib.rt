@@ -96,8 +96,7 @@ fn share_from(
 }
 
 // The total over the weights: each member's amount is written, or refused is TooShort (12) where the amounts have less room than there are
-// weights, then WrongCount (5) where the total or the sum of the weights is over its limit. LeftOvers (13), the last of the definition's
-// refusals, is never met. A refusal writes nothing.
+// weights, then WrongCount (5) where the total or the sum of the weights is over its limit. A refusal writes nothing.
 pub fn share(total: u64, weights: &[u64], amounts: &mut [i64]) -> Shared
     ensures { λ r. ⌜ SharedOut credit total (now (weights .entry)) (now (amounts .entry)) r (now (amounts .exit)) ⌝ }
 {

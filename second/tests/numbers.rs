@@ -1,0 +1,133 @@
+//! The numbers that the program says no with: which there are, and that 13 is not among them.
+
+use std::collections::BTreeSet;
+use std::fs;
+use std::path::Path;
+
+use second::boundary::{script_line, Lent};
+use second::damage::damage;
+use second::doors::Doors;
+use second::lines;
+use second::listing::settle;
+use second::make::{make, CLASSES};
+use second::records::{record_line, share_line};
+use second::replay::replay;
+use second::script::Script;
+use second::week_books::trial;
+use second::week_script::write_script;
+use second::write::to_bytes;
+
+/// Without 13, which request R-10 took away and which is never given again.
+const NUMBERS: [u8; 14] = [1, 2, 3, 4, 5, 6, 7, 8, 9, 10, 11, 12, 14, 17];
+
+/// The number of a line `refused N ...`.
+fn refused(answer: &str) -> Option<u8> {
+    let mut words = answer.strip_prefix("refused ")?.split_whitespace();
+    Some(words.next().expect("a number").parse().expect("a number"))
+}
+
+/// The number of a call's line `KIND REPLY ...`.
+fn replied(answer: &str) -> Option<u8> {
+    let reply = answer.split(' ').nth(1).expect("a reply").parse().expect("a number");
+    (reply != 0).then_some(reply)
+}
+
+fn of_books() -> BTreeSet<u8> {
+    let damaged = |seed: u64| {
+        let (class, _) = CLASSES[seed as usize % CLASSES.len()];
+        let bytes = to_bytes(&make(seed, class, Some(seed as usize % 8)).expect("a class"));
+        refused(&settle(&damage(seed, &bytes)))
+    };
+    (0..1_500).filter_map(damaged).collect()
+}
+
+fn of_shares() -> BTreeSet<u8> {
+    (0..9_000).filter_map(|nth| refused(&share_line(&lines::share(7, nth)))).collect()
+}
+
+fn of_records() -> BTreeSet<u8> {
+    let kinds = ["contents", "settings", "frequency", "unit", "requirement"];
+    let lines = kinds.iter().flat_map(|kind| (0..1_000).map(move |nth| lines::record(kind, 7, nth)));
+    lines.filter_map(|line| refused(&record_line(&line))).collect()
+}
+
+fn of_calls() -> BTreeSet<u8> {
+    let mut script = Vec::new();
+    Script::new(7, true, &mut script).write(3_000);
+    let mut lent = Lent::default();
+    let script = String::from_utf8(script).expect("words");
+    let answers = script.lines().filter_map(|line| script_line(&mut lent, line));
+    answers.filter_map(|answer| replied(&answer)).collect()
+}
+
+fn of_weeks() -> BTreeSet<u8> {
+    let mut script = Vec::new();
+    write_script(2_000, 7, &mut script).expect("room");
+    let mut doors = Doors::default();
+    let script = String::from_utf8(script).expect("words");
+    let answers = script.lines().map(|line| doors.line(line)).filter(|answer| !answer.starts_with("keep"));
+    answers.filter_map(|answer| replied(&answer)).collect()
+}
+
+fn of_weeks_of_books() -> BTreeSet<u8> {
+    (0..600).filter_map(|turn| refused(&replay(&trial(7, turn).bytes).0)).collect()
+}
+
+#[test]
+fn shares_are_refused_with_5_alone() {
+    assert_eq!(of_shares(), BTreeSet::from([5]));
+}
+
+/// All that the program answers with, together: each number is met, and no other.
+#[test]
+fn these_numbers_are_met() {
+    let all = [of_books(), of_shares(), of_records(), of_calls(), of_weeks(), of_weeks_of_books()];
+    let met: BTreeSet<u8> = all.into_iter().flatten().collect();
+    assert_eq!(met, BTreeSet::from(NUMBERS));
+}
+
+/// The text of every file under a directory.
+fn sources(directory: &Path) -> String {
+    let mut text = String::new();
+    for entry in fs::read_dir(directory).expect("a directory") {
+        let path = entry.expect("an entry").path();
+        if path.is_dir() {
+            text.push_str(&sources(&path));
+        } else {
+            text.push_str(&fs::read_to_string(&path).expect("a source"));
+        }
+    }
+    text
+}
+
+/// What stands between the brackets of each `NAME(...)`.
+fn calls_of<'a>(text: &'a str, name: &str) -> Vec<&'a str> {
+    let within = |(at, _): (usize, &str)| {
+        let rest = &text[at + name.len() + 1..];
+        let mut depth = 1;
+        let closes = |&(_, letter): &(usize, char)| {
+            depth += i32::from(letter == '(') - i32::from(letter == ')');
+            depth == 0
+        };
+        let (end, _) = rest.char_indices().find(closes).expect("a closing bracket");
+        &rest[..end]
+    };
+    text.match_indices(&format!("{name}(")).map(within).collect()
+}
+
+/// A refusal is made where its number is written, or by a `require` with its number last (`Refusal(number)` is
+/// the inside of `require`, or takes a refusal apart): so these are all that can be given, met by a test or not.
+#[test]
+fn no_other_number_stands_in_the_sources() {
+    let text = sources(&Path::new(env!("CARGO_MANIFEST_DIR")).join("src"));
+    let mut written = BTreeSet::new();
+    for made in calls_of(&text, "Refusal").into_iter().filter(|made| !["pub u8", "number"].contains(made)) {
+        written.insert(made.parse().unwrap_or_else(|_| panic!("Refusal({made})")));
+    }
+    for required in calls_of(&text, "require").into_iter().filter(|made| *made != "holds: bool, number: u8") {
+        let arguments = required.trim_end().trim_end_matches(',');
+        let number: Option<u8> = arguments.rsplit(',').next().and_then(|last| last.trim().parse().ok());
+        written.insert(number.unwrap_or_else(|| panic!("require({required})")));
+    }
+    assert_eq!(written, BTreeSet::from(NUMBERS));
+}
