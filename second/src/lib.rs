@@ -19,6 +19,7 @@ pub mod week;
 pub mod replay;
 
 pub mod invariants;
+pub mod rules;
 
 pub mod write;
 pub mod describe;
