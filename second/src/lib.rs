@@ -25,6 +25,7 @@ pub mod write;
 pub mod describe;
 pub mod worked;
 pub mod chance;
+pub mod unequal;
 pub mod make;
 pub mod bench;
 pub mod damage;

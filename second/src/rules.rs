@@ -1,6 +1,7 @@
 //! Where the rule of the share and the one before request R-9 differ: a settled requirement with its left-overs
 //! placed by the rule before, and the shares in which that is another answer.
 
+use std::collections::BTreeSet;
 use std::fmt::Write;
 
 use crate::book::Book;
@@ -40,6 +41,20 @@ fn totals_and_weights(settled: &Settled) -> [(i128, Vec<i128>); 6] {
 /// In which of its shares the rules differ.
 pub fn shares_that_differ(settled: &Settled) -> [bool; 6] {
     totals_and_weights(settled).map(|(total, weights)| differ(total, &weights))
+}
+
+/// The shares of a settled book in which the rules differ, with the word of their direction.
+pub fn shares_of(all: &[Settled]) -> BTreeSet<(&'static str, &'static str)> {
+    let mut found = BTreeSet::new();
+    for settled in all {
+        let differ = shares_that_differ(settled);
+        found.extend(
+            (0..SHARES.len())
+                .filter(|&share| differ[share])
+                .map(|share| (SHARES[share], settled.direction.word())),
+        );
+    }
+    found
 }
 
 /// The same requirement as the rule before request R-9 would have settled it.

@@ -153,6 +153,23 @@ fn drawn_shares_follow_the_definition() {
     }
 }
 
+/// The lines too, many of which have equal remainders of different weights.
+#[test]
+fn lines_follow_the_definition() {
+    for nth in 0..5_400 {
+        let line = lines::share(31, nth);
+        let numbers: Vec<i128> = line.split(' ').map(|word| word.parse().unwrap()).collect();
+        let (total, weights) = (numbers[0], &numbers[1..]);
+        // The definition takes its time over hundreds of weights.
+        let few = weights.len() <= 76 || nth % 18 == 13 && nth < 900;
+        if let Some(shared) = share(total, weights).ok().filter(|_| few) {
+            if weights.iter().sum::<i128>() > 0 {
+                assert_eq!(shared.amounts, by_definition(total, weights), "{total} over {weights:?}");
+            }
+        }
+    }
+}
+
 /// The left-overs of a share that has weight, after it was seen that they are fewer than the members with
 /// weight, and why; no tie is broken to count them.
 fn few_left_over(total: i128, weights: &[i128]) -> i128 {
