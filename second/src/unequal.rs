@@ -15,6 +15,7 @@ use crate::rcr::rcr;
 use crate::rules::{differ, shares_of};
 use crate::write::*;
 
+/// How often something is drawn anew before it is left as it came.
 const DRAWS: usize = 30;
 
 fn greatest_common_divisor(one: i128, other: i128) -> i128 {
@@ -258,8 +259,8 @@ fn draw_requirements(
     all
 }
 
-/// One series for all regions, above 0 Hz off and then below or the other way round, so that both directions are
-/// reliable; now and then one direction only, or a region separated.
+/// One series for all regions, or a cMW would not come to the same in each: FM of one sign, then of the other, so that
+/// both directions are reliable; now and then of one sign only, or a region separated.
 fn draw_regions(chance: &mut Chance, book: &mut Book) {
     let turn_at = chance.pick(&[7, 20, 37, 37, 50, 68, 68, 75]);
     let side = chance.pick(&[1, -1]);
