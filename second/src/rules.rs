@@ -24,7 +24,7 @@ fn column(settled: &Settled, pick: impl Fn(&Line) -> i128) -> Vec<i128> {
 }
 
 /// The total and the weights of each of the six shares.
-fn totals_and_weights(settled: &Settled) -> [(i128, Vec<i128>); 6] {
+pub fn totals_and_weights(settled: &Settled) -> [(i128, Vec<i128>); 6] {
     let payment = column(settled, |line| line.member.payment_performance);
     let used = column(settled, |line| line.member.used_performance);
     let unused = column(settled, |line| line.member.unused_default);
