@@ -3,6 +3,7 @@ pub mod Casts
 pub mod Division
 pub mod Fills
 pub mod Fitting
+pub mod Multiples
 pub mod Nearest
 pub mod Order
 pub mod Pairs

@@ -21,7 +21,7 @@ use Rattle.rules.specs.Quantities.{total-limit, price-limit}
 use Rattle.rules.specs.Book.{Requirement, Book}
 use Rattle.rules.specs.Members.{Member, members}
 use Rattle.rules.specs.Share.{weight-at, share-of, unplaced-of}
-use Rattle.laws.proofs.ShareLaws.{share-adds-up, placed-and-unplaced, no-weight-no-amount, not-zero}
+use Rattle.laws.proofs.ShareLaws.{shared-in-all, shared-or-unplaced, no-weight-no-share, not-zero}
 use Rattle.rules.specs.Factors.{helpful, unhelpful}
 use Rattle.rules.specs.Rcr.{rcr, all-reliable}
 use Rattle.laws.proofs.RcrLaws.{rcr-within}
@@ -63,8 +63,8 @@ used-pool-within q reliable f = omega (arith, used-pool-≤ q reliable, f .cost)
 -- ---- a share of a pool
 -- a pool that is 0 where nothing weighs is shared in full
 shared-in-full : (T : ℕ) (ws : List ℕ) → (T ≡ 0) ⊎ (any-weight ws ≡ true) → sumℕ (length ws) (share-of T ws) ≡ T
-shared-in-full T ws (inl z) = omega (arith, placed-and-unplaced T (length ws) (weight-at ws))
-shared-in-full T ws (inr s) = share-adds-up T (length ws) (weight-at ws) (rw (total-indexes ws) (leb-true 1 _ s))
+shared-in-full T ws (inl z) = omega (arith, shared-or-unplaced T ws)
+shared-in-full T ws (inr s) = shared-in-all T ws (rw (total-indexes ws) (leb-true 1 _ s))
 
 -- a member has one sign
 one-sign : (ms : List Member) (i : ℕ) → (weight-at (helpful ms) i ≡ 0) ⊎ (weight-at (unhelpful ms) i ≡ 0)
@@ -89,8 +89,8 @@ pub one-share : (T : ℕ) (ms : List Member) (i : ℕ) → (share-of T (helpful 
 one-share T ms i = go (one-sign ms i)
   where
     go : (weight-at (helpful ms) i ≡ 0) ⊎ (weight-at (unhelpful ms) i ≡ 0) → (share-of T (helpful ms) i ≡ 0) ⊎ (share-of T (unhelpful ms) i ≡ 0)
-    go (inl z) = inl (no-weight-no-amount T (length (helpful ms)) (weight-at (helpful ms)) i z)
-    go (inr z) = inr (no-weight-no-amount T (length (unhelpful ms)) (weight-at (unhelpful ms)) i z)
+    go (inl z) = inl (no-weight-no-share T (helpful ms) i z)
+    go (inr z) = inr (no-weight-no-share T (unhelpful ms) i z)
 
 -- the pool is 0 unless both signs have a member
 pool-case : (s t : Bool) (p : ℕ) → (cond (s && t) p 0 ≡ 0) ⊎ ((s ≡ true) × (t ≡ true))
@@ -108,7 +108,7 @@ charged : (T : ℕ) (f : Member → ℕ) (field : Line → ℤ) (line : ℕ → 
 charged T f field line ms e =
     ap (λ (z : ℕ). z + unplaced-of T (map f ms)) (numbered-sum (λ l. loss (field l)) line (share-of T (map f ms))
     (λ i m. ap loss (e i m) ∙ loss-negation (pos (share-of T (map f ms) i))) ms ∙ over-members T f ms)
-    ∙ placed-and-unplaced T (length (map f ms)) (weight-at (map f ms))
+    ∙ shared-or-unplaced T (map f ms)
 
 -- ---- the cents meet
 module _ (b : Book) (q : Requirement) where
