@@ -4,6 +4,7 @@ pub mod Distances
 pub mod Division
 pub mod Fills
 pub mod Fitting
+pub mod Multiples
 pub mod Nearest
 pub mod Order
 pub mod Pairs

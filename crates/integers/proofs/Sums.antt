@@ -271,6 +271,10 @@ sumℕ-prefix i (suc n) f h = go (λ l. sumℕ-prefix i n f l) (ltb n i) refl
     go ih true c = let e : i ≡ suc n = omega (arith, ltb-true n i c) in rw e (omega arith)
     go ih false c = omega (arith, ih (ltb-false n i c))
 
+-- two terms of a sum
+pub sumℕ-two : (n : ℕ) (f : ℕ → ℕ) (i j : ℕ) → i < j → j < n → f i + f j ≤ sumℕ n f
+sumℕ-two n f i j h k = omega (arith, sumℕ-prefix (j + 1) n f (omega arith), sumℕ-step j f, sumℕ-term j f i h)
+
 -- a sum above zero has a term above zero
 pub some-term : (n : ℕ) (f : ℕ → ℕ) → 0 < sumℕ n f → (i : ℕ) × (i < n) × (0 < f i)
 unfolding sumℕ

@@ -8,6 +8,7 @@ pub mod Sums
 pub mod Totals
 -- Lists that a loop writes or adds to
 pub mod Fills
--- Division: quotient and remainder, the nearest whole number
+-- Division: quotient and remainder, multiples, the nearest whole number
 pub mod Division
+pub mod Multiples
 pub mod Nearest

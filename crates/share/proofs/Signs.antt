@@ -15,7 +15,7 @@ use Rattle.integers.proofs.Fills.{filled-at, filled-again, filled-ext, filled-s
 use Rattle.integers.proofs.Sums.{sumℕ-term}
 use Rattle.rules.specs.declared.Refusal.{Refusal}
 use Rattle.rules.specs.Refusals.{Reply, taken, refused}
-use Rattle.laws.proofs.ShareLaws.{no-weight-no-amount}
+use Rattle.laws.proofs.ShareLaws.{no-weight-no-share}
 use Rattle.rules.specs.Share.{weight-at, share-of, share-reply}
 use Rattle.share.specs.declared.weights.Source.{Source}
 use Rattle.share.specs.declared.weights.Source.the-variants.{Helpful, Unhelpful}
@@ -120,10 +120,10 @@ module _ (T : ℕ) (ps old : List ℤ) (long : length ps ≤ length old) where
   one-side i true e =
       let g : gain (getD ps i (pos 0)) ≡ 0 = one-sign (getD ps i (pos 0))
       (omega (arith, ltb-true 0 (weight-at (map loss ps) i) e, List·getD-map loss ps i (pos 0))) in
-      let z : share-of T (map gain ps) i ≡ 0 = no-weight-no-amount T (length (map gain ps)) (weight-at (map gain ps)) i (List·getD-map gain ps i (pos 0) ∙ g) in
+      let z : share-of T (map gain ps) i ≡ 0 = no-weight-no-share T (map gain ps) i (List·getD-map gain ps i (pos 0) ∙ g) in
       sym (ap (λ (a : ℕ). pos a -ℤ pos (share-of T (map loss ps) i)) z ∙ +ℤ-idl (negℤ (pos (share-of T (map loss ps) i))))
   one-side i false e =
-      let z : share-of T (map loss ps) i ≡ 0 = no-weight-no-amount T (length (map loss ps)) (weight-at (map loss ps)) i
+      let z : share-of T (map loss ps) i ≡ 0 = no-weight-no-share T (map loss ps) i
       (omega (arith, ltb-false 0 (weight-at (map loss ps) i) e)) in
       sym (ap (λ (b : ℕ). credits i -ℤ pos b) z ∙ +ℤ-idr (credits i))
 

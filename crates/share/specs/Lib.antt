@@ -1,5 +1,6 @@
 pub mod Weighing
 pub mod Rates
+pub mod Keys
 pub mod Column
 pub mod Digits
 pub mod Promises

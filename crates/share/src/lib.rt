@@ -4,6 +4,7 @@ mod cut;
 mod left_overs;
 mod marks;
 mod part;
+mod ties;
 mod weights;
 
 use left_overs::clear;
