@@ -22,7 +22,7 @@ count() {
     fi
 }
 echo "shape n library C"
-for shape in random two equal one distances digits; do
+for shape in random two equal one tied distances digits; do
     for n in 1 5 77 477 513; do
         test "$(${QEMU:-} target/bench/share $n $shape lib)" = "$(${QEMU:-} target/bench/share $n $shape c)" || { echo "differ at $n $shape"; exit 1; }
         echo "$shape $n $(count lib $n $shape) $(count c $n $shape)"

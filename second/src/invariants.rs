@@ -24,7 +24,8 @@ struct Slice {
 }
 
 /// All of the total is placed if there is weight; every amount is less than one
-/// away from its exact share; no larger or earlier equal remainder goes without.
+/// away from its exact share; no larger remainder goes without, of equal ones no
+/// larger weight, of equal weights no earlier member.
 fn share_closes(what: &str, total: i128, slices: &[Slice]) -> Held {
     let weight: i128 = slices.iter().map(|slice| slice.weight).sum();
     let placed: i128 = slices.iter().map(|slice| slice.amount).sum();
@@ -32,14 +33,14 @@ fn share_closes(what: &str, total: i128, slices: &[Slice]) -> Held {
         return hold(placed == 0, || format!("{what}: {placed} placed without weight"));
     }
     hold(placed == total, || format!("{what}: {placed} placed of {total}"))?;
-    let mut lowest_lifted: Option<(i128, usize)> = None;
-    let mut highest_left: Option<(i128, usize)> = None;
+    let mut lowest_lifted: Option<(i128, i128, usize)> = None;
+    let mut highest_left: Option<(i128, i128, usize)> = None;
     for (place, slice) in slices.iter().enumerate() {
         let exact = total * slice.weight;
         hold((slice.amount * weight - exact).abs() < weight, || {
             format!("{what}: member {place} is one or more away from its exact share")
         })?;
-        let rank = (exact % weight, usize::MAX - place);
+        let rank = (exact % weight, slice.weight, usize::MAX - place);
         if slice.amount > exact / weight {
             lowest_lifted = Some(lowest_lifted.map_or(rank, |lowest| lowest.min(rank)));
         } else {
@@ -50,7 +51,11 @@ fn share_closes(what: &str, total: i128, slices: &[Slice]) -> Held {
         (Some(lifted), Some(left)) => lifted > left,
         _ => true,
     };
-    hold(in_order, || format!("{what}: a left-over went past a larger or earlier remainder"))
+    hold(in_order, || {
+        format!(
+            "{what}: a left-over went past a larger remainder, or of equal ones a larger or earlier weight"
+        )
+    })
 }
 
 fn slices(lines: &[Line], weight: impl Fn(&Line) -> i128, amount: impl Fn(&Line) -> i128) -> Vec<Slice> {

@@ -19,11 +19,13 @@ pub mod week;
 pub mod replay;
 
 pub mod invariants;
+pub mod rules;
 
 pub mod write;
 pub mod describe;
 pub mod worked;
 pub mod chance;
+pub mod unequal;
 pub mod make;
 pub mod bench;
 pub mod damage;

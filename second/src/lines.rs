@@ -3,19 +3,25 @@
 use crate::chance::Chance;
 use crate::damage::damage;
 use crate::make::{make, CLASSES};
+use crate::unequal::{all_alike, billionths_over, enlarged, telling_total};
 use crate::write::to_bytes;
 
 const TOTAL_LIMIT: i128 = 1_000_000_000_000;
 const WEIGHT_LIMIT: i128 = 6_010_000_000_000_000_000;
 const SIZES: [usize; 10] = [0, 1, 2, 3, 5, 7, 13, 76, 477, 513];
 
-/// The nth share: edges first, then drawn ones.
+/// The nth share: edges, then drawn ones, then as many of few sizes whose remainders tie.
 pub fn share(seed: u64, nth: usize) -> String {
     let mut chance = Chance::new(seed.wrapping_add(nth as u64));
-    if nth % 9 == 8 {
-        return hard(&mut chance);
+    match nth % 18 {
+        8 => return hard(&mut chance),
+        9 => return tied(&mut chance, 1),
+        10..=12 => return tied(&mut chance, 2),
+        13..=15 => return tied(&mut chance, 3),
+        16 | 17 => return billionths(&mut chance),
+        _ => {}
     }
-    let weights = match nth % 9 {
+    let weights = match nth % 18 {
         0 => sum_to(&mut chance, WEIGHT_LIMIT),
         1 => sum_to(&mut chance, WEIGHT_LIMIT + 1),
         2 => equal(&mut chance),
@@ -53,6 +59,30 @@ fn hard(chance: &mut Chance) -> String {
     }
     let total = if chance.one_in(2) { n as i128 / 2 } else { chance.between(0, n as i128) };
     line(total, weights)
+}
+
+const TIED_SIZES: [usize; 11] = [2, 3, 5, 7, 13, 76, 477, 512, 513, 513, 513];
+
+/// All weights of one, two or three sizes, each of which ties with every other, or nearly all of them; a total that
+/// tells the rule of the share from the one before request R-9, where there is one.
+fn tied(chance: &mut Chance, sizes: usize) -> String {
+    let count = chance.pick(&TIED_SIZES);
+    let (modulus, mut weights) = all_alike(chance, count, sizes);
+    if chance.one_in(4) {
+        // Some without weight, and one that need not tie.
+        (0..count / 8).for_each(|_| weights[chance.place(count)] = 0);
+        weights[chance.place(count)] = chance.any_size(100_000);
+    }
+    let any = chance.any_size(TOTAL_LIMIT);
+    let total = telling_total(chance, &weights, modulus, TOTAL_LIMIT).unwrap_or(any);
+    line(total, enlarged(chance, &weights, WEIGHT_LIMIT))
+}
+
+/// 1,000,000,000 over weights of few sizes that tie.
+fn billionths(chance: &mut Chance) -> String {
+    let count = chance.pick(&TIED_SIZES);
+    let weights = billionths_over(chance, count);
+    line(1_000_000_000, enlarged(chance, &weights, WEIGHT_LIMIT))
 }
 
 /// Weights of many sizes whose sum is exactly `whole`.

@@ -4,14 +4,18 @@ use std::fmt::Write;
 
 use crate::book::{read_book, Refusal};
 use crate::cents::{settle_book, Line, Settled};
-use crate::members::Name;
+use crate::members::{Member, Name};
 use crate::performance::Standing;
 
-fn write_line(out: &mut String, line: &Line) {
-    let name = match line.member.name {
+pub fn name_of(member: &Member) -> String {
+    match member.name {
         Name::Unit(number) => format!("unit {number}"),
         Name::Residual => "residual".to_string(),
-    };
+    }
+}
+
+fn write_line(out: &mut String, line: &Line) {
+    let name = name_of(&line.member);
     let standing = match line.member.standing {
         Standing::Live => "live",
         Standing::Default(_) => "default",

@@ -5,12 +5,13 @@ use crate::book::*;
 use crate::chance::Chance;
 use crate::measure::next_measure;
 use crate::quantities::*;
+use crate::unequal;
 use crate::write::*;
 
 /// Sizes that are no round numbers, and the limits around 512.
 pub const ROSTERS: [usize; 10] = [0, 1, 5, 7, 13, 76, 477, 509, 511, 512];
 
-pub const CLASSES: [(&str, &str); 14] = [
+pub const CLASSES: [(&str, &str); 16] = [
     ("plain", "walking frequencies, readings near the trajectory, few bad units"),
     ("limits", "every field at or next to one of its limits"),
     ("badpoints", "bad frequency points around the limit, bad readings first, last, all"),
@@ -25,7 +26,15 @@ pub const CLASSES: [(&str, &str); 14] = [
     ("sets", "all 31 region sets in both directions, up to 32 requirements"),
     ("halves", "measures that decay through halves to 1 or -1"),
     ("mixed", "every trait drawn anew for each record"),
+    ("unequal", "equal remainders of different weights, live members and a few bad units"),
+    ("standins", "equal remainders of different weights, members that stand on their defaults"),
 ];
+
+/// The classes of books in which the rule of the share and the one before request R-9 mostly differ.
+pub const UNEQUAL: [&str; 2] = ["unequal", "standins"];
+
+/// How many books of a seed there were when seeds were first drawn: a class more renames none of them.
+const BOOKS_OF_A_SEED: u64 = 14;
 
 #[derive(Clone, Copy)]
 enum Frequencies {
@@ -641,20 +650,36 @@ fn draw_requirements(chance: &mut Chance, traits: &Traits, roster: usize) -> Vec
     all
 }
 
-/// The book of a seed and a class; without a roster the seed picks one.
-pub fn make(seed: u64, class: &str, roster: Option<usize>) -> Option<Book> {
-    let traits = traits_of(class)?;
-    let class_place = CLASSES.iter().position(|(name, _)| *name == class)? as u64;
-    let mut chance = Chance::new(seed.wrapping_mul(CLASSES.len() as u64).wrapping_add(class_place));
-    let chance = &mut chance;
-    let roster = roster.unwrap_or_else(|| chance.pick(&ROSTERS));
-    let settings = draw_settings(chance, &traits);
+/// The book that traits are drawn for.
+fn drawn_book(chance: &mut Chance, traits: &Traits, roster: usize) -> Book {
+    let settings = draw_settings(chance, traits);
     let mut frequencies: Vec<FrequencyRecord> =
-        (0..REGIONS).map(|region| draw_region(chance, &traits, &settings, region)).collect();
+        (0..REGIONS).map(|region| draw_region(chance, traits, &settings, region)).collect();
     if traits.opposed {
         oppose(chance, settings.smoothing, &mut frequencies);
     }
-    let units = draw_units(chance, &traits, settings.bad_unit_percent, roster);
-    let requirements = draw_requirements(chance, &traits, roster);
-    Some(Book { settings, frequencies, units, requirements })
+    let units = draw_units(chance, traits, settings.bad_unit_percent, roster);
+    let requirements = draw_requirements(chance, traits, roster);
+    Book { settings, frequencies, units, requirements }
+}
+
+fn unequal_book(chance: &mut Chance, live: bool, roster: usize) -> Book {
+    let drawn = chance.between(1, 32) as usize;
+    let count = if roster > 100 { chance.pick(&[1, 2, 3]) } else { chance.pick(&[1, 2, 3, 4, drawn]) };
+    let units = rising_numbers(chance, roster);
+    let requirements = rising_numbers(chance, count);
+    unequal::book(chance, live, &units, &requirements)
+}
+
+/// The book of a seed and a class; without a roster the seed picks one.
+pub fn make(seed: u64, class: &str, roster: Option<usize>) -> Option<Book> {
+    let class_place = CLASSES.iter().position(|(name, _)| *name == class)? as u64;
+    let mut chance = Chance::new(seed.wrapping_mul(BOOKS_OF_A_SEED).wrapping_add(class_place));
+    let chance = &mut chance;
+    let roster = roster.unwrap_or_else(|| chance.pick(&ROSTERS));
+    Some(match class {
+        "unequal" => unequal_book(chance, true, roster),
+        "standins" => unequal_book(chance, false, roster),
+        _ => drawn_book(chance, &traits_of(class)?, roster),
+    })
 }

@@ -3,6 +3,7 @@
 use crate::book::*;
 use crate::quantities::*;
 use crate::write::*;
+use crate::{describe, listing, rules};
 
 /// A worked book: its name, what it shows, the book, and the bytes that follow its last body.
 pub struct Worked {
@@ -15,6 +16,28 @@ pub struct Worked {
 impl Worked {
     pub fn bytes(&self) -> Vec<u8> {
         [&to_bytes(&self.book), self.behind].concat()
+    }
+
+    /// The book in words, and what the rule of the share before request R-9 would have listed otherwise.
+    pub fn text(&self) -> String {
+        let mut text = format!(
+            "{}\n\n{}\n\n{}\n{}{}\n({} bytes)\n",
+            self.name,
+            self.shows,
+            describe::BASE,
+            describe::describe(&self.book),
+            describe::behind(self.behind),
+            self.bytes().len()
+        );
+        let before = rules::in_words(&self.book);
+        let refused = listing::settle(&self.bytes()).starts_with("refused");
+        if !before.is_empty() && !refused {
+            text.push_str(
+                "\nBefore request R-9 equal remainders went to the earlier member, whatever the weights:\n",
+            );
+            text.push_str(&before);
+        }
+        text
     }
 }
 
@@ -508,6 +531,38 @@ fn thirteen_units() -> Book {
     book
 }
 
+/// Sizes of weights, drawn into a book by what one cMW off the trajectory comes to in each direction.
+fn larger_first() -> Book {
+    let mut book = base_book();
+    book.settings.interval = 111;
+    book.settings.bad_frequency_limit = 73;
+    book.settings.bad_unit_percent = 50;
+    book.frequencies[0].generation = 1;
+    // FM 20,000 at 40 points, then -20,000 at 35.
+    good_only_at(&mut book, 0, &[(1, 49_980_000), (41, 50_020_000)]);
+    let raise = -75 * 40 * 20_000;
+    let lower = -75 * 35 * 20_000;
+    let unused = |raise: i128, lower: i128| [0, 0, -raise, 0, 0, -lower];
+    let bad = |number: i128, defaults: [i128; 6]| {
+        with_bad_readings(with_defaults(unit(number, 0, false, 0, 0, |_| 0), defaults), 75, 75)
+    };
+    book.units = vec![
+        with_defaults(unit(1, 0, false, 0, 0, |_| 4), unused(1, 2)),
+        with_defaults(unit(2, 0, false, 0, 0, |_| 1), unused(3, 5)),
+        with_defaults(unit(3, 0, false, 0, 0, |_| 295), unused(1, 0)),
+        with_defaults(unit(4, 0, false, 0, 0, |_| -2), unused(3, 8)),
+        with_defaults(unit(5, 0, true, 0, 0, |_| 5), unused(5, 5)),
+        bad(6, [199 * raise, 47 * raise, -3, 103 * lower, 40 * lower, -2]),
+        bad(7, [101 * raise, 53 * raise, -5, 197 * lower, 20 * lower, 0]),
+    ];
+    book.frequencies[0].defaults = unused(3, 8);
+    book.requirements = vec![
+        regional(0, 1, Direction::Raise, 800, 500, 500, 200),
+        regional(0, 2, Direction::Lower, 1_600, 200, 200, 120),
+    ];
+    book
+}
+
 /// The same book with a unit whose number is that of the unit before.
 fn number_not_rising() -> Book {
     let mut book = thirteen_units();
@@ -576,9 +631,27 @@ pub fn all() -> Vec<Worked> {
         },
         Worked {
             name: "ties",
-            shows: "Equal weights and left-overs: ties go to the earlier member; a member without weight\n\
-                    gets nothing.",
+            shows: "Equal weights and left-overs: equal remainders of equal weights go to the earlier member;\n\
+                    a member without weight gets nothing.",
             book: ties(),
+            behind: &[],
+        },
+        Worked {
+            name: "larger_first",
+            shows: "Equal remainders of different weights: the larger weight first, then the earlier member. One\n\
+                    cMW off the trajectory comes to 60000000 for raise and 52500000 for lower, and the defaults of\n\
+                    units 6 and 7, which are bad, are multiples of it. So the weights for raise are\n\
+                    \x20 4, 1, 295 (units 1 to 3), on the other side 2, 5, 199, 101, 293 (units 4 to 7, residual),\n\
+                    \x20 used 2, 5, 47, 53, 293 (units 4 to 7, residual), unused 1, 3, 1, 3, 5, 3, 5, 3\n\
+                    and for lower\n\
+                    \x20 2, 5, 293 (units 4, 5, residual), on the other side 4, 1, 295, 103, 197 (units 1 to 3, 6, 7),\n\
+                    \x20 used 4, 1, 295, 40, 20 (units 1 to 3, 6, 7), unused 2, 5, 0, 8, 5, 2, 0, 8.\n\
+                    Raise, used: 200 over 400 leaves a half to 5, 47, 53, 293, and the two left-overs go to the\n\
+                    residual and to unit 7, whose payment is by a smaller weight than that of unit 6. Raise, unused: 300\n\
+                    over 24 leaves a half to everybody, and the four left-overs go to the two of 5 and to the first two\n\
+                    of 3. Lower, used: 120 over 360 leaves a third to 4, 1, 295, 40 and two thirds to 20; so unit 7 comes\n\
+                    first, then unit 3.",
+            book: larger_first(),
             behind: &[],
         },
         Worked {

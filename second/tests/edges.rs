@@ -123,7 +123,7 @@ fn the_shares_of_document_01() {
     assert_eq!(amounts(10, &[1, 1, 1]), (vec![4, 3, 3], 0));
     assert_eq!(amounts(2, &[1, 1, 1]), (vec![1, 1, 0], 0));
     assert_eq!(amounts(1, &[1, 2]), (vec![0, 1], 0));
-    assert_eq!(amounts(2, &[1, 3]), (vec![1, 1], 0));
+    assert_eq!(amounts(2, &[1, 3]), (vec![0, 2], 0), "1, 1 before request R-9");
     assert_eq!(amounts(5, &[0, 0]), (vec![0, 0], 5));
     assert_eq!(amounts(5, &[]), (vec![], 5));
 }

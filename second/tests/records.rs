@@ -13,6 +13,7 @@ fn hex(bytes: &[u8]) -> String {
 #[test]
 fn share_lines() {
     assert_eq!(share_line("10 1 1 1"), "4 3 3 unplaced 0");
+    assert_eq!(share_line("2 1 3"), "0 2 unplaced 0");
     assert_eq!(share_line("5 0 0"), "0 0 unplaced 5");
     assert_eq!(share_line("5"), "unplaced 5");
     assert_eq!(share_line("1000000000001 1"), "refused 5");

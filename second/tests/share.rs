@@ -5,7 +5,7 @@ use second::book::Refusal;
 use second::chance::Chance;
 use second::lines;
 use second::quantities::*;
-use second::share::share;
+use second::share::{share, share_earlier_first};
 
 #[test]
 fn total_and_weight_limits() {
@@ -38,7 +38,77 @@ fn a_member_without_weight_gets_nothing() {
     }
 }
 
-/// The definition, one left-over at a time: the largest remainder not yet served.
+/// What each member gets by the rule, and what it got by the one before request R-9.
+fn by_both_rules(total: i128, weights: &[i128]) -> [Vec<i128>; 2] {
+    [share(total, weights), share_earlier_first(total, weights)].map(|shared| shared.unwrap().amounts)
+}
+
+/// Where equal remainders have different weights, the larger weight comes first; worked out by hand.
+#[test]
+fn equal_remainders_go_to_the_larger_weight() {
+    assert_eq!(by_both_rules(2, &[1, 3]), [[0, 2], [1, 1]], "halves");
+    assert_eq!(by_both_rules(2, &[3, 1]), [[2, 0], [2, 0]], "the larger is the earlier too");
+    // Remainders 4 of 12 each: one left-over, three weights.
+    assert_eq!(by_both_rules(4, &[1, 4, 7]), [[0, 1, 3], [1, 1, 2]]);
+    assert_eq!(by_both_rules(4, &[4, 7, 1]), [[1, 3, 0], [2, 2, 0]]);
+    // Remainders 8 of 12 each: two left-overs, three weights.
+    assert_eq!(by_both_rules(8, &[1, 4, 7]), [[0, 3, 5], [1, 3, 4]]);
+    assert_eq!(by_both_rules(8, &[4, 7, 1]), [[3, 5, 0], [3, 5, 0]]);
+    assert_eq!(by_both_rules(8, &[7, 1, 4]), [[5, 0, 3], [5, 1, 2]]);
+    // W at its limit, T at and near its own: quarters and three quarters of a T that leaves 2 divided by 4.
+    let quarter = SHARE_WEIGHT_LIMIT / 4;
+    assert_eq!(by_both_rules(2, &[quarter, 3 * quarter]), [[0, 2], [1, 1]]);
+    assert_eq!(
+        by_both_rules(SHARE_TOTAL_LIMIT - 2, &[quarter, 3 * quarter]),
+        [[249_999_999_999, 749_999_999_999], [250_000_000_000, 749_999_999_998]]
+    );
+    // Both at their limits, in parts of W/8,192: T·weight is an odd number of halves of W.
+    let part = SHARE_WEIGHT_LIMIT / 8_192;
+    assert_eq!(
+        by_both_rules(SHARE_TOTAL_LIMIT, &[part, 3 * part, 5 * part, 8_183 * part]),
+        [
+            [122_070_312, 366_210_937, 610_351_563, 998_901_367_188],
+            [122_070_313, 366_210_938, 610_351_562, 998_901_367_187]
+        ]
+    );
+}
+
+#[test]
+fn equal_remainders_of_equal_weights_go_to_the_earlier_member() {
+    for (total, weights, amounts) in [
+        (10, [1, 1, 1].as_slice(), [4, 3, 3].as_slice()),
+        (2, &[1, 1, 1], &[1, 1, 0]),
+        (3, &[5, 5], &[2, 1]),
+        (2, &[0, 7, 0, 7, 7], &[0, 1, 0, 1, 0]),
+        (5, &[2, 2, 2, 2], &[2, 1, 1, 1]),
+    ] {
+        assert_eq!(by_both_rules(total, weights), [amounts, amounts], "{total} over {weights:?}");
+    }
+}
+
+/// Both at once: the larger weights first, among them the earlier member.
+#[test]
+fn larger_weights_first_then_earlier_members() {
+    // Halves all over: three left-overs go to 5 and to the earlier two of the three 3s.
+    assert_eq!(by_both_rules(8, &[1, 3, 1, 3, 5, 3]), [[0, 2, 0, 2, 3, 1], [1, 2, 1, 1, 2, 1]]);
+    assert_eq!(by_both_rules(4, &[1, 1, 3, 3]), [[0, 0, 2, 2], [1, 1, 1, 1]]);
+    assert_eq!(by_both_rules(4, &[1, 3, 1, 3]), [[0, 2, 0, 2], [1, 2, 0, 1]]);
+    assert_eq!(by_both_rules(6, &[1, 1, 3, 3, 1, 3]), [[0, 0, 2, 2, 0, 2], [1, 1, 2, 1, 0, 1]]);
+}
+
+/// The weight is asked only where remainders are equal.
+#[test]
+fn a_larger_remainder_comes_before_a_larger_weight() {
+    assert_eq!(by_both_rules(1, &[1, 2])[0], [0, 1]);
+    // 5 over 2, 7: remainders 1 and 8 of 9; 4 over them: 8 and 1.
+    assert_eq!(by_both_rules(5, &[2, 7])[0], [1, 4]);
+    assert_eq!(by_both_rules(4, &[2, 7])[0], [1, 3]);
+    // Remainders 1, 1, 1, 2 of 3: the 20 comes first, then the largest of the others.
+    assert_eq!(by_both_rules(120, &[4, 1, 295, 40, 20]), [[1, 0, 99, 13, 7], [2, 0, 98, 13, 7]]);
+}
+
+/// The definition, one left-over at a time: the largest remainder not yet served, of equal ones the largest
+/// weight, and of equal weights the earliest.
 fn by_definition(total: i128, weights: &[i128]) -> Vec<i128> {
     let sum: i128 = weights.iter().sum();
     let mut amounts: Vec<i128> = weights.iter().map(|weight| total * weight / sum).collect();
@@ -46,8 +116,12 @@ fn by_definition(total: i128, weights: &[i128]) -> Vec<i128> {
     while amounts.iter().sum::<i128>() < total {
         let mut best: Option<usize> = None;
         let remainder = |member: usize| total * weights[member] % sum;
+        let comes_before = |one: usize, other: usize| {
+            remainder(one) > remainder(other)
+                || remainder(one) == remainder(other) && weights[one] > weights[other]
+        };
         for member in (0..weights.len()).filter(|&member| !served[member]) {
-            if best.is_none_or(|best| remainder(member) > remainder(best)) {
+            if best.is_none_or(|best| comes_before(member, best)) {
                 best = Some(member);
             }
         }
@@ -75,6 +149,23 @@ fn drawn_shares_follow_the_definition() {
             assert_eq!((shared.amounts, shared.unplaced), (vec![0; members], total));
         } else {
             assert_eq!((shared.amounts, shared.unplaced), (by_definition(total, &weights), 0));
+        }
+    }
+}
+
+/// The lines too, many of which have equal remainders of different weights.
+#[test]
+fn lines_follow_the_definition() {
+    for nth in 0..5_400 {
+        let line = lines::share(31, nth);
+        let numbers: Vec<i128> = line.split(' ').map(|word| word.parse().unwrap()).collect();
+        let (total, weights) = (numbers[0], &numbers[1..]);
+        // The definition takes its time over hundreds of weights.
+        let few = weights.len() <= 76 || nth % 18 == 13 && nth < 900;
+        if let Some(shared) = share(total, weights).ok().filter(|_| few) {
+            if weights.iter().sum::<i128>() > 0 {
+                assert_eq!(shared.amounts, by_definition(total, weights), "{total} over {weights:?}");
+            }
         }
     }
 }

@@ -8,9 +8,10 @@ use std::path::{Path, PathBuf};
 
 use common::refusal;
 use second::book::{Refusal, Requirement, Unit, CONTENTS_SIZE};
-use second::cents::payment_pool;
-use second::quantities::Direction;
-use second::share::share;
+use second::cents::{payment_pool, settle_book};
+use second::quantities::{Direction, FACTOR_ONE};
+use second::rules::totals_and_weights;
+use second::share::{share, share_earlier_first};
 use second::sweep::put;
 use second::worked;
 use second::write::{base_book, base_requirement, base_unit, to_bytes};
@@ -239,6 +240,43 @@ fn shares_are_refused_so() {
         seen += 1;
     }
     assert_eq!(seen, 13);
+}
+
+/// The numbers of a list such as `( 1 ∷ 3 ∷ [] )` or `each 60_000_000 ( 4 ∷ 1 ∷ [] )`, and the words behind it.
+fn list(all: &[String]) -> (Vec<i128>, &[String]) {
+    let (times, start) = if all[0] == "each" { (number(&all[1]), 2) } else { (1, 0) };
+    let end = all.iter().position(|word| word == "[]").expect("the end of a list");
+    let numbers = all[start..end].iter().filter(|word| *word != "(" && *word != "∷");
+    (numbers.map(|word| times * number(word)).collect(), all.get(end + 2..).unwrap_or(&[]))
+}
+
+/// The list that a name stands for.
+fn list_named(all: &[String], name: &str) -> Vec<i128> {
+    let at = all.windows(2).position(|pair| pair[0] == name && pair[1] == "=").expect("what it is");
+    list(&all[at + 2..]).0
+}
+
+#[test]
+fn shares_by_the_rule_before_are_so() {
+    let book = worked::all().into_iter().find(|worked| worked.name == "larger_first").expect("the book").book;
+    let settled = settle_book(&book).expect("its figures");
+    let mut shares = settled.iter().flat_map(totals_and_weights);
+    let all = words(&theorems("books", "Ties"));
+    for at in 0..all.len() {
+        let [kind, total, name, rest @ ..] = &all[at..] else { continue };
+        if kind != "Otherwise" || total == "(" {
+            continue;
+        }
+        let total = if total == "billion" { FACTOR_ONE } else { number(total) };
+        let weights = list_named(&all, name);
+        let (once, rest) = list(rest);
+        let (now, _) = list(rest);
+        assert_eq!(share_earlier_first(total, &weights).expect("a share").amounts, once, "{name}");
+        assert_eq!(share(total, &weights).expect("a share").amounts, now, "{name}");
+        assert_ne!(once, now, "{name}");
+        assert_eq!(shares.next(), Some((total, weights)), "{name}");
+    }
+    assert_eq!(shares.next(), None);
 }
 
 #[test]

@@ -75,11 +75,11 @@ pub record Edges : Type 0 where
   -- start 0, end 100, reading 0 at t = 1: -100; as a load 100
   pub first-point : deviation (still Generation) 0 ≡ negℤ (pos 100)
   pub as-a-load : deviation (still Load) 0 ≡ pos 100
-  -- 10 over 1,1,1: 4,3,3. 2 over 1,1,1: 1,1,0. 1 over 1,2: 0,1. 2 over 1,3: 1,1. 5 over 0,0: 5 unplaced
+  -- 10 over 1,1,1: 4,3,3. 2 over 1,1,1: 1,1,0. 1 over 1,2: 0,1. 2 over 1,3: 1,1, which R-9 (02) makes 0,2. 5 over 0,0: 5 unplaced
   pub ten-over-three : shared 10 (1 ∷ 1 ∷ 1 ∷ []) ≡ (4 ∷ 3 ∷ 3 ∷ [])
   pub two-over-three : shared 2 (1 ∷ 1 ∷ 1 ∷ []) ≡ (1 ∷ 1 ∷ 0 ∷ [])
   pub one-over-two : shared 1 (1 ∷ 2 ∷ []) ≡ (0 ∷ 1 ∷ [])
-  pub equal-remainders : shared 2 (1 ∷ 3 ∷ []) ≡ (1 ∷ 1 ∷ [])
+  pub equal-remainders : shared 2 (1 ∷ 3 ∷ []) ≡ (0 ∷ 2 ∷ [])
   pub no-weight : shared 5 (0 ∷ 0 ∷ []) ≡ (0 ∷ 0 ∷ [])
   pub five-unplaced : unplaced-of 5 (0 ∷ 0 ∷ []) ≡ 5
   -- RCR 7,500: price 6 gives pool 1, price 5 gives 0

@@ -6,3 +6,4 @@ pub mod PaperBook
 pub mod Edges
 pub mod WorkedBooks
 pub mod WorkedAnswers
+pub mod Ties

@@ -202,6 +202,22 @@ ties =
     ∷ [])
     (requirement 6 1 Raise 4_000 14 14 2 ∷ [])
 
+-- ---- equal remainders of unequal weights in every share, for raise and for lower: Ties has the weights. FM is 20,000 at 40 points and -20,000 at 35, so 1 cMW
+-- off the trajectory comes to 60,000,000 for raise and to 52,500,000 for lower; the defaults of the two bad units are multiples of it
+abbrev pub larger-first : Book
+larger-first =
+    book (settings 10_000 73 50 111)
+    (two-good 1 (minus 0 0 3 0 0 8) 49_980_000 41 50_020_000 ∷ quiet ∷ quiet ∷ quiet ∷ quiet ∷ [])
+    (steady 1 0 Generation 0 (minus 0 0 1 0 0 2) (flat (pos 4))
+    ∷ steady 2 0 Generation 0 (minus 0 0 3 0 0 5) (flat (pos 1))
+    ∷ steady 3 0 Generation 0 (minus 0 0 1 0 0 0) (flat (pos 295))
+    ∷ steady 4 0 Generation 0 (minus 0 0 3 0 0 8) (flat (negℤ (pos 2)))
+    ∷ steady 5 0 Load 0 (minus 0 0 5 0 0 5) (flat (pos 5))
+    ∷ bad-at 75 6 0 Generation (pos 0) (pos 0) (minus 11_940_000_000 2_820_000_000 3 5_407_500_000 2_100_000_000 2) (λ t. pos 0)
+    ∷ bad-at 75 7 0 Generation (pos 0) (pos 0) (minus 6_060_000_000 3_180_000_000 5 10_342_500_000 1_050_000_000 0) (λ t. pos 0)
+    ∷ [])
+    (requirement 1 1 Raise 800 500 500 200 ∷ requirement 2 1 Lower 1_600 200 200 120 ∷ [])
+
 -- ---- roster 0: live residuals at 0; used unplaced; a region at 50 Hz is unreliable
 abbrev pub no-units : Book
 no-units =

@@ -1,4 +1,4 @@
-// share: a total over weights, to the unit, by largest remainder (document 01, The share), in words of 64 bits. The weights are lent, or
+// share: a total over weights, to the unit, by largest remainder (document 01, The share; document 02, R-9), in words of 64 bits. The weights are lent, or
 // they are one side of the lent performances; nothing else is lent but the column that the amounts go to.
 mod cut;
 mod left_overs;

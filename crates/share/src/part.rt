@@ -109,12 +109,12 @@ pub(crate) fn part_of(rate: Rate, weight: u64) -> Part
     }
 }
 
-// The whole part alone, where the remainder is known. The ratio rounded up gives the quotient, unless the remainder is nearly W.
-pub(crate) fn whole_of(rate: Rate, weight: u64, rest: u64) -> u64
-    requires { ⌜ Rated rate × (0 < weight) × (weight ≤ rate .sum) × (rest ≡ total-of rate * weight % rate .sum) ⌝ }
+// The whole part alone, where the remainder is known to be at most so much. The ratio rounded up gives the quotient, unless the remainder is nearly W.
+pub(crate) fn whole_of(rate: Rate, weight: u64, most: u64) -> u64
+    requires { ⌜ Rated rate × (0 < weight) × (weight ≤ rate .sum) × (total-of rate * weight % rate .sum ≤ most) ⌝ }
     ensures { λ r. ⌜ r ≡ total-of rate * weight / rate .sum ⌝ }
 {
-    if rate.sum - weight < rest {
+    if rate.sum - weight < most {
         return part_of(rate, weight).whole;
     }
     rate.whole * weight + upper(rate.ratio + 1, weight)

@@ -17,6 +17,7 @@ use Rattle.books.specs.WorkedBooks.{
   unplaced,
   ramp,
   ties,
+  larger-first,
   no-units,
   one-side,
   lower-defaults,
@@ -62,6 +63,10 @@ ramp-bytes = record { long = refl; same = refl }
 pub ties-bytes : Written ties 3_788 620_946_666_678_711_222
 unfolding computing
 ties-bytes = record { long = refl; same = refl }
+
+pub larger-first-bytes : Written larger-first 4_556 2_023_227_419_592_788_107
+unfolding computing
+larger-first-bytes = record { long = refl; same = refl }
 
 pub no-units-bytes : Written no-units 1_952 158_308_877_779_805_867
 unfolding computing

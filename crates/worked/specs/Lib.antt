@@ -1,6 +1,7 @@
 pub mod BookBytes
 pub mod Listings
 pub mod DefaultReasons
+pub mod LargerFirst
 pub mod SignTurned
 pub mod OneSide
 pub mod NoUnits

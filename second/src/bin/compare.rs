@@ -3,7 +3,7 @@
 //! `settle`, where that is built. A difference is kept under target/differences.
 //! Run from the top of the repository, see tests/compare.
 
-use std::collections::BTreeMap;
+use std::collections::{BTreeMap, BTreeSet};
 use std::fs;
 use std::path::Path;
 use std::process::ExitCode;
@@ -12,7 +12,7 @@ use second::book::{read_book, Refusal};
 use second::cents::settle_book;
 use second::library::{announcement, library_command, library_output};
 use second::listing::write_listing;
-use second::{damage, invariants, make, write};
+use second::{damage, invariants, make, rules, write};
 
 const DIFFERENCES: &str = "target/differences";
 
@@ -23,11 +23,26 @@ struct Trial {
     whole: bool,
 }
 
-/// Every second book is damaged; a large roster comes about once in sixteen.
+/// Half of the books are whole ones of the classes in which the rules of the share differ, a quarter whole ones of the
+/// others, a quarter damaged ones of all. A large roster comes about once in sixteen.
 fn trial(turn: u64) -> Trial {
-    let (class, _) = make::CLASSES[((turn / 2) % make::CLASSES.len() as u64) as usize];
+    let nth = turn / 4;
+    let (whole, unequal) = match turn % 4 {
+        0 => (true, false),
+        1 => (false, false),
+        _ => (true, true),
+    };
+    let others = make::CLASSES.len() - make::UNEQUAL.len();
+    let class = if unequal {
+        make::UNEQUAL[turn as usize % make::UNEQUAL.len()]
+    } else if whole {
+        make::CLASSES[nth as usize % others].0
+    } else {
+        make::CLASSES[nth as usize % make::CLASSES.len()].0
+    };
     let large = [76, 477, 509, 511, 512];
-    let small = [0, 1, 5, 7, 13, 2, 3];
+    // A residual alone ties with nobody.
+    let small = if unequal { [6, 1, 5, 7, 13, 2, 3] } else { [0, 1, 5, 7, 13, 2, 3] };
     let spread = turn.wrapping_mul(0x9E37_79B9_7F4A_7C15) >> 32;
     let roster = if spread.is_multiple_of(16) {
         large[(spread / 16 % large.len() as u64) as usize]
@@ -36,7 +51,6 @@ fn trial(turn: u64) -> Trial {
     };
     let book = make::make(turn, class, Some(roster)).expect("a class of the list");
     let bytes = write::to_bytes(&book);
-    let whole = turn.is_multiple_of(2);
     if whole {
         Trial { name: format!("{turn}-{class}-{roster}"), bytes, whole }
     } else {
@@ -45,8 +59,14 @@ fn trial(turn: u64) -> Trial {
     }
 }
 
+/// What a program has to print for a book, and the shares in which the rule before request R-9 would differ.
+struct Expected {
+    output: String,
+    shares: BTreeSet<(&'static str, &'static str)>,
+}
+
 /// The second program's output, with its invariants tested on the way.
-fn second_output(trial: &Trial, turn: u64) -> Result<String, String> {
+fn second_output(trial: &Trial, turn: u64) -> Result<Expected, String> {
     let settled = read_book(&trial.bytes).and_then(|book| Ok((settle_book(&book)?, book)));
     match settled {
         Ok((all, book)) => {
@@ -55,11 +75,14 @@ fn second_output(trial: &Trial, turn: u64) -> Result<String, String> {
             }
             invariants::check(&book, &all)?;
             invariants::splits_close(&book, &all, turn as usize)?;
-            Ok(write_listing(book.settings.interval, &all))
+            let output = write_listing(book.settings.interval, &all);
+            Ok(Expected { output, shares: rules::shares_of(&all) })
         }
         Err(Refusal(number)) if trial.whole => Err(format!("a made book is refused {number}")),
         Err(Refusal(number)) if !(1..=10).contains(&number) => Err(format!("refused {number}")),
-        Err(Refusal(number)) => Ok(format!("refused {number}\n")),
+        Err(Refusal(number)) => {
+            Ok(Expected { output: format!("refused {number}\n"), shares: BTreeSet::new() })
+        }
     }
 }
 
@@ -70,13 +93,18 @@ fn keep(name: &str, ending: &str, bytes: &[u8]) {
 }
 
 /// One book through both programs: what the second program said, or what is wrong.
-fn try_book(trial: &Trial, turn: u64, command: Option<&[String]>, scratch: &Path) -> Result<String, String> {
+fn try_book(
+    trial: &Trial,
+    turn: u64,
+    command: Option<&[String]>,
+    scratch: &Path,
+) -> Result<Expected, String> {
     let ours = std::panic::catch_unwind(|| second_output(trial, turn))
         .unwrap_or_else(|_| Err("the second program crashed".to_string()))?;
     if let Some(command) = command {
         let theirs = library_output(command, &trial.bytes, scratch)?;
-        if theirs != ours.as_bytes() {
-            keep(&trial.name, "second", ours.as_bytes());
+        if theirs != ours.output.as_bytes() {
+            keep(&trial.name, "second", ours.output.as_bytes());
             keep(&trial.name, "library", &theirs);
             return Err("the outputs differ".to_string());
         }
@@ -102,12 +130,18 @@ fn main() -> ExitCode {
     let command = library_command("settle");
     println!("{}", announcement(command.as_deref()));
     let mut outcomes: BTreeMap<String, u64> = BTreeMap::new();
+    let mut shares: BTreeMap<(&str, &str), u64> = BTreeMap::new();
+    let mut told_apart = 0;
     let (mut passed, mut failed) = (0, 0);
     for turn in first..first + books {
         let trial = trial(turn);
         match try_book(&trial, turn, command.as_deref(), &scratch) {
-            Ok(output) => {
-                *outcomes.entry(outcome_of(&output)).or_default() += 1;
+            Ok(expected) => {
+                *outcomes.entry(outcome_of(&expected.output)).or_default() += 1;
+                told_apart += u64::from(!expected.shares.is_empty());
+                for share in expected.shares {
+                    *shares.entry(share).or_default() += 1;
+                }
                 passed += 1;
             }
             Err(what) => {
@@ -120,6 +154,10 @@ fn main() -> ExitCode {
     let _ = fs::remove_file(&scratch);
     for (outcome, count) in &outcomes {
         println!("  {outcome}: {count}");
+    }
+    println!("  listings that the rule before request R-9 would give otherwise: {told_apart}");
+    for ((share, direction), count) in &shares {
+        println!("    {share}, {direction}: {count}");
     }
     println!("compare: {passed} passed, {failed} failed");
     if failed == 0 {

@@ -3,7 +3,7 @@
 use std::fs;
 use std::path::Path;
 
-use second::{describe, listing, worked};
+use second::{listing, worked};
 
 fn main() -> std::io::Result<()> {
     let dir = std::env::args().nth(1).expect("usage: worked DIR");
@@ -11,16 +11,7 @@ fn main() -> std::io::Result<()> {
     fs::create_dir_all(dir)?;
     for worked in worked::all() {
         let bytes = worked.bytes();
-        let text = format!(
-            "{}\n\n{}\n\n{}\n{}{}\n({} bytes)\n",
-            worked.name,
-            worked.shows,
-            describe::BASE,
-            describe::describe(&worked.book),
-            describe::behind(worked.behind),
-            bytes.len()
-        );
-        fs::write(dir.join(format!("{}.txt", worked.name)), text)?;
+        fs::write(dir.join(format!("{}.txt", worked.name)), worked.text())?;
         fs::write(dir.join(format!("{}.listing", worked.name)), listing::settle(&bytes))?;
         fs::write(dir.join(format!("{}.book", worked.name)), bytes)?;
     }

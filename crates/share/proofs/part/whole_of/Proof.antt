@@ -5,7 +5,6 @@ use Prim.Native.Nat.{ℕ, _+_, _-_, _*_, _/_, _%_, _≤_, _<_, _^_}
 use native.Mathlib.Nat.{mul-le-mul-left, mul-le-mul-right, lt-of-mul-lt-mul-right}
 use native.Mathlib.Omega.{arith}
 use borrow.Author.Needs.{needs}
-use Rattle.integers.specs.Division.{Divided}
 use Rattle.integers.proofs.Division.{divided, quotient, quotient-≤}
 use Rattle.rules.specs.Quantities.{total-limit}
 use Rattle.share.specs.declared.part.Rate.{Rate}
