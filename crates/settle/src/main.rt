@@ -17,8 +17,8 @@ use records::Next;
 //   bytes 769
 //   columns: performances, factors, payments, used, unused 4,104 each
 //   a line of text 165
-//   a unit's readings 300 (`units`), a share's counters 1,024 (`share`)
-// Together 64,982, within 65,536.
+//   a third of a unit's readings 100 (`units`), a share's counters 1,024 (`share`)
+// Together 64,782, within 65,536.
 const UNITS: usize = 512;
 
 // One more than the units, for the residual.

@@ -1,17 +1,48 @@
--- Two sums of bits tell a number's size.
+-- Two words tell a number's size by their sign bits.
 use mathlib.Core.Path.{_≡_, refl, sym, _∙_}
-use mathlib.Core.Bool.{Bool, true, false}
-use Prim.Native.Nat.{ℕ, suc, _+_, _-_, _/_, _%_, _≤_, _<_, _^_}
+use mathlib.Core.Bool.{Bool, true, false, _&&_}
+use Prim.Native.Nat.{ℕ, zero, suc, _+_, _-_, _/_, _%_, _≤_, _<_, _^_}
 use native.Mathlib.Omega.{arith}
-use lib.Dec.{eqb, leb}
+use lib.Bits.{bitOr, and-le-l, and-le-r, or-lt, or-add-and}
+use lib.Dec.{eqb, leb, ltb}
 use lib.IntN.{ℤ, pos, negsuc, natAbs}
 use lib.Signed.{_<ℤ_, _≤ℤ_}
 use mir.Syntax.{w64}
 use mir.Val.{SFits, ofZ}
-use borrow.Author.Tests.{ne-eqb, leb-true, leb-false}
+use borrow.Author.Tests.{eq-eqb, ne-eqb, leb-true, leb-false, ltb-true, ltb-false}
 use Rattle.integers.specs.Pairs.{loss}
 use Rattle.integers.proofs.Pairs.{lt-in}
 use Rattle.rules.specs.Fields.{sized}
+
+-- ---- two words put together by `or` have what either has
+module _ (a b : ℕ) where
+  at-least-left : a ≤ bitOr a b
+  at-least-left = omega (arith, or-add-and a b, and-le-r a b)
+
+  at-least-right : b ≤ bitOr a b
+  at-least-right = omega (arith, or-add-and a b, and-le-l a b)
+
+  -- the sign bit, where one of them has it
+  pub sign-of-both : eqb (bitOr a b / 2 ^ 63) 0 ≡ eqb (a / 2 ^ 63 + b / 2 ^ 63) 0
+  sign-of-both = go (ltb a (2 ^ 63)) refl (ltb b (2 ^ 63)) refl
+    where
+      go : (s : Bool) → ltb a (2 ^ 63) ≡ s → (t : Bool) → ltb b (2 ^ 63) ≡ t → eqb (bitOr a b / 2 ^ 63) 0 ≡ eqb (a / 2 ^ 63 + b / 2 ^ 63) 0
+      go true d true e =
+          let x = ltb-true a (2 ^ 63) d in
+          let y = ltb-true b (2 ^ 63) e in
+          let z = or-lt 63 a b x y in
+          eq-eqb (bitOr a b / 2 ^ 63) 0 (omega arith) ∙ sym (eq-eqb (a / 2 ^ 63 + b / 2 ^ 63) 0 (omega arith))
+      go false d t e =
+          let x = ltb-false a (2 ^ 63) d in
+          ne-eqb (bitOr a b / 2 ^ 63) 0 (λ z. omega (arith, at-least-left)) ∙ sym (ne-eqb (a / 2 ^ 63 + b / 2 ^ 63) 0 (λ z. omega arith))
+      go true d false e =
+          let y = ltb-false b (2 ^ 63) e in
+          ne-eqb (bitOr a b / 2 ^ 63) 0 (λ z. omega (arith, at-least-right)) ∙ sym (ne-eqb (a / 2 ^ 63 + b / 2 ^ 63) 0 (λ z. omega arith))
+
+-- 0 where both are
+pub none-in-both : (a b : ℕ) → eqb (bitOr a b) 0 ≡ (eqb a 0 && eqb b 0)
+none-in-both zero b = refl
+none-in-both (suc a) b = rw (ne-eqb (bitOr (suc a) b) 0 (λ z. omega (arith, at-least-left (suc a) b)), ne-eqb (suc a) 0 (λ z. omega arith))
 
 -- ---- the sign bits of limit + x and of limit - x, modulo 2^64: k is the bits of x, n its size
 module _ (limit n k : ℕ) (small : limit < 2 ^ 40) where

@@ -1,4 +1,4 @@
-// Whether lent numbers are at most so much either way. No number ends the loop early, and the test of one is sums and shifts, so that two are tested
+// Whether lent numbers are at most so much either way. No number ends the loop early, and the test of one is sums and a shift, so that two are tested
 // at once where the machine compares no 64-bit numbers by twos. Measures, which have 32 bits, it compares by fours.
 ghost use mathlib.Core.Path.{_≡_};
 ghost use Prim.Native.Nat.{_+_, _<_, _≤_, _^_};
@@ -24,15 +24,15 @@ fn bits(x: i64) -> u64
     x as u64
 }
 
-// 0 where a number is at most so much either way: neither limit + x nor limit - x has the sign bit.
+// 0 where a number is at most so much either way, else 1: neither limit + x nor limit - x has the sign bit.
 fn outside(limit: u64, x: i64) -> u64
     requires { ⌜ limit < 2 ^ 40 ⌝ }
-    ensures { λ r. ⌜ (r ≤ 2) × (eqb r 0 ≡ sized limit x) ⌝ }
+    ensures { λ r. ⌜ eqb r 0 ≡ sized limit x ⌝ }
 {
     let number = bits(x);
     let above = std::num::wrapping_add_u64(limit, number);
     let below = std::num::wrapping_sub_u64(limit, number);
-    above / SIGN_BIT + below / SIGN_BIT
+    (above | below) / SIGN_BIT
 }
 
 // Is each of a region's 150 sums at most so much either way?
@@ -40,13 +40,13 @@ pub(crate) fn each_sum_within(limit: u64, start: usize, sums: &[i64]) -> bool
     requires { ⌜ (limit < 2 ^ 40) × (start + 150 ≤ length (now sums)) ⌝ }
     ensures { λ r. ⌜ r ≡ each-sized limit start 150 (now (sums .entry)) ⌝ }
 {
-    let mut many: u64 = 0;
+    let mut any: u64 = 0;
     let mut t: u32 = 0;
     while t < 150 {
-        many += outside(limit, sums[start + t as usize]);
+        any |= outside(limit, sums[start + t as usize]);
         t += 1;
     }
-    many == 0
+    any == 0
 }
 
 // 0 where a measure is within its limit, else 1.

@@ -10,12 +10,12 @@ mod running;
 // The buffers, in bytes, each array once:
 //   a book's regions: measures 1,500, sums 6,000, figures 400
 //   its units: numbers 1,024, homes 512, rows 32,768
-//   bytes of a record 372, and one to see that the books end; a unit's readings 300 (`units`)
+//   bytes of a record 372, and one to see that the books end; a third of a unit's readings 100 (`units`)
 //   an answer's columns (performances.rt): performances, factors, payments, used, unused 4,104 each, and its requirement 24
 //   a book's performances (replay.rt) 8,272, and whether they are live 1,034
 //   the weeks: names 1,024, lives 2,068, highs 2,068, lows 8,272
 //   the library's own, while a line is written: 4,096
-// Together 90,255, within 131,072.
+// Together 90,055, within 131,072.
 use book::UNIT;
 use interval::FIGURES_LENGTH;
 use interval::ROWS_LENGTH;

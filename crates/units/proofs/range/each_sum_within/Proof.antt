@@ -1,7 +1,7 @@
--- Before point t what is gathered is 0 exactly where every number passed is within the limit; each adds at most 2.
+-- Before point t what is gathered is 0 exactly where every number passed is within the limit.
 use mathlib.Core.Path.{_≡_, sym, _∙_, ap₂}
 use mathlib.Core.Bool.{Bool, _&&_}
-use Prim.Native.Nat.{ℕ, _+_, _*_, _-_, _≤_}
+use Prim.Native.Nat.{ℕ, _-_, _≤_}
 use native.Mathlib.Omega.{arith}
 use borrow.Author.Needs.{needs, sfits-of}
 use lib.Dec.{eqb}
@@ -10,16 +10,16 @@ use Rattle.integers.specs.Sums.{every}
 use Rattle.integers.proofs.Sums.{every-more, every-none}
 use Rattle.rules.specs.Fields.{sized}
 use Rattle.interval.specs.Lent.{each-sized, sums-each}
-use Rattle.book.proofs.UnitLaws.{none-of-both}
 use Rattle.units.specs.Points.{at}
+use Rattle.units.proofs.RangeLaws.{none-in-both}
 use Rattle.units.proofs.range.each_sum_within.Statement.{statement}
 use Rattle.units.proofs.range.each_sum_within.Tie as tie
 
 abbrev Inv-loop : tie.InvT-loop
-Inv-loop limit start sums many₀ t₀ many t = (t ≤ 150) × (many ≤ 2 * t) × (eqb many 0 ≡ every t (λ i. sized limit (at start sums i)))
+Inv-loop limit start sums any₀ t₀ any t = (t ≤ 150) × (eqb any 0 ≡ every t (λ i. sized limit (at start sums i)))
 
 abbrev μ-loop : tie.MeasureT-loop
-μ-loop limit start sums many₀ t₀ many t = 150 - t
+μ-loop limit start sums any₀ t₀ any t = 150 - t
 
 abbrev L : tie.After-outside Inv-loop μ-loop → tie.At-loop Inv-loop μ-loop
 L c = c .before .before .before
@@ -28,10 +28,10 @@ abbrev tests : tie.After-outside Inv-loop μ-loop → ℕ → Bool
 tests c i = let a = L c .before .args in sized (a .limit) (at (a .start) (a .sums .now) i)
 
 told : (c : tie.After-outside Inv-loop μ-loop) → eqb (c .outside .result) 0 ≡ tests c (L c .loop .t)
-told c = rw (toZ-ofZ (sfits-of (c .before .outside-arg .given))) at (c .outside .ensures .1)
+told c = rw (toZ-ofZ (sfits-of (c .before .outside-arg .given))) at (c .outside .ensures)
 
 loop-holds : tie.Need-loop-holds Inv-loop μ-loop
-loop-holds c = (omega arith, omega arith, sym (every-none _))
+loop-holds c = (omega arith, sym (every-none _))
 
 cast-outside : tie.Need-cast-outside Inv-loop μ-loop
 cast-outside c = search needs
@@ -48,9 +48,6 @@ shared-slice-copy-out-outside c = omega arith
 outside-requires : tie.Need-outside-requires Inv-loop μ-loop
 outside-requires c κs = omega arith
 
-add-many : tie.Need-add-many Inv-loop μ-loop
-add-many c = omega (arith, c .outside .ensures .0)
-
 add-t : tie.Need-add-t Inv-loop μ-loop
 add-t c = omega arith
 
@@ -61,14 +58,13 @@ loop-again : tie.Need-loop-again Inv-loop μ-loop
 loop-again c =
     let l = L c .loop in (
       omega arith,
-      omega (arith, c .outside .ensures .0),
-      none-of-both (l .many) (c .outside .result) ∙ ap₂ _&&_ (l .inv .2) (told c)
+      none-in-both (l .any) (c .outside .result) ∙ ap₂ _&&_ (l .inv .1) (told c)
           ∙ sym (every-more (l .t) (tests c)),
     )
 
 returns : tie.Need-returns Inv-loop μ-loop
 unfolding each-sized
-returns c = let e : c .before .loop .t ≡ sums-each = omega arith in rw e at (c .before .loop .inv .2)
+returns c = let e : c .before .loop .t ≡ sums-each = omega arith in rw e at (c .before .loop .inv .1)
 
 pub each-sum-within-spec : {M : Type 1} → statement M
 each-sum-within-spec =
@@ -82,7 +78,6 @@ each-sum-within-spec =
     mul-outside
     shared-slice-copy-out-outside
     outside-requires
-    add-many
     add-t
     loop-less
     loop-again
