@@ -2,7 +2,6 @@
 use Rattle.integers.specs.Sums.{sum, sumℕ, every, largest}
 use Rattle.integers.specs.Totals.{total, totalℕ, those, numbered}
 use Rattle.rules.specs.Bytes.{little, listed}
-use Rattle.rules.specs.Book.{no-region}
 use Rattle.rules.specs.Contents.{contents}
 use Rattle.rules.specs.SettingsRecord.{settings}
 use Rattle.rules.specs.FrequencyRecord.{region-in, frequency-record}

@@ -1,9 +1,9 @@
 -- The book of 'One listing in full' (01), as what it says.
 use mathlib.Core.Bool.{true, false}
-use mathlib.Core.List.{List, [], _∷_}
+use mathlib.Core.List.{[], _∷_}
 use Prim.Native.Nat.{ℕ}
-use lib.IntN.{ℤ, pos, negsuc, negℤ}
-use Rattle.rules.specs.declared.Direction.the-variants.{Raise, Lower}
+use lib.IntN.{pos, negℤ}
+use Rattle.rules.specs.declared.Direction.the-variants.{Raise}
 use Rattle.rules.specs.declared.Kind.the-variants.{Generation, Load}
 use Rattle.rules.specs.Book.{ByDirection, Defaults, Region, Unit, Requirement, Book}
 use Rattle.books.specs.Writing.{flat}

@@ -15,7 +15,7 @@ use Rattle.rules.specs.declared.Reason.the-variants.{UnreliableRegion, BadUnit,
 use Rattle.rules.specs.Book.{Requirement, Book}
 use Rattle.rules.specs.Fields.{spare-bits-zero}
 use Rattle.rules.specs.Reliability.{sound}
-use Rattle.rules.specs.Members.{residual, Member, members}
+use Rattle.rules.specs.Members.{residual, members}
 use Rattle.rules.specs.Rcr.{few-bad, rcr}
 use Rattle.rules.specs.Cents.{pool-of}
 use Rattle.rules.specs.Text.{text, natural, integer}

@@ -1,6 +1,6 @@
 -- Books written as bytes, for the theorems on worked books: nothing of the calculator rests on this.
 use mathlib.Core.Path.{_≡_, ap}
-use mathlib.Core.Bool.{Bool, true, false, cond}
+use mathlib.Core.Bool.{Bool, true, false}
 use mathlib.Core.List.{List, [], _∷_, _++_, map}
 use Prim.Native.Nat.{ℕ, zero, suc, _+_, _*_, _-_, _/_, _%_, _^_}
 use lib.IntN.{ℤ, pos, negsuc}

@@ -9,7 +9,7 @@ use Rattle.rules.specs.declared.Refusal.{Refusal}
 use Rattle.rules.specs.declared.Reason.the-variants.{UnreliableRegion, BadUnit, NoGoodUnit}
 use Rattle.rules.specs.declared.Standing.{Standing}
 use Rattle.rules.specs.declared.Standing.the-variants.{Live, Default}
-use Rattle.rules.specs.Refusals.{Reply, taken, refused, number}
+use Rattle.rules.specs.Refusals.{Reply, taken, refused}
 use Rattle.laws.proofs.RefusalLaws.{refusal-numbered}
 use Rattle.interval.specs.declared.Tally.{Tally}
 use Rattle.interval.specs.declared.Taking as k

@@ -6,7 +6,7 @@ use lib.ListN.{length, take, drop}
 use Rattle.rules.specs.declared.Standing.{Standing}
 use Rattle.rules.specs.Members.{unit, residual}
 use Rattle.rules.specs.Answer.{Line, Answer}
-use Rattle.rules.specs.Text.{text, integer}
+use Rattle.rules.specs.Text.{integer}
 use Rattle.rules.specs.Listing.{standing-word}
 use Rattle.listing.specs.declared.RequirementLine.{RequirementLine}
 use Rattle.listing.specs.declared.Amounts.{Amounts}

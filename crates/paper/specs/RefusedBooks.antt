@@ -1,8 +1,8 @@
 -- Refusals of the paper's book with a byte or two changed: each number 2 to 10, and the order in which they are tested (01, Numbers the box can say no
 -- with): 5 before 3 at one count field, every 8 before 9, 4 after the last requirement's fields.
 use mathlib.Core.Path.{_≡_, refl}
-use mathlib.Core.List.{List, [], _∷_, _++_, map}
-use Prim.Native.Nat.{ℕ, _+_}
+use mathlib.Core.List.{List, [], _∷_, _++_}
+use Prim.Native.Nat.{ℕ}
 use lib.ListN.{set}
 use Rattle.rules.specs.Refusals.{number, Reply, taken, refused}
 use Rattle.rules.specs.Book.{Book}

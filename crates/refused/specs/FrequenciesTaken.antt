@@ -1,6 +1,6 @@
 -- Whatever follows the frequency records of the book that is changed, they are taken, and the units come next: tables of unit fields compute no more than the
 -- first unit.
-use mathlib.Core.Path.{_≡_, refl}
+use mathlib.Core.Path.{refl}
 use mathlib.Core.List.{List}
 use Prim.Native.Nat.{ℕ}
 use lib.ListN.{drop}

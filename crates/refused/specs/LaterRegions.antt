@@ -1,5 +1,5 @@
 -- Frequency records behind the first (01, The book), at 432, 1168 and 1536: a book that ends behind them.
-use mathlib.Core.Path.{_≡_, refl}
+use mathlib.Core.Path.{refl}
 use mathlib.Core.List.{[], _∷_}
 use Rattle.books.specs.Computing.{computing}
 use Rattle.refused.specs.Changed.{with, Alone}

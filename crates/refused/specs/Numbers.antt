@@ -1,7 +1,7 @@
 -- The numbers that the box can say no with (01), each by its name. Two of them come with no book: 11 is a call's alone, and 12 comes with a call or a share
 -- whose room is too short (ShareLimits). None has the number 13 (`laws`, never-thirteen); 14 and 17 are those of a week (02, R-7).
 use mathlib.Core.Path.{_≡_, refl}
-use mathlib.Core.List.{List, [], _∷_, map}
+use mathlib.Core.List.{[], _∷_, map}
 use Rattle.rules.specs.declared.Refusal.the-variants.{
   EndsEarly,
   WrongMark,

@@ -1,5 +1,5 @@
 -- The requirement records (01, The book), at 2648 and 2672, of a whole book: it is taken, which gives 0, or refused.
-use mathlib.Core.Path.{_≡_, refl}
+use mathlib.Core.Path.{refl}
 use mathlib.Core.List.{[], _∷_}
 use Rattle.integers.specs.Totals.{all}
 use Rattle.books.specs.Computing.{computing}

@@ -1,5 +1,5 @@
 -- The settings record (01, The book), at 56: a book that ends behind it. A record that is taken gives 1, since nothing follows it.
-use mathlib.Core.Path.{_≡_, refl}
+use mathlib.Core.Path.{refl}
 use mathlib.Core.List.{[], _∷_}
 use Rattle.books.specs.Computing.{computing}
 use Rattle.refused.specs.Changed.{with, all-changed, Alone, Together}

@@ -1,7 +1,7 @@
 -- The share's limits (01, The share), which no book passes: a total T to 1,000,000,000,000, weights that sum to 6,010,000,000,000,000,000, and room for an
 -- amount to each weight. The number of the refusal, 0 where T is shared.
 use mathlib.Core.Path.{_≡_, refl}
-use mathlib.Core.List.{List, [], _∷_}
+use mathlib.Core.List.{[], _∷_}
 use Prim.Native.Nat.{ℕ}
 use Rattle.rules.specs.Refusals.{number, Reply, taken, refused}
 use Rattle.rules.specs.Share.{share-reply}

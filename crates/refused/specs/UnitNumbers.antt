@@ -1,5 +1,5 @@
 -- Units one after the other (01, The book), at 1904 and 2276: a record that is cut short, and numbers that do not rise.
-use mathlib.Core.Path.{_≡_, refl}
+use mathlib.Core.Path.{refl}
 use mathlib.Core.List.{[], _∷_}
 use Rattle.books.specs.Computing.{computing}
 use Rattle.refused.specs.Changed.{with, all-changed, Alone, Together}

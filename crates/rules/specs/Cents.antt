@@ -1,7 +1,7 @@
 -- Cents (01, The rules; source document 004, report 7). Charges are negative.
 use mathlib.Core.Bool.{Bool, cond, not, _&&_}
 use mathlib.Core.List.{List, map}
-use Prim.Native.Nat.{ℕ, _*_, _-_, min}
+use Prim.Native.Nat.{ℕ, _*_, min}
 use lib.Dec.{eqb, leb}
 use lib.IntN.{ℤ, pos, negℤ}
 use Rattle.integers.specs.Pairs.{loss}

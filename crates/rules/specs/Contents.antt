@@ -1,5 +1,5 @@
 -- The table of contents (01, The book): the first 56 bytes, or the refusal that they get.
-use mathlib.Core.Bool.{Bool, _&&_}
+use mathlib.Core.Bool.{_&&_}
 use mathlib.Core.List.{List}
 use Prim.Native.Nat.{ℕ, _+_, _*_}
 use lib.Dec.{eqb, leb}

@@ -1,14 +1,13 @@
 -- The listing, as text (01, One listing in full): from the bytes of a book to what `settle` prints.
-use mathlib.Core.List.{List, [], _∷_, _++_, map}
+use mathlib.Core.List.{List, [], _∷_, _++_}
 use Prim.Native.Nat.{ℕ}
-use lib.IntN.{ℤ}
 use Rattle.rules.specs.declared.Direction.{Direction}
 use Rattle.rules.specs.declared.Direction.the-variants.{Raise, Lower}
 use Rattle.rules.specs.declared.Refusal.{Refusal}
 use Rattle.rules.specs.declared.Standing.{Standing}
 use Rattle.rules.specs.declared.Standing.the-variants.{Live, Default}
 use Rattle.rules.specs.Refusals.{number, Reply, taken, refused}
-use Rattle.rules.specs.Book.{Requirement, Book}
+use Rattle.rules.specs.Book.{Book}
 use Rattle.rules.specs.WholeBook.{book}
 use Rattle.rules.specs.Members.{Name, unit, residual}
 use Rattle.rules.specs.Answer.{Line, Answer, answer}

@@ -12,7 +12,7 @@ use Rattle.rules.specs.Book.{by, Defaults, Unit, Requirement, covers, Bo
 use Rattle.rules.specs.Reliability.{reliable-in}
 use Rattle.rules.specs.Deviation.{units-in}
 use Rattle.rules.specs.Performance.{unit-performance, residual-performance}
-use Rattle.rules.specs.Standings.{standing, unit-standing, some-good-or-none, residual-standing, is-live, live-or}
+use Rattle.rules.specs.Standings.{standing, unit-standing, some-good-or-none, residual-standing, live-or}
 
 pub data Name : Type 0 where
   unit : ℕ → Name

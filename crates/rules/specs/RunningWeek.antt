@@ -1,8 +1,8 @@
 -- The running week (02, R-7), for a box that cannot keep 2,016 intervals of every member: what is kept of those seen so far, an interval added, and
 -- count and default read at any time.
-use mathlib.Core.Bool.{Bool, _&&_, _||_}
+use mathlib.Core.Bool.{Bool, _&&_}
 use Prim.Native.Nat.{ℕ, zero, suc, _+_, _*_, _/_, _%_}
-use lib.Dec.{leb, ltb, eqb}
+use lib.Dec.{leb, ltb}
 use Rattle.integers.specs.Sums.{one}
 use Rattle.rules.specs.declared.Refusal.the-variants.{WrongState, WrongCount, WrongWeek}
 use Rattle.rules.specs.declared.RunningWeek.{RunningWeek}

@@ -1,5 +1,5 @@
 -- Text as bytes: quoted words, decimal numbers without `-0` and without leading zeros, words to a line (01, One listing in full).
-use mathlib.Core.Bool.{Bool, true, false}
+use mathlib.Core.Bool.{true, false}
 use mathlib.Core.List.{List, [], _∷_, _++_}
 use Prim.Native.Char.{code}
 use Prim.Native.Nat.{ℕ, zero, suc, _+_, _/_, _%_}

@@ -1,6 +1,6 @@
 -- The whole book (01, The book): the table of contents first, then the bodies in the same order, without gaps. The first refusal ends it.
 use mathlib.Core.List.{List, [], _∷_}
-use Prim.Native.Nat.{ℕ, zero, suc, _+_}
+use Prim.Native.Nat.{ℕ, zero, suc}
 use lib.Dec.{eqb}
 use lib.ListN.{drop}
 use Rattle.rules.specs.Quantities.{regions}

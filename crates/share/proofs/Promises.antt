@@ -1,13 +1,13 @@
 -- Laws of the definitions in specs/Promises.antt.
 use mathlib.Core.Path.{_≡_, refl, sym, _∙_, ap}
-use mathlib.Core.Bool.{Bool, true, false, cond, _&&_, _||_, false≢true}
+use mathlib.Core.Bool.{Bool, true, false, cond, _&&_}
 use mathlib.Core.List.{List, map}
 use Prim.Native.Nat.{ℕ, _≤_}
 use native.Mathlib.Omega.{arith}
-use lib.Dec.{leb, ltb, eqb}
+use lib.Dec.{leb, eqb}
 use lib.IntN.{ℤ}
 use lib.ListN.{length}
-use borrow.Author.Tests.{leb-true, eqb-true, lt-ltb}
+use borrow.Author.Tests.{leb-true, eqb-true}
 use Rattle.integers.specs.Pairs.{loss}
 use Rattle.integers.specs.Sums.{both}
 use Rattle.integers.specs.Fills.{filled}
@@ -15,14 +15,13 @@ use Rattle.rules.specs.declared.Refusal.{Refusal}
 use Rattle.rules.specs.declared.Refusal.the-variants.{TooShort, WrongCount}
 use Rattle.rules.specs.Quantities.{total-limit, weight-limit}
 use Rattle.rules.specs.Refusals.{Reply, taken, refused, unless}
-use Rattle.rules.specs.Share.{weight-at, share-of, unplaced, share-reply}
+use Rattle.rules.specs.Share.{share-of, unplaced, share-reply}
 use Rattle.laws.proofs.ShareLaws.{not-zero}
 use Rattle.share.specs.declared.Shared.{Shared}
 use Rattle.share.specs.declared.Shared.the-variants.{Placed, Refused}
 use Rattle.share.specs.declared.Tested.{Tested}
 use Rattle.share.specs.declared.Tested.the-variants.{Ready, Weightless, Unfit}
-use Rattle.share.specs.Weighing.{sum-of, left-of, Shares}
-use Rattle.share.proofs.Weighing.{weighty}
+use Rattle.share.specs.Weighing.{sum-of, Shares}
 use Rattle.share.specs.Promises.{SharedOut, answered, credit, debit, tested, where-taken}
 
 -- any two outcomes are equal

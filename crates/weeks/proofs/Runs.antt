@@ -1,6 +1,6 @@
 -- Laws of the definitions in specs/Runs.antt.
 use mathlib.Core.Path.{_≡_, refl, sym, _∙_, ap₂}
-use mathlib.Core.Bool.{Bool, true, false, _&&_}
+use mathlib.Core.Bool.{Bool, true, false}
 use Prim.Native.Nat.{ℕ, _+_, _*_, _-_, _^_, _≤_, _<_}
 use native.Mathlib.Nat.{div-add-mod', mod-lt, le-refl, add-zero}
 use native.Mathlib.Omega.{arith}

@@ -5,7 +5,7 @@ use Prim.Native.Nat.{ℕ}
 use lib.IntN.{ℤ}
 use lib.ListN.{length}
 use borrow.Author.Needs.{needs}
-use Rattle.rules.specs.Refusals.{Reply, taken, refused, number}
+use Rattle.rules.specs.Refusals.{Reply, taken, refused}
 use Rattle.rules.specs.Share.{share-reply}
 use Rattle.share.specs.declared.Shared.{Shared}
 use Rattle.share.specs.Promises.{credit, SharedOut}

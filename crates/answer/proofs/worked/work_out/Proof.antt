@@ -6,7 +6,7 @@ use native.Mathlib.Omega.{arith}
 use borrow.Author.Needs.{needs}
 use Rattle.interval.specs.Lent.{lent-answer}
 use Rattle.answer.proofs.Lists.{headed-length}
-use Rattle.answer.proofs.WorkedLaws.{found-tested, rcr-small, numbers-tested, ColumnsLong, long-columns, members-there, cost-tested, worked-out}
+use Rattle.answer.proofs.WorkedLaws.{found-tested, rcr-small, numbers-tested, long-columns, members-there, cost-tested, worked-out}
 use Rattle.answer.proofs.worked.work_out.Statement.{statement}
 use Rattle.answer.proofs.worked.work_out.Tie as tie
 

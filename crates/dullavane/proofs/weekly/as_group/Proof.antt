@@ -1,9 +1,6 @@
 -- A residual reaches as 512 units do, and every other number is that of the units.
-use borrow.Author.Needs.{needs}
-use mathlib.Core.Path.{_≡_, refl, sym, _∙_, ap}
+use mathlib.Core.Path.{ap}
 use Rattle.rules.specs.declared.Whose.the-variants.{Group}
-use Rattle.rules.specs.WeekRoster.{whose-of}
-use Rattle.weeks.specs.Runs.{units-of}
 use Rattle.dullavane.proofs.WeeklyLaws.{units-in}
 use Rattle.dullavane.proofs.weekly.as_group.Statement.{statement}
 use Rattle.dullavane.proofs.weekly.as_group.Tie as tie

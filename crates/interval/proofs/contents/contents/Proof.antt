@@ -1,5 +1,5 @@
 -- What the reader answers is what the format says, and the tally is made of it.
-use mathlib.Core.Path.{_≡_, sym, _∙_, ap}
+use mathlib.Core.Path.{sym, _∙_, ap}
 use Rattle.rules.specs.Contents.{contents}
 use Rattle.interval.proofs.Calls.{opened-from, opened-is}
 use borrow.Author.Needs.{needs}

@@ -1,7 +1,4 @@
 -- One test tells whether the unit is the last.
-use mathlib.Core.Path.{_≡_, sym, ap}
-use mathlib.Core.Bool.{Bool, cond}
-use Prim.Native.Nat.{_+_}
 use borrow.Author.Needs.{needs}
 use borrow.Author.Tests.{eq-eqb, ne-eqb}
 use Rattle.interval.proofs.steps.next_least.Statement.{statement}

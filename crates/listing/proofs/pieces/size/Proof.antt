@@ -1,5 +1,4 @@
 -- A number from zero on is its own size; one more than a number below zero has a negative at every width, and its size is one less.
-use Prim.Native.Nat.{_+_, _-_}
 use lib.IntN.{ℤ, pos, _+ℤ_, _-ℤ_}
 use lib.Signed.{_<ℤ_, _≤ℤ_}
 use mir.Syntax.{w64}

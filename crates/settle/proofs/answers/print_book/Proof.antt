@@ -1,5 +1,5 @@
 -- The records of the requirements left, which fall, are within the bytes.
-use Prim.Native.Nat.{_+_, _*_, _-_, _≤_}
+use Prim.Native.Nat.{_+_, _*_, _≤_}
 use native.Mathlib.Omega.{arith}
 use borrow.Author.Needs.{needs}
 use Rattle.settle.proofs.answers.print_book.Statement.{statement}

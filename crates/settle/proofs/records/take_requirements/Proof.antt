@@ -1,6 +1,6 @@
 -- The records of the requirements left, which fall, are within the bytes.
 use mathlib.Core.Path.{_≡_}
-use Prim.Native.Nat.{_+_, _*_, _-_, _≤_}
+use Prim.Native.Nat.{_+_, _*_, _≤_}
 use native.Mathlib.Omega.{arith}
 use lib.ListN.{length}
 use borrow.Author.Needs.{needs}

@@ -1,6 +1,5 @@
 -- `unhelpful_part` meets its contract: one more than a number below zero has a negative at every width, and its size is one less.
 use mathlib.Core.Path.{sym}
-use Prim.Native.Nat.{_+_, _-_}
 use lib.IntN.{ℤ, pos, _+ℤ_, _-ℤ_}
 use lib.Signed.{_<ℤ_}
 use mir.Syntax.{w64}

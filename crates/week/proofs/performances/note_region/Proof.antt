@@ -1,5 +1,4 @@
 -- `each` is one of ten, as the function was asked.
-use Prim.Native.Nat.{_-_}
 use native.Mathlib.Omega.{arith}
 use borrow.Author.Needs.{needs}
 use Rattle.week.proofs.performances.note_region.Statement.{statement}

@@ -1,5 +1,4 @@
 -- Both stretches of weeks are within all of them.
-use Prim.Native.Nat.{_-_}
 use native.Mathlib.Omega.{arith}
 use borrow.Author.Needs.{needs}
 use Rattle.week.proofs.replay.add_book.Statement.{statement}

@@ -1,26 +1,20 @@
 -- The record so far is the running week of the intervals passed, each of which is within the limit.
 use mathlib.Core.Path.{_≡_, sym, _∙_, ap, ap₂}
-use mathlib.Core.Bool.{Bool, true, false}
-use Prim.Native.Nat.{ℕ, _+_, _-_, _≤_, _<_}
-use lib.IntN.{pos}
-use lib.ListN.{length, getD}
+use mathlib.Core.Bool.{true}
+use Prim.Native.Nat.{ℕ, _-_, _≤_, _<_}
+use lib.ListN.{length}
 use native.Mathlib.Omega.{arith}
 use borrow.Author.Needs.{needs, sfits-of}
-use mir.Syntax.{w64}
-use mir.Val.{toZ, ofZ}
 use mir.Facts.{toZ-ofZ}
 use Rattle.integers.specs.Sums.{every}
-use Rattle.integers.proofs.Sums.{every-none, every-step, every-fails}
+use Rattle.integers.proofs.Sums.{every-none, every-step}
 use Rattle.rules.specs.declared.RunningWeek.{RunningWeek}
-use Rattle.rules.specs.declared.Refusal.{Refusal}
 use Rattle.rules.specs.Week.{Interval, interval, interval-at, within}
-use Rattle.rules.specs.RunningWeek.{with-interval}
-use Rattle.weeks.specs.declared.Added.{Added}
-use Rattle.weeks.specs.declared.Added.the-variants.{Next, Refused}
+use Rattle.weeks.specs.declared.Added.the-variants.{Next}
 use Rattle.weeks.specs.Promises.{added-of}
 use Rattle.weeks.specs.Runs.{more-reply}
 use Rattle.weeks.specs.Gather.{run-of, gathered}
-use Rattle.weeks.proofs.GatherLaws.{run-none, run-more, run-of-run, byte-there, more-means, more-fails}
+use Rattle.weeks.proofs.GatherLaws.{run-none, run-of-run, byte-there, more-means, more-fails}
 use Rattle.weeks.proofs.list.gather.Statement.{statement}
 use Rattle.weeks.proofs.list.gather.Tie as tie
 

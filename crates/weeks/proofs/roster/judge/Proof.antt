@@ -1,12 +1,11 @@
 -- What is found so far is the judgement of the members passed.
-use mathlib.Core.Path.{_≡_, sym, _∙_, ap, ap₂}
-use mathlib.Core.Bool.{true}
-use Prim.Native.Nat.{ℕ, _-_, _≤_, max}
+use mathlib.Core.Path.{_≡_, _∙_, ap, ap₂}
+use Prim.Native.Nat.{_-_, _≤_, max}
 use lib.ListN.{length}
 use native.Mathlib.Omega.{arith}
 use borrow.Author.Needs.{needs}
 use Rattle.integers.proofs.Sums.{every-at}
-use Rattle.weeks.specs.Rosters.{judged, told-number, member-told}
+use Rattle.weeks.specs.Rosters.{judged, told-number}
 use Rattle.weeks.proofs.Rosters.{judged-none, judged-more}
 use Rattle.weeks.proofs.roster.judge.Statement.{statement}
 use Rattle.weeks.proofs.roster.judge.Tie as tie

@@ -7,7 +7,7 @@ use Prim.Native.Nat.{ℕ}
 use lib.ListN.{length}
 use Rattle.integers.specs.Sums.{every}
 use Rattle.rules.specs.Week.{whose-fine}
-use Rattle.rules.specs.WeekRoster.{long-enough, whose-of, member}
+use Rattle.rules.specs.WeekRoster.{long-enough, member}
 use Rattle.weeks.specs.Rosters.{judged}
 use Rattle.weeks.proofs.Rosters.{Roomy, roomy, roster-short, roster-unfit, roster-wrong, roster-low, all-told, roster-done}
 use Rattle.weeks.proofs.roster.roster.Statement.{statement}

@@ -1,7 +1,7 @@
 -- What is not live leaves the digits as they were; what is live is tested by its sign, and what it falls short by is carried.
 use borrow.Author.Needs.{needs}
-use mathlib.Core.Path.{_≡_, _∙_, ap, subst}
-use mathlib.Core.Bool.{Bool, true}
+use mathlib.Core.Path.{_≡_, _∙_, ap}
+use mathlib.Core.Bool.{true}
 use Prim.Native.Nat.{ℕ, _+_, _≤_}
 use native.Mathlib.Omega.{arith}
 use lib.IntN.{ℤ, pos, natAbs, _+ℤ_}
@@ -13,7 +13,6 @@ use borrow.Author.Tests.{not-true, not-false, le-leb, lt-leb}
 use Rattle.integers.specs.Pairs.{loss}
 use Rattle.integers.proofs.Tests.{leZ-true, leZ-false}
 use Rattle.integers.proofs.Casts.{to-unsigned, toZ-small}
-use Rattle.rules.specs.declared.RunningWeek.{RunningWeek}
 use Rattle.rules.specs.RunningWeek.{running, total-in}
 use Rattle.weeks.specs.declared.Added.the-variants.{Next}
 use Rattle.weeks.proofs.Runs.{still-more, counted-more, size-below, sum-fits, past-limit, in-limit}
