@@ -7,15 +7,11 @@
 -- chain of calls took, and for the columns that an answer leaves.
 use mathlib.Core.Path.{_≡_, refl, sym, _∙_, ap, ap₂}
 use mathlib.Core.Bool.{Bool, true, _||_}
-use mathlib.Core.List.{List, [], _∷_, _++_, map}
-use Prim.Native.Nat.{ℕ, suc, _+_, _≤_, _<_}
-use native.Mathlib.Omega.{arith}
-use lib.Dec.{ltb}
+use mathlib.Core.List.{List, [], _∷_, map}
+use Prim.Native.Nat.{ℕ, suc, _<_}
 use lib.IntN.{ℤ}
-use lib.ListN.{length, getD, take, length-append, length-map}
-use borrow.Author.Tests.{ltb-true}
+use lib.ListN.{length, getD, take}
 use Rattle.integers.specs.Pairs.{gain, loss}
-use Rattle.integers.specs.Sums.{both}
 use Rattle.integers.specs.Totals.{totalℕ, numbered}
 use Rattle.integers.proofs.Totals.{totalℕ-map}
 use Rattle.rules.specs.Book.{Requirement, Book}
@@ -25,18 +21,16 @@ use Rattle.interval.specs.declared.Tally.{Tally}
 use Rattle.interval.specs.Lent.{Lent}
 use Rattle.chain.specs.Chain.{Chain}
 use Rattle.chain.specs.BookWay.{records-in}
-use Rattle.answer.specs.Lists.{headed, gathered}
-use Rattle.answer.proofs.Lists.{headed-take, gathered-length}
-use Rattle.answer.specs.Roster.{Named}
 use Rattle.answer.specs.declared.Answered.{Answered}
 use Rattle.answer.specs.Promises.{Columns, AnswerPromise, columns-long, shown}
-use Rattle.answer.specs.BookAnswered.{Answers, RulesAnswer, line-named}
+use Rattle.answer.specs.BookAnswered.{RulesAnswer}
 use Rattle.answer.proofs.BookAnswered.{chain-answered}
 use Rattle.closing.specs.Parties.{some, some-helpful, some-unhelpful}
 use Rattle.closing.specs.Demand3.{BooksClose}
 use Rattle.closing.proofs.Demand3.{books-close}
 use Rattle.demands.specs.WordsChain.{WordsChain}
 use Rattle.demands.proofs.WordsBook.{ended-answered}
+use Rattle.demands.proofs.ColumnsFront.{lines-at-front}
 use Rattle.demands.specs.Demand3.{ColumnsClose, harms, helps}
 
 -- ---- the book that was taken closes: the one that the parts spell which the calls took, whatever was refused in between
@@ -71,42 +65,13 @@ module _ {b : Book} {t : Tally} {l : Lent} {part : List ℕ} {q : Requirement} (
   abbrev lines : List Line
   lines = answer b q .lines
 
-  -- there are no more lines than units and the residual
-  lines-few : length lines ≤ t .units + 1
-  lines-few = few _ _ _ (a .lines)
-    where
-      few : (p : ℕ → Bool) (g : ℕ → Named) (x : Named) → map line-named lines ≡ gathered p g (t .units) ++ (x ∷ []) → length lines ≤ t .units + 1
-      few p g x e =
-          omega
-          (arith, sym (length-map lines line-named) ∙ ap length e ∙ length-append (gathered p g (t .units)) (x ∷ []), gathered-length p g (t .units))
-
-  -- so each column has a number of each line at its front
-  front : (field : Line → ℤ) (old : List ℤ) → t .units < length old → take (length lines) (headed (map field lines) old) ≡ map field lines
-  front field old long =
-      ap (λ (n : ℕ). take n (headed (map field lines) old)) (sym (length-map lines field))
-      ∙ headed-take (map field lines) old (omega (arith, length-map lines field, lines-few))
-
   module _ (closes : BooksClose b) {old new : Columns} {r : Answered} (long : columns-long (t .units) old ≡ true)
       (c : AnswerPromise t part l old r new) where
-    given : Answers q (answer b q) old r new
-    given = a .answered long c
-
-    performances-long : t .units < length (old .performances)
-    performances-long = ltb-true _ _ (both (ltb (t .units) (length (old .performances))) _ long .0)
-
-    payments-long : t .units < length (old .payments)
-    payments-long =
-        let past = both (ltb (t .units) (length (old .factors))) _ (both (ltb (t .units) (length (old .performances))) _ long .1) .1 in
-        ltb-true _ _ (both (ltb (t .units) (length (old .payments))) _ past .0)
-
     performances-front : take (length lines) (new .performances) ≡ map (λ m. m .payment) (members b q)
-    performances-front =
-        ap (λ (c : Columns). take (length lines) (c .performances)) (given .written) ∙ front (λ l. l .performance) (old .performances) performances-long
-        ∙ lines-performances b q
+    performances-front = ap (λ (c : Columns). c .performances) (lines-at-front a long c) ∙ lines-performances b q
 
     payments-front : take (length lines) (new .payments) ≡ map (λ l. l .payment) lines
-    payments-front =
-        ap (λ (c : Columns). take (length lines) (c .payments)) (given .written) ∙ front (λ l. l .payment) (old .payments) payments-long
+    payments-front = ap (λ (c : Columns). c .payments) (lines-at-front a long c)
 
     helps-is : helps (take (length lines) (new .performances)) ≡ some-helpful b q
     helps-is = ap helps performances-front ∙ some-map _ (λ m. m .payment) (members b q)
@@ -119,7 +84,7 @@ module _ {b : Book} {t : Tally} {l : Lent} {part : List ℕ} {q : Requirement} (
     columns-close =
         record {
           figures = shown q (answer b q);
-          given = given .reply;
+          given = a .answered long c .reply;
           parties = λ none. helps-is ∙ closes .parties q none ∙ sym harms-is;
           credits = λ up down. paid gain ∙ closes .cents q (sym helps-is ∙ up) (sym harms-is ∙ down) .credits;
           debits = λ up down. paid loss ∙ closes .cents q (sym helps-is ∙ up) (sym harms-is ∙ down) .debits;

@@ -1,6 +1,8 @@
+pub mod ColumnsFront
 pub mod Demand1
 pub mod Demand2
 pub mod Demand3
+pub mod NoFairerSplit
 pub mod OtherBook
 pub mod WeekDefaults
 pub mod WordsAnswered

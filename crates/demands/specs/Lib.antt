@@ -9,6 +9,8 @@ pub mod WordsBook
 -- A stored tally over another book's lists
 pub mod OtherBook
 -- What the demands' theorems speak of
+pub mod ColumnsFront
 pub mod Demand1
 pub mod WeekDefaults
 pub mod Demand3
+pub mod NoFairerSplit

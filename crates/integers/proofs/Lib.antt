@@ -1,5 +1,6 @@
 pub mod Bounds
 pub mod Casts
+pub mod Distances
 pub mod Division
 pub mod Fills
 pub mod Fitting

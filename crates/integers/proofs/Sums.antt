@@ -8,6 +8,8 @@ use native.Mathlib.Omega.{arith}
 use lib.Dec.{eqb, leb, ltb}
 use lib.IntN.{ℤ, pos, negℤ, natAbs, _+ℤ_, _-ℤ_, _*ℤ_, +ℤ-idl, +ℤ-idr, +ℤ-assoc, *ℤ-zero, negℤ-+ℤ}
 use borrow.Author.Tests.{ltb-true, ltb-false, lt-ltb, le-ltb, leb-true, leb-false, eqb-true, eqb-false, ne-eqb}
+use Rattle.integers.specs.Pairs.{gain, loss}
+use Rattle.integers.proofs.Pairs.{add-is}
 use Rattle.integers.proofs.Order.{*ℤ-+ℤ, +ℤ-cross}
 use Rattle.integers.specs.Bounds.{Within}
 use Rattle.integers.proofs.Bounds.{within-natural, within-sum, within-wider, abs-add}
@@ -108,6 +110,16 @@ unfolding largest
 largest-≤ zero k f h = omega arith
 largest-≤ (suc n) k f h = omega (arith, largest-≤ n k f (λ i l. h i (omega arith)), h n (omega arith))
 
+-- a term is no more than the largest
+pub largest-term : (n : ℕ) (f : ℕ → ℕ) (i : ℕ) → i < n → f i ≤ largest n f
+unfolding largest
+largest-term zero f i h = none-below i h
+largest-term (suc n) f i h = go (λ l. largest-term n f i l) (ltb i n) refl
+  where
+    go : (i < n → f i ≤ largest n f) → (t : Bool) → ltb i n ≡ t → f i ≤ max (largest n f) (f n)
+    go ih true c = omega (arith, ih (ltb-true i n c))
+    go ih false c = let q : i ≡ n = omega (arith, ltb-false i n c) in omega (arith, ap f q)
+
 -- ---- sums of integers
 pub sum-ext : (n : ℕ) (f g : ℕ → ℤ) → ((i : ℕ) → i < n → f i ≡ g i) → sum n f ≡ sum n g
 unfolding sum
@@ -143,6 +155,11 @@ unfolding sum
 sum-swap zero m f = sym (sum-zero m)
 sum-swap (suc n) m f = rw (sum-swap n m f) (sym (sum-plus m (λ j. sum n (λ i. f i j)) (λ j. f n j)))
 
+pub sum-naturals : (n : ℕ) (f : ℕ → ℕ) → sum n (λ i. pos (f i)) ≡ pos (sumℕ n f)
+unfolding sum sumℕ
+sum-naturals zero f = refl
+sum-naturals (suc n) f = rw (sum-naturals n f)
+
 pub sum-within : (k n : ℕ) (f : ℕ → ℤ) → ((i : ℕ) → i < n → Within k (f i)) → Within (n * k) (sum n f)
 unfolding sum
 sum-within k zero f h = within-natural (omega arith)
@@ -153,6 +170,12 @@ pub sum-size : (n : ℕ) (f : ℕ → ℤ) (g : ℕ → ℕ) → ((i : ℕ) → 
 unfolding sum sumℕ
 sum-size zero f g h = omega arith
 sum-size (suc n) f g h = omega (arith, abs-add (sum n f) (f n), sum-size n f g (λ i l. h i (omega arith)), h n (omega arith))
+
+-- what stands above zero, less what stands below, is the sum
+pub sum-parts : (n : ℕ) (f : ℕ → ℤ) → gain (sum n f) + sumℕ n (λ i. loss (f i)) ≡ sumℕ n (λ i. gain (f i)) + loss (sum n f)
+unfolding sum sumℕ
+sum-parts zero f = refl
+sum-parts (suc n) f = omega (arith, sum-parts n f, add-is (sum n f) (f n))
 
 -- where one index alone counts, the sum is its term
 pub sum-pick : (n k : ℕ) (f : ℕ → ℤ) → k < n → sum n (λ i. when (eqb i k) (f i)) ≡ f k

@@ -234,6 +234,11 @@ unfolding totalℕ sumℕ
 total-indexes [] = refl
 total-indexes (w ∷ ws) = sumℕ-front (length ws) (λ i. getD (w ∷ ws) i 0) ∙ ap (λ (z : ℕ). w + z) (total-indexes ws)
 
+pub total-indexesℤ : (zs : List ℤ) → sum (length zs) (λ i. getD zs i (pos 0)) ≡ total (λ z. z) zs
+unfolding total sum
+total-indexesℤ [] = refl
+total-indexesℤ (z ∷ zs) = sum-front (length zs) (λ i. getD (z ∷ zs) i (pos 0)) ∙ ap (λ (y : ℤ). z +ℤ y) (total-indexesℤ zs)
+
 -- a list read by its indexes: its total, and how many pass
 module _ {A : Type 0} where
   pub indexed-total : (f : ℕ → ℤ) (g : A → ℤ) (xs : List A) → ((j : ℕ) (z : A) → j < length xs → f j ≡ g (getD xs j z)) → sum (length xs) f ≡ total g xs
@@ -262,6 +267,16 @@ unfolding totalℕ numbered sumℕ
 numbered-sum f g h e [] = refl
 numbered-sum f g h e (x ∷ xs) =
     ap₂ _+_ (e 0 x) (numbered-sum f (λ i. g (suc i)) (λ i. h (suc i)) (λ i y. e (suc i) y) xs) ∙ sym (sumℕ-front (length xs) h)
+
+-- over any list of that length
+pub numbered-alike : {A B C D : Type 0} (f : B → D) (g : ℕ → A → B) (h : ℕ → D) → ((i : ℕ) (x : A) → f (g i x) ≡ h i) → (xs : List A) (ys : List C) →
+    length xs ≡ length ys → map f (numbered g xs) ≡ numbered (λ i y. h i) ys
+unfolding numbered
+numbered-alike f g h e [] [] l = refl
+numbered-alike f g h e [] (y ∷ ys) l = absurd (omega arith)
+numbered-alike f g h e (x ∷ xs) [] l = absurd (omega arith)
+numbered-alike {D} f g h e (x ∷ xs) (y ∷ ys) l =
+    ap₂ (λ (d : D) (ds : List D). d ∷ ds) (e 0 x) (numbered-alike f (λ i. g (suc i)) (λ i. h (suc i)) (λ i z. e (suc i) z) xs ys (omega arith))
 
 pub numbered-length : {A B : Type 0} (g : ℕ → A → B) (xs : List A) → length (numbered g xs) ≡ length xs
 unfolding numbered

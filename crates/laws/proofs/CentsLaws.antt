@@ -77,11 +77,11 @@ one-sign (m ∷ ms) zero = go (m .payment)
 one-sign (m ∷ ms) (suc i) = one-sign ms i
 
 -- a difference of which one side is 0
-credit-is : (x y : ℕ) → (x ≡ 0) ⊎ (y ≡ 0) → gain (pos x -ℤ pos y) ≡ x
+pub credit-is : (x y : ℕ) → (x ≡ 0) ⊎ (y ≡ 0) → gain (pos x -ℤ pos y) ≡ x
 credit-is x y (inl e) = rw (e, +ℤ-idl (negℤ (pos y))) (gain-negation (pos y))
 credit-is x y (inr e) = rw e (omega arith)
 
-debit-is : (x y : ℕ) → (x ≡ 0) ⊎ (y ≡ 0) → loss (pos x -ℤ pos y) ≡ y
+pub debit-is : (x y : ℕ) → (x ≡ 0) ⊎ (y ≡ 0) → loss (pos x -ℤ pos y) ≡ y
 debit-is x y (inl e) = rw (e, +ℤ-idl (negℤ (pos y))) (loss-negation (pos y))
 debit-is x y (inr e) = rw e
 

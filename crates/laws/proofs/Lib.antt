@@ -10,5 +10,6 @@ pub mod PerformanceLaws
 pub mod SeriesLaws
 pub mod MembersLaws
 pub mod ShareLaws
+pub mod FairnessLaws
 pub mod RcrLaws
 pub mod CentsLaws
