@@ -1,4 +1,4 @@
--- `share_from` meets its contract: what the tests find decides; a column that is cleared first has nobody's remainder in it, and what is placed
+-- `share_from` meets its contract: what the tests find decides; a column that is cleared first has nobody's key in it, and what is placed
 -- in it is each member's share.
 use mathlib.Core.Path.{_≡_, refl, sym, _∙_, ap, subst}
 use mathlib.Core.List.{List}

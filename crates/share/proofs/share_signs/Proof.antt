@@ -1,5 +1,5 @@
 -- `share_signs` meets its contract: both sides are tested on the column as it came; the positive side is placed in the cleared column and leaves
--- nothing below zero, so that the negative side's remainders stand out in it.
+-- nothing below zero, so that the negative side's keys stand out in it.
 use mathlib.Core.Path.{_≡_, refl, sym, _∙_, ap, ap₂}
 use mathlib.Core.List.{List, [], _∷_, map}
 use Prim.Native.Nat.{ℕ, _≤_}
