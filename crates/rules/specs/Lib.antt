@@ -18,6 +18,7 @@ pub mod Standings
 pub mod Members
 pub mod Share
 pub mod Factors
+pub mod Sheet
 pub mod Rcr
 pub mod Cents
 pub mod Answer

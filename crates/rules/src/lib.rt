@@ -50,6 +50,19 @@ pub struct RunningWeek {
     pub low: u64,
 }
 
+// A side of the performances: those above zero, or those below.
+pub enum Side {
+    Positive,
+    Negative,
+}
+
+// What is wrong with a sheet of factors: nothing, its first wrong member, from 1, or the side whose sum is off.
+pub enum Verdict {
+    Possible,
+    WrongMember(u16),
+    WrongSide(Side),
+}
+
 // What the box says no with, in the order of the numbers 1 to 12, 14 and 17. None has the number 13, and none will (02, R-10).
 pub enum Refusal {
     EndsEarly,

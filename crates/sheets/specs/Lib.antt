@@ -1,0 +1,2 @@
+-- Worked sheets, by computing
+pub mod Worked

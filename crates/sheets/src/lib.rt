@@ -1,0 +1,1 @@
+// sheets: is a factor sheet possible (document 02, R-12)?
