@@ -9,7 +9,7 @@ use lib.Dec.{ltb, eqb}
 use lib.IntN.{ℤ, pos, negsuc, negℤ, natAbs, _-ℤ_, _*ℤ_}
 use borrow.Author.Tests.{ltb-true, lt-ltb, ltb-false, le-leb, eqb-true, eqb-false}
 use Rattle.integers.specs.Pairs.{gain, loss}
-use Rattle.integers.proofs.Pairs.{v, neg, _⊖_, _⊗_, ring, eq? }
+use Rattle.integers.proofs.Pairs.{v, neg, _⊖_, _⊗_, ring, eq?}
 use Rattle.integers.proofs.Bounds.{abs-neg}
 use Rattle.integers.specs.Sums.{one, every, both}
 use Rattle.integers.proofs.Sums.{every-fails}
