@@ -5,6 +5,9 @@ ghost use Rattle.rules.specs.Refusals.{number};
 
 pub const MOST_UNITS: u16 = 512;
 
+// A factor's whole, in billionths.
+pub const BILLION: u64 = 1_000_000_000;
+
 // Raise is wanted where frequency is low, lower where it is high. Every rule is one definition, by the direction.
 pub enum Direction {
     Raise,
