@@ -1,3 +1,4 @@
 pub mod Promises
 pub mod SidesLaws
 pub mod Possible
+pub mod Ours

@@ -1,6 +1,6 @@
 -- THE VERDICT SAYS WHAT THE REQUEST ASKS: a sheet is accepted if and only if the request's sentence holds (specs/Possible.antt); a wrong member is named where it
 -- is the first, and a side where all members are right and its sum is the first that is off.
-use mathlib.Core.Path.{_≡_, refl, sym, _∙_, ap}
+use mathlib.Core.Path.{_≡_, refl, sym, _∙_, ap, subst}
 use mathlib.Core.Bool.{Bool, true, false, cond, _&&_, _||_, false≢true}
 use mathlib.Core.List.{List}
 use Prim.Native.Nat.{ℕ, zero, suc, _≤_, _<_}
@@ -40,7 +40,7 @@ use Rattle.rules.specs.Sheet.{
   verdict,
   sheet-reply,
 }
-use Rattle.laws.proofs.SheetLaws.{right-near, sign-follows}
+use Rattle.laws.proofs.SheetLaws.{FirstWrong, first-wrong-means, right-near}
 use Rattle.sheets.specs.Promises.{sides-verdict}
 use Rattle.sheets.specs.Possible.{Agrees, SidePossible, PossibleSheet, Judgeable}
 use Rattle.sheets.proofs.SidesLaws.{right-agrees, total-is}
@@ -86,7 +86,7 @@ module _ (ps fs : List ℤ) where
       go false ea b eb c ec d ed e = let z : _≡_ {A = ℕ} 0 1 = cc in absurd (omega arith)
 
 -- ---- a member
-agrees-means : (s : Side) (f : ℤ) → agrees s f ≡ true → Agrees s f
+pub agrees-means : (s : Side) (f : ℤ) → agrees s f ≡ true → Agrees s f
 agrees-means Positive f e = leZ-true e
 agrees-means Negative f e = leZ-true e
 
@@ -116,7 +116,7 @@ module _ (s : Side) (ps fs : List ℤ) where
   W = side-total s ps
 
   -- a member shows that the total is not 0, and a total that is not 0 has a member
-  some-total : (i : ℕ) → i < length ps → 0 < on s (number-at ps i) → 0 < W
+  pub some-total : (i : ℕ) → i < length ps → 0 < on s (number-at ps i) → 0 < W
   some-total i l h = omega (arith, total-is s ps, sumℕ-term (length ps) (λ i. on s (number-at ps i)) i l)
 
   side-means : side-right s ps fs ≡ true → (i : ℕ) → i < length ps → 0 < on s (number-at ps i) → side-sum s ps fs ≡ signed s billion
@@ -193,3 +193,37 @@ module _ (ps fs : List ℤ) where
       members : (i : ℕ) → i < length ps → right-at billion ps fs i ≡ true
       members i l =
           right-where (λ s. side-total s ps) (number-at ps i) (number-at fs i) (λ s h. lt-ltb _ _ (side s .near i l h)) (p .nothing i l)
+
+  -- WHICH IS NAMED: the first wrong member, from 1,
+  pub wrong-member-means : {k : ℕ} → sheet-reply ps fs ≡ taken (WrongMember k) → FirstWrong (right-at billion ps fs) (length ps) k
+  unfolding verdict
+  wrong-member-means {k} e =
+      go (all-right ps fs) refl (side-right Positive ps fs) (side-right Negative ps fs) (sym (judged ps fs (judgeable ps fs e)) ∙ e)
+    where
+      go : (a : Bool) → all-right ps fs ≡ a → (b c : Bool) →
+          taken (cond a (cond b (cond c Possible (WrongSide Negative)) (WrongSide Positive)) (WrongMember (first-wrong (right-at billion ps fs) (length ps)))) ≡
+          taken (WrongMember k) → FirstWrong (right-at billion ps fs) (length ps) k
+      go true f true true e = let z : _≡_ {A = ℕ} 0 1 = cc in absurd (omega arith)
+      go true f true false e = let z : _≡_ {A = ℕ} 0 1 = cc in absurd (omega arith)
+      go true f false c e = let z : _≡_ {A = ℕ} 0 1 = cc in absurd (omega arith)
+      go false f b c e =
+          let is : first-wrong (right-at billion ps fs) (length ps) ≡ k = cc in
+          subst (FirstWrong (right-at billion ps fs) (length ps)) is (first-wrong-means (right-at billion ps fs) (length ps) f)
+
+  -- else, where all are right, the side whose sum is off, and the negative one only where the positive one's is not
+  pub wrong-side-means : {s : Side} → sheet-reply ps fs ≡ taken (WrongSide s) →
+      (all-right ps fs ≡ true) × (side-right s ps fs ≡ false) × (s ≡ Negative → side-right Positive ps fs ≡ true)
+  unfolding verdict
+  wrong-side-means {s} e =
+      go (all-right ps fs) refl (side-right Positive ps fs) refl (side-right Negative ps fs) refl (sym (judged ps fs (judgeable ps fs e)) ∙ e)
+    where
+      go : (a : Bool) → all-right ps fs ≡ a → (b : Bool) → side-right Positive ps fs ≡ b → (c : Bool) → side-right Negative ps fs ≡ c →
+          taken (cond a (cond b (cond c Possible (WrongSide Negative)) (WrongSide Positive)) (WrongMember (first-wrong (right-at billion ps fs) (length ps)))) ≡
+          taken (WrongSide s) → (all-right ps fs ≡ true) × (side-right s ps fs ≡ false) × (s ≡ Negative → side-right Positive ps fs ≡ true)
+      go true f true g true h e = let z : _≡_ {A = ℕ} 0 1 = cc in absurd (omega arith)
+      go true f true g false h e =
+          let is : Negative ≡ s = cc in (f, subst (λ (s : Side). side-right s ps fs ≡ false) is h, λ _. g)
+      go true f false g c h e =
+          let is : Positive ≡ s = cc in
+          (f, subst (λ (s : Side). side-right s ps fs ≡ false) is g, λ n. let z : _≡_ {A = ℕ} 0 1 = cc in absurd (omega arith))
+      go false f b g c h e = let z : _≡_ {A = ℕ} 0 1 = cc in absurd (omega arith)

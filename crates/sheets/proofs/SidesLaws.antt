@@ -65,7 +65,7 @@ pub total-is : (s : Side) (xs : List ℤ) → side-total s xs ≡ sumℕ (length
 total-is s xs =
     ap (λ (n : ℕ). sumℕ n (weight-at (map (on s) xs))) (length-map xs (on s)) ∙ sumℕ-ext (length xs) _ _ (λ i _. size-at s xs i)
 
-signed-sum : (s : Side) (n : ℕ) (g : ℕ → ℕ) → sum n (λ i. signed s (g i)) ≡ signed s (sumℕ n g)
+pub signed-sum : (s : Side) (n : ℕ) (g : ℕ → ℕ) → sum n (λ i. signed s (g i)) ≡ signed s (sumℕ n g)
 signed-sum Positive n g = sum-naturals n g
 signed-sum Negative n g = sum-negation n (λ i. pos (g i)) ∙ ap negℤ (sum-naturals n g)
 

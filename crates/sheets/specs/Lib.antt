@@ -2,5 +2,7 @@
 pub mod Promises
 -- What a possible sheet is, in the request's words
 pub mod Possible
+-- Our own factors as a sheet
+pub mod Ours
 -- Worked sheets, by computing
 pub mod Worked
