@@ -140,6 +140,13 @@ fn keep(wanted: u64, tally: Tally, bytes: &[u8], part: &mut [u8; REQUIREMENT]) -
     true
 }
 
+fn either(a: bool, b: bool) -> bool {
+    if a {
+        return true;
+    }
+    b
+}
+
 // Why a book was not taken.
 fn untaken(next: Next) -> Book {
     match next {
@@ -188,13 +195,30 @@ fn take_book(
         let Next::Taken(after) = next else {
             return untaken(next);
         };
-        if keep(wanted, tally, bytes, part) {
-            found = true;
-        }
+        found = either(found, keep(wanted, tally, bytes, part));
         tally = after;
         left -= 1;
     }
     Book::Taken(tally, found)
+}
+
+// 1 for a row that is a member.
+fn passed(row: Row) -> u16
+    ensures { λ r. ⌜ r ≤ 1 ⌝ }
+{
+    match row {
+        Row::Unit(_, _) => 1,
+        Row::Other => 0,
+        Row::Refused(_) => 0,
+    }
+}
+
+fn name_in(row: Row) -> Name {
+    match row {
+        Row::Unit(number, _) => Name::Unit(number),
+        Row::Other => Name::Residual,
+        Row::Refused(_) => Name::Residual,
+    }
 }
 
 // The name of a requirement's member, from 1: past its units it is the residual.
@@ -207,15 +231,13 @@ fn name_of(
     homes: &[u8; UNITS],
 ) -> Name {
     let direction = given.direction;
-    let mut before: u16 = 0;
+    let mut members: u16 = 0;
     let mut row: u16 = 0;
     while row < tally.units {
         let who = member(tally, row, direction, given.set, figures, numbers, homes);
-        if let Row::Unit(number, _) = who {
-            before += 1;
-            if before == place {
-                return Name::Unit(number);
-            }
+        members += passed(who);
+        if members == place {
+            return name_in(who);
         }
         row += 1;
     }
@@ -258,9 +280,7 @@ fn judge_factors(
         output::no_line(line, 1);
         return;
     };
-    let n = lines::within(given.members as usize, performances);
-    let m = lines::within(count, &factors);
-    match sheets::sheet(&performances[..n], &factors[..m]) {
+    match lines::judge(performances, given.members as usize, &factors, count) {
         Told::Is(verdict) => tell_named(verdict, given, tally, figures, numbers, homes),
         Told::Refused(refusal) => output::refused(refusal),
     }

@@ -1,6 +1,5 @@
 // Whole numbers from standard input, a line at a time.
 ghost use Prim.Native.Nat.{_≤_};
-ghost use lib.ListN.{length};
 use super::output;
 use super::words::Value;
 use super::words::Word;
@@ -8,6 +7,8 @@ use super::words::longer;
 use super::words::no_word;
 use super::words::number_in;
 use libc::STDIN_FILENO;
+use sheets::Told;
+use sheets::sheet;
 
 // One more than a sheet can have: what comes past that many is counted no further.
 pub(crate) const PLACES: usize = 514;
@@ -186,13 +187,20 @@ fn last(came: Byte, reading: Reading, numbers: &mut [i64]) -> Line {
 }
 
 // No more than there are.
-pub(crate) fn within(count: usize, numbers: &[i64]) -> usize
-    ensures { λ r. ⌜ r ≤ length (now (numbers .entry)) ⌝ }
+fn within(count: usize, most: usize) -> usize
+    ensures { λ r. ⌜ r ≤ most ⌝ }
 {
-    if numbers.len() < count {
-        return numbers.len();
+    if most < count {
+        return most;
     }
     count
+}
+
+// The first so many of either list.
+pub(crate) fn judge(performances: &[i64], members: usize, factors: &[i64], count: usize) -> Told {
+    let n = within(members, performances.len());
+    let m = within(count, factors.len());
+    sheet(&performances[..n], &factors[..m])
 }
 
 // Both lines from standard input.
@@ -213,7 +221,5 @@ pub(crate) fn judge_lines() {
         output::no_line(line, 2);
         return;
     };
-    let n = within(members, &performances);
-    let m = within(count, &factors);
-    output::tell(sheets::sheet(&performances[..n], &factors[..m]));
+    output::tell(judge(&performances, members, &factors, count));
 }

@@ -1,50 +1,46 @@
+-- No more members than rows were passed, and the rows left fall.
+use Prim.Native.Nat.{_≤_, _-_}
+use borrow.Author.Needs.{needs}
 use Rattle.sheet.proofs.books.name_of.Statement.{statement}
 use Rattle.sheet.proofs.books.name_of.Tie as tie
-use Rattle.sheet.proofs.books.name_of.Reads as reads
-use Rattle.sheet.proofs.books.name_of.Lts as lts
-use Rattle.answer.proofs.roster.member.Reads as member-reads
 
 abbrev Inv-loop : tie.InvT-loop
-Inv-loop place given tally figures numbers homes direction before₀ row₀ before row = ?
+Inv-loop place given tally figures numbers homes direction members₀ row₀ members row =
+    (members ≤ row) × (row ≤ tally .units)
 
 abbrev μ-loop : tie.MeasureT-loop
-μ-loop place given tally figures numbers homes direction before₀ row₀ before row = ?
+μ-loop place given tally figures numbers homes direction members₀ row₀ members row =
+    tally .units - row
 
--- src/books.rt:212:5
 loop-holds : tie.Need-loop-holds Inv-loop μ-loop
-loop-holds c = ?
+loop-holds c = search needs
 
--- src/books.rt:213:13
 member-requires : tie.Need-member-requires Inv-loop μ-loop
-member-requires c κs = ?
+member-requires c κs = search needs
 
--- src/books.rt:214:26
-enum-known-who : tie.Need-enum-known-who Inv-loop μ-loop
-enum-known-who c = ?
+passed-requires : tie.Need-passed-requires Inv-loop μ-loop
+passed-requires c κs = search needs
 
--- src/books.rt:215:13
-add-before : tie.Need-add-before Inv-loop μ-loop
-add-before c = ?
+add-members : tie.Need-add-members Inv-loop μ-loop
+add-members c = search needs
 
--- src/books.rt:217:17
+name-in-requires : tie.Need-name-in-requires Inv-loop μ-loop
+name-in-requires c κs = search needs
+
 returns : tie.Need-returns Inv-loop μ-loop
-returns c = ?
+returns c = search needs
 
--- src/books.rt:220:9
 add-row : tie.Need-add-row Inv-loop μ-loop
-add-row c = ?
+add-row c = search needs
 
--- src/books.rt:212:5
 loop-less : tie.Need-loop-less Inv-loop μ-loop
-loop-less c = ?
+loop-less c = search needs
 
--- src/books.rt:212:5
 loop-again : tie.Need-loop-again Inv-loop μ-loop
-loop-again c = ?
+loop-again c = search needs
 
--- src/books.rt:201:1
 returns-2 : tie.Need-returns-2 Inv-loop μ-loop
-returns-2 c = ?
+returns-2 c = search needs
 
 pub name-of-spec : {M : Type 1} → statement M
 name-of-spec =
@@ -54,8 +50,9 @@ name-of-spec =
     μ-loop
     loop-holds
     member-requires
-    enum-known-who
-    add-before
+    passed-requires
+    add-members
+    name-in-requires
     returns
     add-row
     loop-less
