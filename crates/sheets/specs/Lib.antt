@@ -5,4 +5,4 @@ pub mod Possible
 -- Our own factors as a sheet
 pub mod Ours
 -- Worked sheets, by computing
-pub mod Worked
+pub mod WorkedSheets
