@@ -15,7 +15,7 @@ use Rattle.rules.specs.declared.Side.the-variants.{Positive, Negative}
 use Rattle.rules.specs.declared.Verdict.the-variants.{Possible}
 use Rattle.rules.specs.Quantities.{billion, most-members, weight-limit}
 use Rattle.rules.specs.Refusals.{taken}
-use Rattle.rules.specs.Book.{Requirement, Book}
+use Rattle.rules.specs.Book.{Requirement, covers, Book}
 use Rattle.rules.specs.Members.{Member, unit-member, unit-members, residual-member, members}
 use Rattle.rules.specs.Share.{share-of, larger-first, earlier-first}
 use Rattle.rules.specs.Factors.{factor, helpful, unhelpful}
@@ -67,7 +67,7 @@ module _ (b : Book) (q : Requirement) where
           length-map ms (λ m. m .payment),
           length-append (map (unit-member b (q .direction)) (unit-members b q)) (residual-member b q ∷ []),
           length-map (unit-members b q) (unit-member b (q .direction)),
-          those-length _ (b .roster),
+          those-length (λ u. covers q (u .region)) (b .roster),
           h .few,
         )
 
