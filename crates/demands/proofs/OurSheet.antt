@@ -1,5 +1,5 @@
--- R-12, OUR OWN SHEET IS POSSIBLE: 'Our own calculator's factors are accepted under either tie rule.' Of every requirement, from its book, and of the columns that
--- an answer leaves: a box can hand them to `dullavane_sheet` as they stand, so many numbers from the front as the answer tells members.
+-- R-12, OUR OWN SHEET IS POSSIBLE: 'Our own calculator's factors are accepted under either tie rule.' Of every requirement, from its book, and of the columns
+-- that an answer leaves: a box can hand them to `dullavane_sheet` as they stand, so many numbers from the front as the answer tells members.
 use mathlib.Core.Path.{_≡_, sym, _∙_, ap, ap₂, subst}
 use mathlib.Core.Bool.{true}
 use mathlib.Core.List.{List, [], _∷_, map, map-map}

@@ -163,7 +163,8 @@ module _ (fine : ℕ → Bool) where
   first-wrong-means zero e = absurd (false≢true (sym e))
   first-wrong-means (suc n) e = go (first-wrong-means n) (every n fine) refl e
     where
-      go : (every n fine ≡ false → FirstWrong n (first-wrong fine n)) → (t : Bool) → every n fine ≡ t → t && fine n ≡ false → FirstWrong (suc n) (cond t (cond (fine n) 0 (suc n)) (first-wrong fine n))
+      go : (every n fine ≡ false → FirstWrong n (first-wrong fine n)) →
+          (t : Bool) → every n fine ≡ t → t && fine n ≡ false → FirstWrong (suc n) (cond t (cond (fine n) 0 (suc n)) (first-wrong fine n))
       go ih true g w = record { member = n; from-one = rw w; among = omega arith; before = g; wrong = w }
       go ih false g w =
           let m = ih g in

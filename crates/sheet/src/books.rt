@@ -19,6 +19,7 @@ use intake::turn::size;
 use intake::turn::take;
 use interval::FIGURES_LENGTH;
 use interval::Opened;
+use interval::ROW_EACH;
 use interval::ROWS_LENGTH;
 use interval::SERIES_LENGTH;
 use interval::SUMS_LENGTH;
@@ -31,10 +32,10 @@ use rules::Refusal;
 use rules::Verdict;
 use sheets::Told;
 
-const UNITS: usize = 512;
+const UNITS: usize = ROWS_LENGTH / ROW_EACH;
 
 // One more than the units, for the residual.
-const MEMBERS: usize = 513;
+const MEMBERS: usize = UNITS + 1;
 
 // The longest record, and a byte that may follow the last.
 const RECORD: usize = 373;
@@ -53,10 +54,11 @@ enum Book {
     Failed,
 }
 
-// Who a member is.
+// Who a member is. Of a book that was taken no row is refused; if one were, that would be passed on.
 enum Name {
     Unit(u16),
     Residual,
+    Refused(Refusal),
 }
 
 // The table of contents.
@@ -206,19 +208,17 @@ fn take_book(
 fn passed(row: Row) -> u16
     ensures { λ r. ⌜ r ≤ 1 ⌝ }
 {
-    match row {
-        Row::Unit(_, _) => 1,
-        Row::Other => 0,
-        Row::Refused(_) => 0,
+    if let Row::Unit(_, _) = row {
+        return 1;
     }
+    0
 }
 
 fn name_in(row: Row) -> Name {
-    match row {
-        Row::Unit(number, _) => Name::Unit(number),
-        Row::Other => Name::Residual,
-        Row::Refused(_) => Name::Residual,
-    }
+    let Row::Unit(number, _) = row else {
+        return Name::Residual;
+    };
+    Name::Unit(number)
 }
 
 // The name of a requirement's member, from 1: past its units it is the residual.
@@ -235,6 +235,9 @@ fn name_of(
     let mut row: u16 = 0;
     while row < tally.units {
         let who = member(tally, row, direction, given.set, figures, numbers, homes);
+        if let Row::Refused(refusal) = who {
+            return Name::Refused(refusal);
+        }
         members += passed(who);
         if members == place {
             return name_in(who);
@@ -260,6 +263,7 @@ fn tell_named(
     match name_of(place, given, tally, figures, numbers, homes) {
         Name::Unit(number) => output::wrong_unit(place, number),
         Name::Residual => output::wrong_residual(place),
+        Name::Refused(refusal) => output::refused(refusal),
     }
 }
 

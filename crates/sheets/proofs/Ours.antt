@@ -1,5 +1,5 @@
--- OUR OWN FACTORS ARE POSSIBLE under every rule that puts members with equal remainders in a strict order, and so under either tie rule (02, R-12); and a factor
--- in an accepted sheet is at most one billionth from ours: both are the whole part or one more.
+-- OUR OWN FACTORS ARE POSSIBLE under every rule that puts members with equal remainders in a strict order, and so under either tie rule (02, R-12); and a
+-- factor in an accepted sheet is at most one billionth from ours: both are the whole part or one more.
 use mathlib.Core.Path.{_≡_, refl, sym, _∙_, ap, subst}
 use mathlib.Core.Bool.{Bool, true, false}
 use mathlib.Core.List.{List, map}
@@ -48,7 +48,8 @@ module _ (rule : (ℕ → ℕ) → ℕ → ℕ → Bool) (ps : List ℤ) where
 
   -- on its side a member's factor is its share, with the side's sign
   pub factor-on : (s : Side) (i : ℕ) → 0 < on s (number-at ps i) → factor-by rule ps i ≡ signed s (share s i)
-  factor-on Positive i h = rw (no-share Negative i (other (number-at ps i) h)) (ring (v (pos (share Positive i)) ⊖ v (pos 0)) (v (pos (share Positive i))) (omega arith))
+  factor-on Positive i h =
+      rw (no-share Negative i (other (number-at ps i) h)) (ring (v (pos (share Positive i)) ⊖ v (pos 0)) (v (pos (share Positive i))) (omega arith))
     where
       other : (p : ℤ) → 0 < gain p → loss p ≡ 0
       other (pos n) h = refl

@@ -1,5 +1,5 @@
--- THE VERDICT SAYS WHAT THE REQUEST ASKS: a sheet is accepted if and only if the request's sentence holds (specs/Possible.antt); a wrong member is named where it
--- is the first, and a side where all members are right and its sum is the first that is off.
+-- THE VERDICT SAYS WHAT THE REQUEST ASKS: a sheet is accepted if and only if the request's sentence holds (specs/Possible.antt); a wrong member is named where
+-- it is the first, and a side where all members are right and its sum is the first that is off.
 use mathlib.Core.Path.{_≡_, refl, sym, _∙_, ap, subst}
 use mathlib.Core.Bool.{Bool, true, false, cond, _&&_, _||_, false≢true}
 use mathlib.Core.List.{List}
@@ -141,13 +141,19 @@ module _ (s : Side) (ps fs : List ℤ) where
 
 -- ---- the sheet
 module _ (ps fs : List ℤ) where
+  -- the verdict, as its tests go
+  abbrev told : Bool → Bool → Bool → Verdict
+  told members positive negative =
+      cond members (cond positive (cond negative Possible (WrongSide Negative)) (WrongSide Positive))
+      (WrongMember (first-wrong (right-at billion ps fs) (length ps)))
+
   -- what a verdict of Possible has shown
   tests : verdict ps fs ≡ Possible → (all-right ps fs ≡ true) × (side-right Positive ps fs ≡ true) × (side-right Negative ps fs ≡ true)
   unfolding verdict
   tests e = go (all-right ps fs) refl (side-right Positive ps fs) refl (side-right Negative ps fs) refl e
     where
       go : (a : Bool) → all-right ps fs ≡ a → (b : Bool) → side-right Positive ps fs ≡ b → (c : Bool) → side-right Negative ps fs ≡ c →
-          cond a (cond b (cond c Possible (WrongSide Negative)) (WrongSide Positive)) (WrongMember (first-wrong (right-at billion ps fs) (length ps))) ≡ Possible →
+          told a b c ≡ Possible →
           (all-right ps fs ≡ true) × (side-right Positive ps fs ≡ true) × (side-right Negative ps fs ≡ true)
       go true ea true eb true ec e = (ea, eb, ec)
       go true ea true eb false ec e = let z : _≡_ {A = ℕ} 0 1 = cc in absurd (omega arith)
@@ -161,7 +167,8 @@ module _ (ps fs : List ℤ) where
   side-possible s a b =
       record {
         near = λ i l h. ltb-true _ _ (sym (right-near s billion (λ s. side-total s ps) (number-at ps i) (number-at fs i) h) ∙ right-member a i l);
-        sign = λ i l h. agrees-means s (number-at fs i) (right-agrees billion (λ s. side-total s ps) s (number-at ps i) (number-at fs i) (right-member a i l) h);
+        sign = λ i l h. agrees-means s (number-at fs i)
+            (right-agrees billion (λ s. side-total s ps) s (number-at ps i) (number-at fs i) (right-member a i l) h);
         summed = side-means s ps fs b;
       }
 
@@ -184,7 +191,11 @@ module _ (ps fs : List ℤ) where
   unfolding verdict
   accepted-where h p =
       judged ps fs h
-      ∙ ap taken (rw (every-all (length ps) (right-at billion ps fs) members, side-where Positive ps fs (p .positive .summed), side-where Negative ps fs (p .negative .summed)))
+      ∙ ap taken (rw (
+        every-all (length ps) (right-at billion ps fs) members,
+        side-where Positive ps fs (p .positive .summed),
+        side-where Negative ps fs (p .negative .summed),
+      ))
     where
       side : (s : Side) → SidePossible s ps fs
       side Positive = p .positive
@@ -201,7 +212,7 @@ module _ (ps fs : List ℤ) where
       go (all-right ps fs) refl (side-right Positive ps fs) (side-right Negative ps fs) (sym (judged ps fs (judgeable ps fs e)) ∙ e)
     where
       go : (a : Bool) → all-right ps fs ≡ a → (b c : Bool) →
-          taken (cond a (cond b (cond c Possible (WrongSide Negative)) (WrongSide Positive)) (WrongMember (first-wrong (right-at billion ps fs) (length ps)))) ≡
+          taken (told a b c) ≡
           taken (WrongMember k) → FirstWrong (right-at billion ps fs) (length ps) k
       go true f true true e = let z : _≡_ {A = ℕ} 0 1 = cc in absurd (omega arith)
       go true f true false e = let z : _≡_ {A = ℕ} 0 1 = cc in absurd (omega arith)
@@ -218,7 +229,7 @@ module _ (ps fs : List ℤ) where
       go (all-right ps fs) refl (side-right Positive ps fs) refl (side-right Negative ps fs) refl (sym (judged ps fs (judgeable ps fs e)) ∙ e)
     where
       go : (a : Bool) → all-right ps fs ≡ a → (b : Bool) → side-right Positive ps fs ≡ b → (c : Bool) → side-right Negative ps fs ≡ c →
-          taken (cond a (cond b (cond c Possible (WrongSide Negative)) (WrongSide Positive)) (WrongMember (first-wrong (right-at billion ps fs) (length ps)))) ≡
+          taken (told a b c) ≡
           taken (WrongSide s) → (all-right ps fs ≡ true) × (side-right s ps fs ≡ false) × (s ≡ Negative → side-right Positive ps fs ≡ true)
       go true f true g true h e = let z : _≡_ {A = ℕ} 0 1 = cc in absurd (omega arith)
       go true f true g false h e =

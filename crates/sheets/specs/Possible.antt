@@ -1,5 +1,5 @@
--- What a possible sheet is, in the request's words, with products of whole numbers and no division (02, R-12): 'accept exactly when each factor is less than one
--- billionth from performance over the absolute total of its side, its sign agreeing or the factor being 0, and each side that has a member sums to exactly
+-- What a possible sheet is, in the request's words, with products of whole numbers and no division (02, R-12): 'accept exactly when each factor is less than
+-- one billionth from performance over the absolute total of its side, its sign agreeing or the factor being 0, and each side that has a member sums to exactly
 -- plus or minus 1,000,000,000. A member whose performance is 0 must have the factor 0.'
 use mathlib.Core.Path.{_≡_}
 use mathlib.Core.List.{List}

@@ -1,4 +1,5 @@
--- Worked sheets, by computing: the placings of a left-over, sides whose sums are off, both tie rules, no performance, both sides of each limit, the paper's listing.
+-- Worked sheets, by computing: the placings of a left-over, sides whose sums are off, both tie rules, no performance, both sides of each limit, the paper's
+-- listing.
 use mathlib.Core.Path.{_≡_, refl}
 use mathlib.Core.List.{List, [], _∷_}
 use Prim.Native.Nat.{ℕ, zero, suc, _+_, _-_}
@@ -55,6 +56,10 @@ whole = pos 1_000_000_000
 abbrev minus-whole : ℤ
 minus-whole = minus 1_000_000_000
 
+-- those of the paper's listing
+abbrev paper-performances : List ℤ
+paper-performances = three (pos 11_250_000_000) (minus 3_375_000_000) (minus 7_875_000_000)
+
 pub record WorkedSheets : Type 0 where
   -- the left-over with each of the three, with none, with two
   pub with-the-first : sheet-reply ones (three third-and-one third third) ≡ taken Possible
@@ -97,15 +102,15 @@ pub record WorkedSheets : Type 0 where
   pub other-length : sheet-reply (times 514 (pos 0)) (times 513 (pos 0)) ≡ refused TooShort
   pub length-first : sheet-reply (pos (limit + 1) ∷ []) [] ≡ refused TooShort
   -- the paper's listing: all shares are exact, and nothing else passes
-  pub paper : sheet-reply (three (pos 11_250_000_000) (minus 3_375_000_000) (minus 7_875_000_000)) (three whole (minus 300_000_000) (minus 700_000_000)) ≡
+  pub paper : sheet-reply paper-performances (three whole (minus 300_000_000) (minus 700_000_000)) ≡
       taken Possible
-  pub paper-more : sheet-reply (three (pos 11_250_000_000) (minus 3_375_000_000) (minus 7_875_000_000)) (three (pos 1_000_000_001) (minus 300_000_000)
+  pub paper-more : sheet-reply paper-performances (three (pos 1_000_000_001) (minus 300_000_000)
       (minus 700_000_000)) ≡ taken (WrongMember 1)
-  pub paper-less : sheet-reply (three (pos 11_250_000_000) (minus 3_375_000_000) (minus 7_875_000_000)) (three (pos 999_999_999) (minus 300_000_000)
+  pub paper-less : sheet-reply paper-performances (three (pos 999_999_999) (minus 300_000_000)
       (minus 700_000_000)) ≡ taken (WrongMember 1)
-  pub paper-moved : sheet-reply (three (pos 11_250_000_000) (minus 3_375_000_000) (minus 7_875_000_000)) (three whole (minus 300_000_001) (minus 699_999_999)) ≡
+  pub paper-moved : sheet-reply paper-performances (three whole (minus 300_000_001) (minus 699_999_999)) ≡
       taken (WrongMember 2)
-  pub paper-moved-back : sheet-reply (three (pos 11_250_000_000) (minus 3_375_000_000) (minus 7_875_000_000)) (three whole (minus 300_000_000) (minus 700_000_001))
+  pub paper-moved-back : sheet-reply paper-performances (three whole (minus 300_000_000) (minus 700_000_001))
       ≡ taken (WrongMember 3)
 
 pub worked-sheets : WorkedSheets

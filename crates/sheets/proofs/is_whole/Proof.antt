@@ -22,8 +22,8 @@ returns-2 c =
     let e = c .before in
     let r = e .before in
     let s = r .before in
-    some-member (s .args .side) (s .args .performances .now) (s .args .factors .now) (s .pre) (r .side-sum .result) (c .side-sum2 .result) (r .side-sum .ensures)
-    (e .if1 .left) (c .side-sum2 .ensures)
+    some-member (s .args .side) (s .args .performances .now) (s .args .factors .now) (s .pre) (r .side-sum .result) (c .side-sum2 .result)
+    (r .side-sum .ensures) (e .if1 .left) (c .side-sum2 .ensures)
 
 pub is-whole-spec : {M : Type 1} → statement M
 is-whole-spec = tie.close (tie.spec side-sum-requires returns side-sum-requires-2 returns-2)

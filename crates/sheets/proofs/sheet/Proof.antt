@@ -17,10 +17,12 @@ by-members : (c : tie.After-first-wrong) → let a = c .before .before .args in 
 by-members c =
     let e = c .before in
     let a = e .before .args in
-    subst (Found (a .performances .now) (a .factors .now)) (sym (c .first-wrong .ensures .reply)) (found (a .performances .now) (a .factors .now) (e .if1 .left))
+    subst (Found (a .performances .now) (a .factors .now)) (sym (c .first-wrong .ensures .reply))
+    (found (a .performances .now) (a .factors .now) (e .if1 .left))
 
 -- and by one of its cases
-case : (c : tie.After-first-wrong) {j : Judged} → c .first-wrong .result ≡ j → let a = c .before .before .args in Found (a .performances .now) (a .factors .now) j
+case : (c : tie.After-first-wrong) {j : Judged} → c .first-wrong .result ≡ j →
+    let a = c .before .before .args in Found (a .performances .now) (a .factors .now) j
 case c e =
     let a = c .before .before .args in subst (Found (a .performances .now) (a .factors .now)) e (by-members c)
 

@@ -109,7 +109,8 @@ returns-4 c =
         eq-eqb (length (ps s)) (length (fs s)) (u e .before .before .if1 .left),
         le-leb (s .args .total) total-limit (u e .before .if2 .left),
         le-leb (side-total Positive (ps s)) weight-limit (up-small e),
-        lt-leb (side-total Negative (ps s)) weight-limit (over-limit (side-total Negative (ps s)) (v .side-sum2 .result) (v .side-sum2 .ensures) (c .if4 .taken)),
+        lt-leb (side-total Negative (ps s)) weight-limit
+            (over-limit (side-total Negative (ps s)) (v .side-sum2 .result) (v .side-sum2 .ensures) (c .if4 .taken)),
       );
     }
 

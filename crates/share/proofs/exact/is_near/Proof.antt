@@ -81,7 +81,8 @@ returns-3 c =
     let e = l .before .before in
     let a = p e in
     let some : 0 < rest a = above (rest a) (l .if2 .left) in
-    decide (s a .args .amount) (c .with-sign2 .result) (near (total-of (rate a)) (rate a .sum) (signed (s a .args .source) (s a .args .weight)) (s a .args .amount))
+    decide (s a .args .amount) (c .with-sign2 .result)
+    (near (total-of (rate a)) (rate a .sum) (signed (s a .args .source) (s a .args .weight)) (s a .args .amount))
     (λ q. one-above (s a .args .source) (total-of (rate a)) (rate a .sum) (s a .args .weight) (s a .args .amount) (parted a) some
     (same-bits {w = w64} (s a .fits .amount) (elem w64 (c .with-sign2 .result) (c .with-sign2 .ok)) q ∙ c .with-sign2 .ensures))
     (λ q. not-near (s a .args .source) (total-of (rate a)) (rate a .sum) (s a .args .weight) (s a .args .amount) (parted a) (other e)

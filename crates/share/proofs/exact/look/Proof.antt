@@ -50,7 +50,8 @@ module _ (c : tie.After-is-right Inv-loop μ-loop) where
   told : c .is-right .result ≡ right-at (total-of (s .args .up)) ps fs (l .loop .i)
   told =
       c .is-right .ensures
-      ∙ ap₂ (right (total-of (s .args .up)) (sums (s .args .up) (s .args .down))) (toZ-ofZ (elem w64 (number-at ps (l .loop .i)) (at .before .is-right-arg .given)))
+      ∙ ap₂ (right (total-of (s .args .up)) (sums (s .args .up) (s .args .down)))
+      (toZ-ofZ (elem w64 (number-at ps (l .loop .i)) (at .before .is-right-arg .given)))
       (toZ-ofZ (elem w64 (number-at fs (l .loop .i)) (at .is-right-arg2 .given)))
       ∙ as-right ps (l .loop .i) there (s .pre .0) fs
 

@@ -18,6 +18,12 @@ loop-holds c = search needs
 member-requires : tie.Need-member-requires Inv-loop μ-loop
 member-requires c κs = search needs
 
+enum-known-who : tie.Need-enum-known-who Inv-loop μ-loop
+enum-known-who c = search needs
+
+returns : tie.Need-returns Inv-loop μ-loop
+returns c = search needs
+
 passed-requires : tie.Need-passed-requires Inv-loop μ-loop
 passed-requires c κs = search needs
 
@@ -27,8 +33,8 @@ add-members c = search needs
 name-in-requires : tie.Need-name-in-requires Inv-loop μ-loop
 name-in-requires c κs = search needs
 
-returns : tie.Need-returns Inv-loop μ-loop
-returns c = search needs
+returns-2 : tie.Need-returns-2 Inv-loop μ-loop
+returns-2 c = search needs
 
 add-row : tie.Need-add-row Inv-loop μ-loop
 add-row c = search needs
@@ -39,8 +45,8 @@ loop-less c = search needs
 loop-again : tie.Need-loop-again Inv-loop μ-loop
 loop-again c = search needs
 
-returns-2 : tie.Need-returns-2 Inv-loop μ-loop
-returns-2 c = search needs
+returns-3 : tie.Need-returns-3 Inv-loop μ-loop
+returns-3 c = search needs
 
 pub name-of-spec : {M : Type 1} → statement M
 name-of-spec =
@@ -50,11 +56,13 @@ name-of-spec =
     μ-loop
     loop-holds
     member-requires
+    enum-known-who
+    returns
     passed-requires
     add-members
     name-in-requires
-    returns
+    returns-2
     add-row
     loop-less
     loop-again
-    returns-2)
+    returns-3)

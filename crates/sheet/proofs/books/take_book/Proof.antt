@@ -7,11 +7,13 @@ use Rattle.sheet.proofs.books.take_book.Statement.{statement}
 use Rattle.sheet.proofs.books.take_book.Tie as tie
 
 abbrev Inv-loop : tie.InvT-loop
-Inv-loop file wanted bytes₀ part₀ measures₀ sums₀ figures₀ numbers₀ homes₀ rows₀ tally₀ found₀ left₀ bytes part measures sums figures numbers homes rows tally found left =
+Inv-loop file wanted bytes₀ part₀ measures₀ sums₀ figures₀ numbers₀ homes₀ rows₀ tally₀ found₀ left₀ bytes
+    part measures sums figures numbers homes rows tally found left =
     length bytes ≡ length bytes₀
 
 abbrev μ-loop : tie.MeasureT-loop
-μ-loop file wanted bytes₀ part₀ measures₀ sums₀ figures₀ numbers₀ homes₀ rows₀ tally₀ found₀ left₀ bytes part measures sums figures numbers homes rows tally found left =
+μ-loop file wanted bytes₀ part₀ measures₀ sums₀ figures₀ numbers₀ homes₀ rows₀ tally₀ found₀ left₀ bytes
+    part measures sums figures numbers homes rows tally found left =
     left
 
 open-requires : tie.Need-open-requires Inv-loop μ-loop
