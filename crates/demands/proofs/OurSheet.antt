@@ -1,6 +1,6 @@
 -- R-12, OUR OWN SHEET IS POSSIBLE: 'Our own calculator's factors are accepted under either tie rule.' Of every requirement, from its book, and of the columns
 -- that an answer leaves: a box can hand them to `dullavane_sheet` as they stand, so many numbers from the front as the answer tells members.
-use mathlib.Core.Path.{_≡_, sym, _∙_, ap, ap₂, subst}
+use mathlib.Core.Path.{_≡_, sym, ap₂, subst}
 use mathlib.Core.Bool.{true}
 use mathlib.Core.List.{List, [], _∷_, map, map-map}
 use Prim.Native.Nat.{ℕ, _≤_}
@@ -8,7 +8,6 @@ use native.Mathlib.Omega.{arith}
 use lib.IntN.{ℤ, pos, _-ℤ_}
 use lib.ListN.{length, length-append, length-map}
 use Rattle.integers.specs.Pairs.{gain, loss}
-use Rattle.integers.specs.Totals.{totalℕ, numbered}
 use Rattle.integers.proofs.Totals.{numbered-alike, those-length, total-indexes}
 use Rattle.rules.specs.declared.Side.{Side}
 use Rattle.rules.specs.declared.Side.the-variants.{Positive, Negative}
@@ -17,7 +16,7 @@ use Rattle.rules.specs.Quantities.{billion, most-members, weight-limit}
 use Rattle.rules.specs.Refusals.{taken}
 use Rattle.rules.specs.Book.{Requirement, covers, Book}
 use Rattle.rules.specs.Members.{Member, unit-member, unit-members, residual-member, members}
-use Rattle.rules.specs.Share.{share-of, larger-first, earlier-first}
+use Rattle.rules.specs.Share.{share-of, larger-first}
 use Rattle.rules.specs.Factors.{factor, helpful, unhelpful}
 use Rattle.rules.specs.Answer.{lines-of, answered, answer}
 use Rattle.rules.specs.Sheet.{side-total, sheet-reply}
@@ -30,7 +29,6 @@ use Rattle.interval.specs.Lent.{Lent}
 use Rattle.answer.specs.declared.Answered.{Answered}
 use Rattle.answer.specs.Promises.{Columns, AnswerPromise, columns-long, shown}
 use Rattle.answer.specs.BookAnswered.{RulesAnswer}
-use Rattle.demands.specs.ColumnsFront.{front}
 use Rattle.demands.proofs.ColumnsFront.{lines-at-front}
 use Rattle.demands.proofs.Demand3.{lines-performances}
 use Rattle.demands.specs.OurSheet.{RequirementPossible, ColumnsPossible}

@@ -1,6 +1,6 @@
 -- What proofs/OurSheet.antt speaks of: our own factors of a requirement as a sheet beside its performances (02, R-12).
 use mathlib.Core.Path.{_≡_}
-use mathlib.Core.List.{List, map}
+use mathlib.Core.List.{map}
 use Rattle.rules.specs.declared.Verdict.the-variants.{Possible}
 use Rattle.rules.specs.Book.{Requirement, Book}
 use Rattle.rules.specs.Members.{members}

@@ -1,33 +1,30 @@
 -- Laws of the definitions in specs/Exact.antt: how an amount compares with the whole part, and what the ratios' own W makes no difference to.
 use mathlib.Core.Path.{_≡_, refl, sym, _∙_, ap}
-use mathlib.Core.Bool.{Bool, true, false, not, cond, _&&_, true≢false}
+use mathlib.Core.Bool.{Bool, true, false, true≢false}
 use mathlib.Core.List.{List, map}
 use Prim.Native.Nat.{ℕ, zero, suc, _+_, _*_, _≤_, _<_}
 use native.Mathlib.Omega.{arith}
 use native.Mathlib.Numerals.{add-one}
-use lib.Dec.{leb, eqb}
 use lib.IntN.{ℤ, pos, negsuc}
-use lib.ListN.{length, getD, length-map, List·getD-map}
+use lib.ListN.{length, length-map, List·getD-map}
 use Rattle.integers.specs.Pairs.{gain, loss}
 use Rattle.integers.specs.Division.{Divided}
 use Rattle.integers.specs.Sums.{one, every}
 use Rattle.integers.proofs.Sums.{sumℕ-term}
 use Rattle.rules.specs.declared.Side.{Side}
 use Rattle.rules.specs.declared.Side.the-variants.{Positive, Negative}
-use Rattle.rules.specs.Quantities.{total-limit, weight-limit}
-use Rattle.rules.specs.Refusals.{Reply, taken, refused}
 use Rattle.rules.specs.Share.{weight-at}
-use Rattle.rules.specs.Sheet.{on, near, right, number-at, right-at, side-total, first-wrong, members-reply}
+use Rattle.rules.specs.Sheet.{on, near, right, number-at, right-at, side-total}
 use Rattle.rules.specs.Sheet as sheet
-use Rattle.laws.proofs.SheetLaws.{WholeOrMore, near-whole, whole-near, right-near, none-wrong, first-wrong-is}
+use Rattle.laws.proofs.SheetLaws.{WholeOrMore, near-whole, whole-near, none-wrong, first-wrong-is}
 use Rattle.share.specs.declared.part.Rate.{Rate}
 use Rattle.share.specs.declared.exact.Judged.{Judged}
 use Rattle.share.specs.declared.exact.Judged.the-variants.{Right, Wrong}
 use Rattle.share.specs.declared.weights.Source.{Source}
 use Rattle.share.specs.declared.weights.Source.the-variants.{Lent, Helpful, Unhelpful}
-use Rattle.share.specs.Rates.{Rated, total-of}
+use Rattle.share.specs.Rates.{total-of}
 use Rattle.share.specs.Weighing.{signed}
-use Rattle.share.specs.Exact.{JudgedPromise, SideRated, Sided, judged-of, looked, sums}
+use Rattle.share.specs.Exact.{JudgedPromise, Sided, looked, sums}
 
 -- any two outcomes are equal
 pub first-wrong-only : {T : ℕ} {ps amounts : List ℤ} {r r′ : Judged} → JudgedPromise T ps amounts r → JudgedPromise T ps amounts r′ → r ≡ r′

@@ -11,13 +11,11 @@ use lib.ListN.{length, length-map}
 use borrow.Author.Tests.{ltb-true, ltb-false, lt-ltb}
 use Rattle.integers.specs.Pairs.{gain, loss}
 use Rattle.integers.proofs.Pairs.{v, neg, _⊖_, ring}
-use Rattle.integers.proofs.Bounds.{abs-is}
-use Rattle.integers.specs.Sums.{one, sum, sumℕ, when}
+use Rattle.integers.specs.Sums.{one, sumℕ, when}
 use Rattle.integers.proofs.Sums.{sum-ext, one-≤}
 use Rattle.integers.proofs.Totals.{numbered-at, numbered-length}
 use Rattle.integers.specs.Division.{Divided}
 use Rattle.integers.proofs.Division.{divided}
-use Rattle.integers.proofs.Ranks.{Total}
 use Rattle.rules.specs.declared.Side.{Side}
 use Rattle.rules.specs.declared.Side.the-variants.{Positive, Negative}
 use Rattle.rules.specs.declared.Verdict.the-variants.{Possible}
@@ -27,10 +25,10 @@ use Rattle.rules.specs.Share.{weight-at, share-by, gets-one, earlier-first, lar
 use Rattle.rules.specs.Sheet.{on, signed, near, number-at, side-total, side-sum, sheet-reply}
 use Rattle.laws.proofs.ShareLaws.{amount-is, gets-one-remainder, share-adds-up, no-weight-no-amount, earlier-order, larger-order}
 use Rattle.laws.proofs.SheetLaws.{WholeOrMore, near-whole, whole-near, sign-follows, signed-on}
-use Rattle.sheets.specs.Possible.{Agrees, SidePossible, PossibleSheet, Judgeable}
+use Rattle.sheets.specs.Possible.{SidePossible, PossibleSheet}
 use Rattle.sheets.specs.Ours.{factor-by, sheet-by, Orders}
 use Rattle.sheets.proofs.SidesLaws.{size-at, signed-sum}
-use Rattle.sheets.proofs.Possible.{accepted-means, accepted-where, agrees-means, judgeable, some-total}
+use Rattle.sheets.proofs.Possible.{accepted-means, accepted-where, agrees-means, some-total}
 
 -- a difference of two naturals that are at most one apart
 little : (z : ℤ) (m n : ℕ) → gain z + n ≡ m + loss z → m ≤ n + 1 → n ≤ m + 1 → natAbs z ≤ 1

@@ -1,21 +1,18 @@
 -- THE VERDICT SAYS WHAT THE REQUEST ASKS: a sheet is accepted if and only if the request's sentence holds (specs/Possible.antt); a wrong member is named where
 -- it is the first, and a side where all members are right and its sum is the first that is off.
 use mathlib.Core.Path.{_≡_, refl, sym, _∙_, ap, subst}
-use mathlib.Core.Bool.{Bool, true, false, cond, _&&_, _||_, false≢true}
+use mathlib.Core.Bool.{Bool, true, false, cond, _&&_, _||_}
 use mathlib.Core.List.{List}
 use Prim.Native.Nat.{ℕ, zero, suc, _≤_, _<_}
 use native.Mathlib.Omega.{arith}
-use lib.Dec.{T, leb, ltb, eqb}
+use lib.Dec.{leb, eqb}
 use lib.IntN.{ℤ, pos, negsuc, natAbs, _-ℤ_}
 use lib.ListN.{length}
-use lib.Signed.{leZ}
-use borrow.Author.Tests.{ltb-true, lt-ltb, ltb-false, leb-true, le-leb, eqb-true, eqb-false, eq-eqb, ne-eqb}
-use Rattle.integers.specs.Pairs.{gain, loss}
-use Rattle.integers.proofs.Pairs.{v, _⊖_, ring, eq?}
+use borrow.Author.Tests.{ltb-true, lt-ltb, leb-true, le-leb, eqb-true, eqb-false, eq-eqb, ne-eqb}
+use Rattle.integers.proofs.Pairs.{v, _⊖_, ring}
 use Rattle.integers.proofs.Bounds.{abs-is}
-use Rattle.integers.proofs.Tests.{leZ-true, le-leZ}
-use Rattle.integers.specs.Sums.{every, both}
-use Rattle.integers.specs.Sums.{sumℕ}
+use Rattle.integers.proofs.Tests.{leZ-true}
+use Rattle.integers.specs.Sums.{sumℕ, every}
 use Rattle.integers.proofs.Sums.{every-at, every-all, some-term, sumℕ-term}
 use Rattle.rules.specs.declared.Refusal.the-variants.{TooShort, WrongCount}
 use Rattle.rules.specs.declared.Side.{Side}
@@ -23,27 +20,11 @@ use Rattle.rules.specs.declared.Side.the-variants.{Positive, Negative}
 use Rattle.rules.specs.declared.Verdict.{Verdict}
 use Rattle.rules.specs.declared.Verdict.the-variants.{Possible, WrongMember, WrongSide}
 use Rattle.rules.specs.Quantities.{billion, most-members, weight-limit}
-use Rattle.rules.specs.Refusals.{Reply, taken, refused, unless}
-use Rattle.rules.specs.Sheet.{
-  on,
-  signed,
-  near,
-  agrees,
-  right,
-  number-at,
-  right-at,
-  side-total,
-  side-sum,
-  side-right,
-  sides-fit,
-  first-wrong,
-  verdict,
-  sheet-reply,
-}
+use Rattle.rules.specs.Refusals.{taken, unless}
+use Rattle.rules.specs.Sheet.{on, signed, near, agrees, right, number-at, right-at, side-total, side-sum, side-right, first-wrong, verdict, sheet-reply}
 use Rattle.laws.proofs.SheetLaws.{FirstWrong, first-wrong-means, right-near}
-use Rattle.sheets.specs.Promises.{sides-verdict}
 use Rattle.sheets.specs.Possible.{Agrees, SidePossible, PossibleSheet, Judgeable}
-use Rattle.sheets.proofs.SidesLaws.{right-agrees, total-is}
+use Rattle.sheets.proofs.SidesLaws.{no-size, right-agrees, total-is}
 
 -- ---- a sheet that is not refused
 module _ (ps fs : List ℤ) where
@@ -89,10 +70,6 @@ module _ (ps fs : List ℤ) where
 pub agrees-means : (s : Side) (f : ℤ) → agrees s f ≡ true → Agrees s f
 agrees-means Positive f e = leZ-true e
 agrees-means Negative f e = leZ-true e
-
-no-size : (f : ℤ) → natAbs f ≡ 0 → f ≡ pos 0
-no-size (pos n) e = ap pos e
-no-size (negsuc n) e = absurd (omega arith)
 
 -- what is asked of a member makes it right
 module _ (W : Side → ℕ) where

@@ -31,14 +31,15 @@ agreed Positive (negsuc n) e = absurd (false≢true e)
 agreed Negative (pos n) e = let z : n ≡ 0 = omega (arith, leb-true n 0 e) in rw z
 agreed Negative (negsuc n) e = refl
 
+-- what has no size is 0
+pub no-size : (f : ℤ) → natAbs f ≡ 0 → f ≡ pos 0
+no-size (pos n) e = ap pos e
+no-size (negsuc n) e = absurd (omega arith)
+
 module _ (T : ℕ) (W : Side → ℕ) where
   -- a right member's factor agrees with its side
   pub right-agrees : (s : Side) (p f : ℤ) → right T W p f ≡ true → 0 < on s p → agrees s f ≡ true
   right-agrees s p f e h = sign-follows s T (W s) p f h (sym (right-near s T W p f h) ∙ e)
-
-  no-size : (f : ℤ) → natAbs f ≡ 0 → f ≡ pos 0
-  no-size (pos n) e = ap pos e
-  no-size (negsuc n) e = absurd (omega arith)
 
   counts : (s : Side) (p f : ℤ) → right T W p f ≡ true → when (ltb 0 (on s p)) f ≡ signed s (on s f)
   counts Positive (pos zero) f e = rw (no-size f (eqb-true (natAbs f) 0 e))

@@ -1,7 +1,7 @@
 -- The tests in their order; then what is found, with the ratios of both sides.
 use mathlib.Core.Path.{_≡_, refl, sym, _∙_, ap}
 use mathlib.Core.List.{List}
-use Prim.Native.Nat.{ℕ, _≤_, _<_}
+use Prim.Native.Nat.{ℕ, _≤_}
 use native.Mathlib.Omega.{arith}
 use lib.IntN.{ℤ}
 use lib.ListN.{length}
@@ -10,8 +10,7 @@ use borrow.Author.Tests.{eq-eqb, ne-eqb, le-leb, lt-leb}
 use Rattle.rules.specs.declared.Side.the-variants.{Positive, Negative}
 use Rattle.rules.specs.Quantities.{total-limit, weight-limit}
 use Rattle.rules.specs.Sheet.{side-total, members-reply}
-use Rattle.share.specs.Rates.{total-of}
-use Rattle.share.specs.Exact.{SideRated, Sided, looked}
+use Rattle.share.specs.Exact.{Sided, looked}
 use Rattle.share.proofs.Weighing.{over-limit, within-limit}
 use Rattle.share.proofs.exact.first_wrong.Statement.{statement}
 use Rattle.share.proofs.exact.first_wrong.Tie as tie
