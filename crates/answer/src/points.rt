@@ -57,7 +57,10 @@ fn sums_at(set: u8, t: usize, measures: &[i32], sums: &[i64], figures: &[i64]) -
         let start = SUMS_EACH * region;
         let counts = covers(set, region);
         let measure = measure_held(measures[POINTS * region + t]) as i64;
-        weighed += if_counted(counts, figures[FIGURES_EACH * region + GENERATION] * measure);
+        weighed += if_counted(
+            counts,
+            figures[FIGURES_EACH * region + GENERATION] * measure,
+        );
         risen += if_counted(counts, sums[start + t]);
         fallen += if_counted(counts, sums[start + (POINTS + t)]);
         region += 1;
