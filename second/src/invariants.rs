@@ -4,7 +4,7 @@
 use crate::book::{Book, Unit};
 use crate::cents::{settle_book, Line, Settled};
 use crate::deviation::{unit_deviations, unit_is_good};
-use crate::performance::{performance, region_views, RegionView, Standing};
+use crate::performance::{region_views, RegionView, Standing};
 use crate::quantities::*;
 
 type Held = Result<(), String>;
@@ -118,8 +118,8 @@ fn signs_hold(settled: &Settled) -> Held {
     hold(right, || "an amount has the wrong sign".to_string())
 }
 
-/// In a region whose residual is live, good units and residual add up to zero,
-/// at every point in deviation and over the interval in performance.
+/// In a region whose residual is live, good units and residual add up to zero: in deviation at every point, dropped
+/// or kept, in performance over the kept points. The kept points are found here anew, by the words of request R-3.
 fn region_closes(direction: Direction, units: &[&Unit], view: &RegionView) -> Held {
     if view.residual_standing(direction) != Standing::Live {
         return Ok(());
@@ -130,8 +130,8 @@ fn region_closes(direction: Direction, units: &[&Unit], view: &RegionView) -> He
         let sum = good.iter().map(|unit| unit[point]).sum::<i128>() + view.residual_deviations[point];
         hold(sum == 0, || format!("deviations at point {point} add up to {sum}"))?;
     }
-    let units: i128 = good.iter().map(|unit| performance(direction, &view.measures, unit)).sum();
-    let residual = performance(direction, &view.measures, &view.residual_deviations);
+    let units: i128 = good.iter().map(|unit| view.performance(direction, unit)).sum();
+    let residual = view.performance(direction, &view.residual_deviations);
     hold(units + residual == 0, || format!("region performances {units} and {residual}"))
 }
 

@@ -7,6 +7,7 @@
 pub mod quantities;
 pub mod book;
 pub mod measure;
+pub mod dropped;
 pub mod reliability;
 pub mod deviation;
 pub mod performance;
