@@ -24,6 +24,7 @@ pub mod rules;
 
 pub mod write;
 pub mod describe;
+pub mod table_15;
 pub mod worked;
 pub mod chance;
 pub mod unequal;

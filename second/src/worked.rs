@@ -3,7 +3,7 @@
 use crate::book::*;
 use crate::quantities::*;
 use crate::write::*;
-use crate::{describe, listing, rules};
+use crate::{describe, listing, rules, table_15};
 
 /// A worked book: its name, what it shows, the book, and the bytes that follow its last body.
 pub struct Worked {
@@ -648,6 +648,25 @@ fn dropped_reliability() -> Book {
     book
 }
 
+/// The market's own frequencies and measures, with four units that no round number fits.
+fn table_15() -> Book {
+    let mut book = table_15::frequencies_book();
+    book.settings.interval = 114;
+    book.frequencies[3].generation = 123_457;
+    book.frequencies[3].defaults = [0, 0, -7, 0, 0, -11];
+    book.units = vec![
+        with_defaults(unit(1, 3, false, 10_007, 10_133, |t| 9_973 + 3 * t), [0, 0, -13, 0, 0, -17]),
+        with_defaults(unit(2, 3, true, 4_999, 4_871, |t| 5_021 - 2 * t), [0, 0, -19, 0, 0, -23]),
+        with_defaults(unit(3, 3, false, 2_503, 2_503, |t| 2_659 - 4 * t), [0, 0, -29, 0, 0, -31]),
+        with_defaults(unit(4, 3, true, -307, 211, |t| 7 * t - 341), [0, 0, -37, 0, 0, -41]),
+    ];
+    book.requirements = vec![
+        regional(3, 1, Direction::Raise, 1_237, 10_007, 1_009, 337),
+        regional(3, 2, Direction::Lower, 2_341, 10_009, 1_013, 719),
+    ];
+    book
+}
+
 /// The same book with a unit whose number is that of the unit before.
 fn number_not_rising() -> Book {
     let mut book = thirteen_units();
@@ -819,6 +838,21 @@ pub fn all() -> Vec<Worked> {
                     would be 1200 (t 2) and 5775 (t 12). Unit 1 would help to raise over all points; over the kept\n\
                     ones it hinders.",
             book: dropped_reliability(),
+            behind: &[],
+        },
+        Worked {
+            name: "table_15",
+            shows: "Region 3 has the frequencies of source document 000's table 15 (SA1), its measures to the 5 µHz that\n\
+                    tests/vectors tells of, and its first point, which the table gives the measure 0, as a bad one.\n\
+                    Which points are dropped was read from the table's own columns by hand: deviation and measure\n\
+                    have one sign, and the deviation is more than 0.015 Hz either way:\n\
+                    \x20 t 20, 12:04:20 AM, deviation -0.01875, Frequency Measure -0.00343\n\
+                    \x20 t 58, 12:06:52 AM, deviation 0.01550, Frequency Measure 0.00047\n\
+                    \x20 t 68, 12:07:32 AM, deviation -0.02000, Frequency Measure -0.00447\n\
+                    One sign, but a deviation within the band, have t 16, 19, 23, 27, 34, 37, 41, 42, 51, 57, 62 and\n\
+                    75, the farthest of them t 37 with -0.01300: they are kept. At t 70 the deviation is -0.01500, an\n\
+                    edge of the band, but the measure is above 0.",
+            book: table_15(),
             behind: &[],
         },
         Worked {
