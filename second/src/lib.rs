@@ -27,6 +27,7 @@ pub mod describe;
 pub mod table_15;
 pub mod worked;
 pub mod chance;
+pub mod swings;
 pub mod unequal;
 pub mod make;
 pub mod bench;
