@@ -26,5 +26,6 @@ unfoldable pub computing : Unit {0}
 unfolding sum sumℕ every largest total totalℕ those numbered little listed contents settings region-in frequency-record unit-in unit-record requirement-in
     requirement-record frequency-body unit-body requirement-body book measure-after dropped-at reliable reliable-in deviation good weight performance
     unit-performance residual-performance some-good-or-none unit-member residual-member members left-over gets-one amount unplaced share-reply
-    weighed-measure response all-reliable rcr lines-of answered answer text digits words joined answer-lines listing settle bytes concat bits regions-bytes book-bytes
+    weighed-measure response all-reliable rcr lines-of answered answer text digits words joined answer-lines listing settle bytes concat bits
+    regions-bytes book-bytes
 computing = tt

@@ -319,8 +319,8 @@ every-field =
     above : ℕ → Region
     above step = three step (λ t. 50_000_000 + away step t) (negℤ (pos (11_111 * step)))
 
--- ---- points where measure and frequency disagree (02, R-3). Region 0, FM above 0: dropped at t = 2, 5 and 9, kept at an edge of the band, one inside it, on the
--- other side of it, at bad points and where FM comes to 0; likewise below 0: dropped at t = 14, 17 and 21. In region 1 nothing is dropped
+-- ---- points where measure and frequency disagree (02, R-3). Region 0, FM above 0: dropped at t = 2, 5 and 9, kept at an end of the band, on the other side
+-- of it, at bad points and where FM comes to 0; likewise below 0: dropped at t = 14, 17 and 21. In region 1 nothing is dropped
 abbrev pub dropped-edges : Book
 dropped-edges =
     book (settings 1_000 10 20 112)
