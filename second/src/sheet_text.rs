@@ -37,7 +37,7 @@ pub fn whole_number(word: &[u8]) -> Option<i128> {
 
 /// The numbers of a line; None where a word is no whole number.
 pub fn numbers_of(line: &[u8]) -> Option<Vec<i128>> {
-    let blank = |byte: &u8| *byte == b' ' || *byte == b'\t';
+    let blank = |byte: &u8| *byte == b' ' || *byte == b'\t' || *byte == b'\r';
     line.split(blank).filter(|word| !word.is_empty()).map(whole_number).collect()
 }
 

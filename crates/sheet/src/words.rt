@@ -39,11 +39,11 @@ fn wrong(word: Word) -> Word {
     }
 }
 
-// A sign, where the word begins.
-fn signed(minus: bool) -> Word {
+// A minus, where the word begins.
+fn minus_sign() -> Word {
     Word {
         begun: true,
-        minus,
+        minus: true,
         digits: false,
         size: 0,
         fine: true,
@@ -75,14 +75,7 @@ pub(crate) fn longer(word: Word, byte: u8) -> Word {
         return if word.begun {
             wrong(word)
         } else {
-            signed(true)
-        };
-    }
-    if byte == b'+' {
-        return if word.begun {
-            wrong(word)
-        } else {
-            signed(false)
+            minus_sign()
         };
     }
     if byte < b'0' {
