@@ -57,7 +57,8 @@
 
    LISTS TO LEND (N is the number of units, at most 512)                                   bytes at N = 512
        tally          8 uint32_t                                                                         32
-       measures       375 int32_t, region r from 75 r on                                              1,500
+       measures       375 int32_t, region r from 75 r on: the frequency measure FM at its 75 points,  1,500
+                      10,000,001 more at a point that is dropped from performance (macros below)
        sums           750 int64_t, 150 a region: at 150 r + t the sum of the deviations above zero    6,000
                       at point t (0 to 74), at 150 r + 75 + t that of the deviations below zero
        figures        50 int64_t, 10 a region: interval number of its book, generation, raise           400
@@ -129,6 +130,11 @@ enum {
 /* The words of a row: 1 where its unit is a member of the requirement and 0 where it is not, the unit's number, its standing. A unit that is no
    member has 0 in all three. */
 enum { DULLAVANE_IS_MEMBER, DULLAVANE_NUMBER, DULLAVANE_STANDING, DULLAVANE_MEMBER_WORDS };
+
+/* What a lent measure says of its point: whether the point is dropped from performance, and FM, -5,000,000 to 5,000,000. A good frequency point is dropped
+   if FM and frequency - 50,000,000 are both above 0 or both below 0, and the frequency is below 49,985,000 or above 50,015,000. */
+#define DULLAVANE_IS_DROPPED(measure) ((measure) > 5000000)
+#define DULLAVANE_FM(measure) (DULLAVANE_IS_DROPPED(measure) ? (measure) - 10000001 : (measure))
 
 /* How a member stands: live, by its own performance, or by its default, with the reason. */
 enum { DULLAVANE_LIVE, DULLAVANE_UNRELIABLE_REGION, DULLAVANE_BAD_UNIT, DULLAVANE_NO_GOOD_UNIT };

@@ -129,7 +129,11 @@ pub fn settle_requirement(
     })
 }
 
+/// The book settled with what is known of its regions.
+pub fn settle_by_views(book: &Book, views: &[RegionView]) -> Result<Vec<Settled>, Refusal> {
+    book.requirements.iter().map(|requirement| settle_requirement(requirement, book, views)).collect()
+}
+
 pub fn settle_book(book: &Book) -> Result<Vec<Settled>, Refusal> {
-    let views = region_views(book);
-    book.requirements.iter().map(|requirement| settle_requirement(requirement, book, &views)).collect()
+    settle_by_views(book, &region_views(book))
 }

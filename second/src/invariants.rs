@@ -1,10 +1,12 @@
 //! What must hold of every settled book, whatever the figures: demand 3 of the
-//! request, and the closing of each share. Nothing here calls the share itself.
+//! request, and the closing of each share. Nothing here calls the share itself, nor asks `dropped` which points
+//! are kept.
 
-use crate::book::{Book, Unit};
+use crate::book::{Book, FrequencyRecord, Unit};
 use crate::cents::{settle_book, Line, Settled};
 use crate::deviation::{unit_deviations, unit_is_good};
-use crate::performance::{performance, region_views, RegionView, Standing};
+use crate::members::Name;
+use crate::performance::{region_views, RegionView, Standing};
 use crate::quantities::*;
 
 type Held = Result<(), String>;
@@ -118,9 +120,34 @@ fn signs_hold(settled: &Settled) -> Held {
     hold(right, || "an amount has the wrong sign".to_string())
 }
 
-/// In a region whose residual is live, good units and residual add up to zero,
-/// at every point in deviation and over the interval in performance.
-fn region_closes(direction: Direction, units: &[&Unit], view: &RegionView) -> Held {
+/// Whether a point is kept in performance (request R-3), in other words than `dropped` has: FM and what the
+/// frequency is away from 50 Hz have one sign exactly if their product is above 0.
+fn is_kept(record: &FrequencyRecord, view: &RegionView, point: usize) -> bool {
+    let away = record.frequencies[point] - 50_000_000;
+    !record.good[point] || away * view.measures[point] <= 0 || away.abs() <= 15_000
+}
+
+/// The direction's side of FM times deviation, over the kept points.
+fn over_the_kept(
+    direction: Direction,
+    record: &FrequencyRecord,
+    view: &RegionView,
+    deviations: &[i128; POINTS],
+) -> i128 {
+    let mut sum = 0;
+    for (point, away) in deviations.iter().enumerate() {
+        let measure = view.measures[point];
+        let counts = if direction == Direction::Raise { measure > 0 } else { measure < 0 };
+        if counts && is_kept(record, view, point) {
+            sum += measure * away;
+        }
+    }
+    sum
+}
+
+/// In a region whose residual is live, good units and residual add up to zero: in deviation at every point, dropped
+/// or kept, in performance over the kept points.
+fn region_closes(direction: Direction, record: &FrequencyRecord, units: &[&Unit], view: &RegionView) -> Held {
     if view.residual_standing(direction) != Standing::Live {
         return Ok(());
     }
@@ -130,18 +157,44 @@ fn region_closes(direction: Direction, units: &[&Unit], view: &RegionView) -> He
         let sum = good.iter().map(|unit| unit[point]).sum::<i128>() + view.residual_deviations[point];
         hold(sum == 0, || format!("deviations at point {point} add up to {sum}"))?;
     }
-    let units: i128 = good.iter().map(|unit| performance(direction, &view.measures, unit)).sum();
-    let residual = performance(direction, &view.measures, &view.residual_deviations);
+    let units: i128 = good.iter().map(|unit| over_the_kept(direction, record, view, unit)).sum();
+    let residual = over_the_kept(direction, record, view, &view.residual_deviations);
     hold(units + residual == 0, || format!("region performances {units} and {residual}"))
 }
 
-fn regions_close(book: &Book) -> Held {
-    let views = region_views(book);
-    for (region, view) in views.iter().enumerate() {
-        let units: Vec<&Unit> = book.units.iter().filter(|unit| unit.region == region).collect();
+fn regions_close(book: &Book, views: &[RegionView]) -> Held {
+    for (record, view) in book.frequencies.iter().zip(views) {
+        let units: Vec<&Unit> = book.units.iter().filter(|unit| unit.region == record.region).collect();
         for direction in Direction::BOTH {
-            region_closes(direction, &units, view)?;
+            region_closes(direction, record, &units, view)?;
         }
+    }
+    Ok(())
+}
+
+/// Every live member's performance is the sum over the kept points: a unit's own, and for the residual that of the
+/// residual deviations of its regions.
+fn performances_are_over_the_kept(
+    book: &Book,
+    views: &[RegionView],
+    settled: &Settled,
+    set: &[usize],
+) -> Held {
+    let sum = |region: usize, deviations: &[i128; POINTS]| {
+        over_the_kept(settled.direction, &book.frequencies[region], &views[region], deviations)
+    };
+    for line in settled.lines.iter().filter(|line| line.member.standing == Standing::Live) {
+        let expected: i128 = match line.member.name {
+            Name::Unit(number) => {
+                let unit = book.units.iter().find(|unit| unit.number == number).expect("a unit of the book");
+                sum(unit.region, &unit_deviations(unit))
+            }
+            Name::Residual => set.iter().map(|&region| sum(region, &views[region].residual_deviations)).sum(),
+        };
+        let performance = line.member.payment_performance;
+        hold(performance == expected, || {
+            format!("performance {performance}, over the kept points {expected}")
+        })?;
     }
     Ok(())
 }
@@ -168,9 +221,13 @@ pub fn split_unit(unit: &Unit, part: i128) -> (Unit, Unit) {
     (one, other)
 }
 
-/// Whether the performances of a book stay when one unit is drawn as two.
+/// Whether deviations at all points, and performances, which are over the kept ones, stay when one unit is drawn as
+/// two.
 fn split_keeps(book: &Book, all: &[Settled], place: usize, part: i128) -> Held {
     let (one, other) = split_unit(&book.units[place], part);
+    let [whole, first, second] = [&book.units[place], &one, &other].map(unit_deviations);
+    let adds_up = (0..POINTS).all(|point| first[point] + second[point] == whole[point]);
+    hold(adds_up, || format!("split of unit {} moves deviations", book.units[place].number))?;
     let mut drawn = book.clone();
     drawn.units.splice(place..=place, [one, other]);
     let after = settle_book(&drawn).map_err(|refusal| format!("split book refused {}", refusal.0))?;
@@ -199,12 +256,15 @@ pub fn splits_close(book: &Book, all: &[Settled], turn: usize) -> Held {
 
 /// Every invariant of one settled book.
 pub fn check(book: &Book, all: &[Settled]) -> Held {
-    regions_close(book)?;
+    let views = region_views(book);
+    regions_close(book, &views)?;
     for (requirement, settled) in book.requirements.iter().zip(all) {
         let named = |what: String| format!("requirement {}: {what}", requirement.number);
         hold(settled.used_pool + settled.unused_pool == requirement.cost, || {
             named("used and unused pool are not the cost".to_string())
         })?;
+        let set: Vec<usize> = (0..REGIONS).filter(|&region| requirement.includes(region)).collect();
+        performances_are_over_the_kept(book, &views, settled, &set).map_err(named)?;
         shares_close(settled).map_err(named)?;
         payments_close(settled).map_err(named)?;
         signs_hold(settled).map_err(named)?;

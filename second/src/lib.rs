@@ -7,6 +7,7 @@
 pub mod quantities;
 pub mod book;
 pub mod measure;
+pub mod dropped;
 pub mod reliability;
 pub mod deviation;
 pub mod performance;
@@ -23,8 +24,10 @@ pub mod rules;
 
 pub mod write;
 pub mod describe;
+pub mod table_15;
 pub mod worked;
 pub mod chance;
+pub mod swings;
 pub mod unequal;
 pub mod make;
 pub mod bench;

@@ -2,16 +2,19 @@
 //! is about; `mixed` draws every trait anew.
 
 use crate::book::*;
+use crate::cents::settle_book;
 use crate::chance::Chance;
 use crate::measure::next_measure;
 use crate::quantities::*;
-use crate::unequal;
+use crate::rules::dropping_tells;
+use crate::swings::{self, Swings};
+use crate::unequal::{self, Kind};
 use crate::write::*;
 
 /// Sizes that are no round numbers, and the limits around 512.
 pub const ROSTERS: [usize; 10] = [0, 1, 5, 7, 13, 76, 477, 509, 511, 512];
 
-pub const CLASSES: [(&str, &str); 16] = [
+pub const CLASSES: [(&str, &str); 21] = [
     ("plain", "walking frequencies, readings near the trajectory, few bad units"),
     ("limits", "every field at or next to one of its limits"),
     ("badpoints", "bad frequency points around the limit, bad readings first, last, all"),
@@ -28,10 +31,24 @@ pub const CLASSES: [(&str, &str); 16] = [
     ("mixed", "every trait drawn anew for each record"),
     ("unequal", "equal remainders of different weights, live members and a few bad units"),
     ("standins", "equal remainders of different weights, members that stand on their defaults"),
+    ("swings", "frequencies that swing across the band while the measure lags: dropped points"),
+    ("band", "frequencies at and next to both edges of the band, FM 0, 1 and -1 outside it"),
+    ("runs", "long runs of dropped points, up to all 75, with bad points among them"),
+    ("patchy", "dropped points in some regions, none in the others"),
+    ("keptties", "equal remainders of different weights over the kept points"),
 ];
 
 /// The classes of books in which the rule of the share and the one before request R-9 mostly differ.
-pub const UNEQUAL: [&str; 2] = ["unequal", "standins"];
+pub const UNEQUAL: [&str; 3] = ["unequal", "standins", "keptties"];
+
+/// The classes of books in which performance and the one before request R-3 mostly differ.
+pub const DROPPING: [&str; 5] = ["swings", "band", "runs", "patchy", "keptties"];
+
+/// The classes that are made for neither.
+pub fn others() -> Vec<&'static str> {
+    let made_for = |class: &&str| UNEQUAL.contains(class) || DROPPING.contains(class);
+    CLASSES.iter().map(|(class, _)| *class).filter(|class| !made_for(class)).collect()
+}
 
 /// How many books of a seed there were when seeds were first drawn: a class more renames none of them.
 const BOOKS_OF_A_SEED: u64 = 14;
@@ -45,11 +62,13 @@ enum Frequencies {
     Kick,
     Limits,
     Raw,
+    Swing(Swings),
 }
 
 #[derive(Clone, Copy)]
 enum Quality {
     Good,
+    WithinLimit,
     AroundLimit,
     Any,
 }
@@ -216,6 +235,41 @@ fn traits_of(class: &str) -> Option<Traits> {
             frequencies: vec![Frequencies::Walk, Frequencies::Constant],
             ..base
         },
+        "swings" => Traits {
+            smoothings: vec![100, 500, 1_000, 2_222, 2_222, 3_333],
+            frequencies: vec![Frequencies::Swing(Swings::Wave)],
+            separation_one_in: 1_000,
+            ..base
+        },
+        "band" => Traits {
+            smoothings: vec![10, 100, 500, 1_000, 2_222, 5_000],
+            frequencies: vec![Frequencies::Swing(Swings::Band)],
+            quality: vec![Quality::Good, Quality::WithinLimit],
+            separation_one_in: 1_000,
+            ..base
+        },
+        "runs" => Traits {
+            smoothings: vec![1, 10, 50, 100, 500, 1_000],
+            frequencies: vec![Frequencies::Swing(Swings::Run)],
+            quality: vec![Quality::Good, Quality::WithinLimit, Quality::WithinLimit, Quality::AroundLimit],
+            separation_one_in: 1_000,
+            ..base
+        },
+        "patchy" => Traits {
+            smoothings: vec![100, 500, 1_000, 2_222],
+            frequencies: vec![
+                Frequencies::Swing(Swings::Wave),
+                Frequencies::Swing(Swings::Run),
+                Frequencies::Swing(Swings::Calm),
+                Frequencies::Swing(Swings::Calm),
+                Frequencies::Swing(Swings::Calm),
+            ],
+            quality: vec![Quality::Good, Quality::Good, Quality::WithinLimit],
+            bad_units: vec![BadUnits::None, BadUnits::Few, BadUnits::WholeRegions],
+            percents: vec![100, 50, 20],
+            separation_one_in: 1_000,
+            ..base
+        },
         "halves" => Traits {
             smoothings: vec![5_000, 2_500, 1, 3_333, 9_999, 7_500, 1_250],
             frequencies: vec![Frequencies::Kick],
@@ -321,6 +375,7 @@ fn spoil(chance: &mut Chance, good: &mut [bool; POINTS], bad: usize) {
 fn draw_quality(chance: &mut Chance, style: Quality, limit: i128) -> [bool; POINTS] {
     let bad = match style {
         Quality::Good => 0,
+        Quality::WithinLimit => chance.between(0, limit.min(15)),
         Quality::AroundLimit => (limit + chance.between(-1, 1)).clamp(0, POINTS as i128),
         Quality::Any => chance.between(0, POINTS as i128),
     };
@@ -376,7 +431,7 @@ fn extreme_measures(chance: &mut Chance) -> [i128; POINTS] {
 }
 
 /// The frequency that brings the measure to its target, as near as the limits let it.
-fn steer(smoothing: i128, before: i128, target: i128) -> i128 {
+pub fn steer(smoothing: i128, before: i128, target: i128) -> i128 {
     let need = nearest(10_000 * target - (10_000 - smoothing) * before, smoothing);
     FREQUENCY_NOMINAL - need.clamp(-MEASURE_LIMIT, MEASURE_LIMIT)
 }
@@ -401,12 +456,15 @@ fn at_good_points(good: &[bool; POINTS], mut draw: impl FnMut(usize) -> i128) ->
 }
 
 fn draw_frequencies(chance: &mut Chance, style: Frequencies, smoothing: i128, record: &mut FrequencyRecord) {
+    if let Frequencies::Swing(style) = style {
+        return swings::draw(chance, style, smoothing, record);
+    }
     let targets = match style {
         Frequencies::Walk => Some(walking_measures(chance)),
         Frequencies::Edge => Some(edge_measures(chance)),
         Frequencies::Constant => Some(constant_measures(chance)),
         Frequencies::Extreme => Some(extreme_measures(chance)),
-        Frequencies::Kick | Frequencies::Limits | Frequencies::Raw => None,
+        Frequencies::Kick | Frequencies::Limits | Frequencies::Raw | Frequencies::Swing(_) => None,
     };
     let near = targets.map_or(0, |targets| targets[0]);
     let drawn = chance.between(-MEASURE_LIMIT, MEASURE_LIMIT);
@@ -663,12 +721,25 @@ fn drawn_book(chance: &mut Chance, traits: &Traits, roster: usize) -> Book {
     Book { settings, frequencies, units, requirements }
 }
 
-fn unequal_book(chance: &mut Chance, live: bool, roster: usize) -> Book {
+/// The book that traits are drawn for, a few times if need be until its dropped points show; without units they never do.
+fn dropping_book(chance: &mut Chance, traits: &Traits, roster: usize) -> Book {
+    let mut book = drawn_book(chance, traits, roster);
+    for _ in 0..3 {
+        let settled = settle_book(&book).expect("a made book");
+        if roster == 0 || dropping_tells(&book, &settled) {
+            break;
+        }
+        book = drawn_book(chance, traits, roster);
+    }
+    book
+}
+
+fn unequal_book(chance: &mut Chance, kind: Kind, roster: usize) -> Book {
     let drawn = chance.between(1, 32) as usize;
     let count = if roster > 100 { chance.pick(&[1, 2, 3]) } else { chance.pick(&[1, 2, 3, 4, drawn]) };
     let units = rising_numbers(chance, roster);
     let requirements = rising_numbers(chance, count);
-    unequal::book(chance, live, &units, &requirements)
+    unequal::book(chance, kind, &units, &requirements)
 }
 
 /// The book of a seed and a class; without a roster the seed picks one.
@@ -678,8 +749,10 @@ pub fn make(seed: u64, class: &str, roster: Option<usize>) -> Option<Book> {
     let chance = &mut chance;
     let roster = roster.unwrap_or_else(|| chance.pick(&ROSTERS));
     Some(match class {
-        "unequal" => unequal_book(chance, true, roster),
-        "standins" => unequal_book(chance, false, roster),
+        "unequal" => unequal_book(chance, Kind::Live, roster),
+        "standins" => unequal_book(chance, Kind::StandingIn, roster),
+        "keptties" => unequal_book(chance, Kind::LiveOverKept, roster),
+        _ if DROPPING.contains(&class) => dropping_book(chance, &traits_of(class)?, roster),
         _ => drawn_book(chance, &traits_of(class)?, roster),
     })
 }

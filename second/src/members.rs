@@ -31,7 +31,7 @@ fn live_or(standing: Standing, live: i128, default: i128) -> i128 {
 /// A unit as a member, live or by its defaults.
 pub fn unit_member(direction: Direction, unit: &Unit, view: &RegionView) -> Member {
     let standing = view.unit_standing(direction, unit);
-    let live = performance(direction, &view.measures, &unit_deviations(unit));
+    let live = view.performance(direction, &unit_deviations(unit));
     Member {
         name: Name::Unit(unit.number),
         standing,
@@ -46,7 +46,7 @@ pub fn region_residual(direction: Direction, book: &Book, views: &[RegionView], 
     let view = &views[region];
     let defaults = &book.frequencies[region].defaults;
     let standing = view.residual_standing(direction);
-    let live = performance(direction, &view.measures, &view.residual_deviations);
+    let live = view.performance(direction, &view.residual_deviations);
     Member {
         name: Name::Residual,
         standing,

@@ -1,12 +1,17 @@
-//! Where the rule of the share and the one before request R-9 differ: a settled requirement with its left-overs
-//! placed by the rule before, and the shares in which that is another answer.
+//! Where the rules and those before a request differ. The share and the one before request R-9: a settled
+//! requirement with its left-overs placed by the rule before, and the shares in which that is another answer. The
+//! performance and the one before request R-3: a book settled with no point dropped, and the performances with and
+//! without the dropped points.
 
 use std::collections::BTreeSet;
 use std::fmt::Write;
 
-use crate::book::Book;
-use crate::cents::{negative_weights, positive_weights, settle_book, Line, Settled};
+use crate::book::{Book, Refusal, Unit};
+use crate::cents::{negative_weights, positive_weights, settle_book, settle_by_views, Line, Settled};
+use crate::describe::series;
+use crate::deviation::unit_deviations;
 use crate::listing::name_of;
+use crate::performance::{performance_over_all, region_views, RegionView, Standing};
 use crate::quantities::*;
 use crate::share::{share, share_earlier_first};
 
@@ -96,4 +101,65 @@ pub fn in_words(book: &Book) -> String {
         }
     }
     out
+}
+
+/// The same book as it was settled before request R-3: no point is dropped.
+pub fn over_all_points(book: &Book) -> Result<Vec<Settled>, Refusal> {
+    let mut views = region_views(book);
+    views.iter_mut().for_each(|view| view.dropped = [false; POINTS]);
+    settle_by_views(book, &views)
+}
+
+/// How many points of a book's regions are dropped.
+pub fn dropped_in(book: &Book) -> usize {
+    region_views(book).iter().map(|view| view.dropped.iter().filter(|&&dropped| dropped).count()).sum()
+}
+
+/// Whether the dropped points move a figure of the book's listing.
+pub fn dropping_tells(book: &Book, settled: &[Settled]) -> bool {
+    dropped_in(book) > 0 && over_all_points(book).as_deref() != Ok(settled)
+}
+
+/// A live party's performance over the kept points and over all of them.
+fn performances_in_words(
+    name: &str,
+    direction: Direction,
+    view: &RegionView,
+    deviations: &[i128; POINTS],
+) -> String {
+    let kept = view.performance(direction, deviations);
+    let all = performance_over_all(direction, &view.measures, deviations);
+    format!("  {name}, {}: {kept}, over all 75 points {all}\n", direction.word())
+}
+
+/// One region's measures, its dropped points, and the performances of all that is live in it.
+fn region_in_words(book: &Book, region: usize, view: &RegionView) -> String {
+    let mut out = format!("region {region}: FM {}\n", series(&view.measures));
+    for point in (0..POINTS).filter(|&point| view.dropped[point]) {
+        let frequency = book.frequencies[region].frequencies[point];
+        writeln!(out, "  dropped t {}: frequency {frequency}, FM {}", point + 1, view.measures[point])
+            .unwrap();
+    }
+    for direction in Direction::BOTH {
+        let of_region = |unit: &&Unit| unit.region == region;
+        for unit in book.units.iter().filter(of_region) {
+            if view.unit_standing(direction, unit) == Standing::Live {
+                let name = format!("unit {}", unit.number);
+                out += &performances_in_words(&name, direction, view, &unit_deviations(unit));
+            }
+        }
+        if view.residual_standing(direction) == Standing::Live {
+            out += &performances_in_words("residual", direction, view, &view.residual_deviations);
+        }
+    }
+    out
+}
+
+/// The regions of a book that have dropped points; empty where there are none.
+pub fn dropped_in_words(book: &Book) -> String {
+    let views = region_views(book);
+    (0..REGIONS)
+        .filter(|&region| views[region].dropped != [false; POINTS])
+        .map(|region| region_in_words(book, region, &views[region]))
+        .collect()
 }

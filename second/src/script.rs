@@ -385,6 +385,12 @@ impl<W: Write> Script<W> {
         others.map(|region| sums[SUMS_OF_A_REGION * region + place % SUMS_OF_A_REGION].abs()).sum()
     }
 
+    /// A measure at or next to a limit: of FM, and of dropped points.
+    fn measure_off(&mut self) -> i128 {
+        let limits = [-MEASURE_LIMIT, MEASURE_LIMIT, LENT_MEASURE_HIGHEST, DROPPED];
+        self.chance.pick(&limits) + self.chance.between(-1, 1)
+    }
+
     /// The largest size that a lent number may have.
     fn limit_of(&mut self, name: &str, place: usize) -> i128 {
         let tally = Tally::from_words(&self.tally_words());
@@ -410,6 +416,9 @@ impl<W: Write> Script<W> {
 
     /// A number at its limit, one over it, or of any kind.
     fn number_off(&mut self, name: &str, place: usize) -> i128 {
+        if name == "measures" && !self.chance.one_in(4) {
+            return self.measure_off();
+        }
         let limit = self.limit_of(name, place);
         let any = self.any_number(name);
         let off = self.chance.pick(&[limit, -limit, limit + 1, -limit - 1, any, 1, -1]);
@@ -499,8 +508,13 @@ impl<W: Write> Script<W> {
     /// Lent numbers within their limits, in every list that a call reads.
     fn likely_numbers(&mut self, made: &Made, tally: &Tally) {
         let measure_reach = self.chance.pick(&[20_000, 20_000, MEASURE_LIMIT]);
-        let measures: Vec<i128> =
-            (0..SERIES).map(|_| self.chance.between(-measure_reach, measure_reach)).collect();
+        let dropped_one_in = self.chance.pick(&[1, 2, 5, 20, 1_000]);
+        let measures: Vec<i128> = (0..SERIES)
+            .map(|_| {
+                let measure = self.chance.between(-measure_reach, measure_reach);
+                lent_measure(measure, self.chance.one_in(dropped_one_in))
+            })
+            .collect();
         self.put("measures", 0, &measures);
         let mut most = [0; 2];
         for side in &mut most {
@@ -586,6 +600,7 @@ impl<W: Write> Script<W> {
         let records = 6 + UNITS_LIMIT + self.chance.between(0, 1);
         self.put("tally", 0, &[UNITS_LIMIT, 1, records, 0, 10_000, 75, 100, interval]);
         let measure = self.chance.pick(&[MEASURE_LIMIT, -MEASURE_LIMIT]);
+        let measure = lent_measure(measure, self.chance.one_in(3));
         self.say(format!("list measures {SERIES} {measure}"));
         let both = self.chance.pick(&[1, -1]);
         let most = DEVIATION_LIMIT * UNITS_LIMIT / REGIONS as i128;

@@ -7,12 +7,12 @@
 use crate::book::*;
 use crate::cents::{negative_weights, payment_pool, positive_weights, settle_book};
 use crate::chance::Chance;
-use crate::measure::measures;
 use crate::members::members;
 use crate::performance::{region_views, RegionView};
 use crate::quantities::*;
 use crate::rcr::rcr;
 use crate::rules::{differ, shares_of};
+use crate::swings::{self, Swings};
 use crate::write::*;
 
 /// How often something is drawn anew before it is left as it came.
@@ -278,6 +278,30 @@ fn draw_regions(chance: &mut Chance, book: &mut Book) {
     }
 }
 
+/// One series for all regions, with dropped points and a worth in both directions, if a few draws bring that about.
+fn draw_dropping_regions(chance: &mut Chance, book: &mut Book) {
+    book.settings.bad_frequency_limit = 20;
+    for _ in 0..DRAWS {
+        book.settings.smoothing = chance.pick(&[100, 500, 1_000, 2_222, 2_222]);
+        let mut series = base_frequency(0);
+        for _ in 0..chance.pick(&[0, 0, 3, 20]) {
+            series.good[chance.place(POINTS)] = false;
+        }
+        let style = chance.pick(&[Swings::Wave, Swings::Wave, Swings::Band, Swings::Run]);
+        swings::draw(chance, style, book.settings.smoothing, &mut series);
+        for region in 0..REGIONS {
+            let generation = chance.between(1, GENERATION_LIMIT);
+            let separation = chance.one_in(40);
+            book.frequencies[region] = FrequencyRecord { region, generation, separation, ..series.clone() };
+        }
+        let view = &region_views(book)[0];
+        let useful = view.dropped != [false; POINTS] && worth_of_a_step(book).iter().all(|&worth| worth > 0);
+        if useful && view.reliable_raise && view.reliable_lower {
+            break;
+        }
+    }
+}
+
 /// Units on their trajectories, with their numbers, in one to five regions.
 fn draw_units(chance: &mut Chance, numbers: &[i128]) -> Vec<Unit> {
     let mut regions: Vec<usize> = (0..REGIONS).collect();
@@ -309,9 +333,10 @@ fn move_off(chance: &mut Chance, unit: &mut Unit, off: i128) {
 
 /// What one cMW off the trajectory, all through the interval, comes to in each direction.
 fn worth_of_a_step(book: &Book) -> [i128; 2] {
-    let measures = measures(book.settings.smoothing, &book.frequencies[0]);
-    let above: i128 = measures.iter().map(|measure| measure.max(&0)).sum();
-    let below: i128 = measures.iter().map(|measure| -measure.min(&0)).sum();
+    let view = &region_views(book)[0];
+    let kept = || (0..POINTS).filter(|&point| !view.dropped[point]).map(|point| view.measures[point]);
+    let above: i128 = kept().map(|measure| measure.max(0)).sum();
+    let below: i128 = kept().map(|measure| -measure.min(0)).sum();
     [75 * above, 75 * below]
 }
 
@@ -427,13 +452,24 @@ fn standing_in_book(chance: &mut Chance, book: &mut Book) -> [i128; 3] {
     [fit.modulus, fit.modulus, unused]
 }
 
-fn draw_book(chance: &mut Chance, live: bool, units: &[i128], requirements: &[i128]) -> Book {
+/// Whose weights tie: those of live members, also over kept points alone, or of members that stand on their defaults.
+#[derive(Clone, Copy, Debug, PartialEq, Eq)]
+pub enum Kind {
+    Live,
+    LiveOverKept,
+    StandingIn,
+}
+
+fn draw_book(chance: &mut Chance, kind: Kind, units: &[i128], requirements: &[i128]) -> Book {
     let mut book = base_book();
     book.settings.interval = chance.between(0, 4_294_967_295);
     book.settings.bad_unit_percent = chance.pick(&[100, 100, 50, 25, 20]);
-    draw_regions(chance, &mut book);
+    match kind {
+        Kind::LiveOverKept => draw_dropping_regions(chance, &mut book),
+        Kind::Live | Kind::StandingIn => draw_regions(chance, &mut book),
+    }
     book.units = draw_units(chance, units);
-    let moduli = if live && !book.units.is_empty() {
+    let moduli = if kind != Kind::StandingIn && !book.units.is_empty() {
         live_book(chance, &mut book)
     } else {
         standing_in_book(chance, &mut book)
@@ -442,16 +478,15 @@ fn draw_book(chance: &mut Chance, live: bool, units: &[i128], requirements: &[i1
     book
 }
 
-/// A book of live members, or one of members that stand on their defaults, with the numbers of its units and of its
-/// requirements. It is drawn a few times if need be, until the rules differ about it; a residual alone ties with nobody.
-pub fn book(chance: &mut Chance, live: bool, units: &[i128], requirements: &[i128]) -> Book {
-    let mut book = draw_book(chance, live, units, requirements);
+/// A book of this kind with the numbers of its units and of its requirements. It is drawn a few times if need be, until the rules differ about it; a residual alone ties with nobody.
+pub fn book(chance: &mut Chance, kind: Kind, units: &[i128], requirements: &[i128]) -> Book {
+    let mut book = draw_book(chance, kind, units, requirements);
     for _ in 0..4 {
         let settled = settle_book(&book).expect("a made book");
         if units.is_empty() || !shares_of(&settled).is_empty() {
             break;
         }
-        book = draw_book(chance, live, units, requirements);
+        book = draw_book(chance, kind, units, requirements);
     }
     book
 }

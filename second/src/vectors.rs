@@ -94,24 +94,56 @@ fn both_directions(region_set: u8) -> Vec<Requirement> {
     vec![base_requirement(1, region_set, Direction::Raise), base_requirement(2, region_set, Direction::Lower)]
 }
 
-/// Source document 000, table 15: region SA1, one probe for each point.
+/// Whether table 15's own columns, in Hz, say that a point is dropped: deviation and measure have one sign, and the
+/// deviation is more than 0.015 either way.
+fn published_as_dropped(row: &[String]) -> bool {
+    let (away, measure) = (decimal(&row[1], 5), decimal(&row[3], 5));
+    away.signum() * measure.signum() == 1 && away.abs() > 1_500
+}
+
+fn published_dropped_points(rows: &[Vec<String>]) -> Vec<usize> {
+    (0..rows.len()).filter(|&point| published_as_dropped(&rows[point])).collect()
+}
+
+/// Source document 000, table 15: region SA1, one probe for each point. A dropped point shows nothing; its measure
+/// is shown by the point after it, in a region of its own whose frequencies are bad from there on.
 fn frequency_measure(dir: &Path) -> Vector {
+    let rows = rows(dir, "frequency_measure.txt");
     let mut book = base_book();
     book.settings.smoothing = 2_222;
+    book.settings.bad_frequency_limit = 75;
     let record = &mut book.frequencies[3];
-    for (point, row) in rows(dir, "frequency_measure.txt").iter().enumerate() {
+    for (point, row) in rows.iter().enumerate() {
         record.frequencies[point] = FREQUENCY_NOMINAL + decimal(&row[1], 6);
     }
     record.good[0] = false;
     record.frequencies[0] = 0;
+    let whole = record.clone();
     book.units = (1..=POINTS).map(|t| probe(t as i128, 3, t)).collect();
-    book.requirements = both_directions(1 << 3);
+    let dropped = published_dropped_points(&rows);
+    assert_eq!(dropped.len(), 3, "a region for each dropped point");
+    for (region, point) in dropped.into_iter().enumerate() {
+        book.frequencies[region] = FrequencyRecord { region, ..whole.clone() };
+        book.frequencies[region].good[point + 1..].fill(false);
+        book.frequencies[region].frequencies[point + 1..].fill(0);
+        book.units.push(probe((POINTS + 1 + region) as i128, region, point + 2));
+    }
+    book.requirements = both_directions(0b01111);
     Vector { name: "frequency_measure", book, check: check_frequency_measure }
 }
 
 fn check_frequency_measure(dir: &Path, printed: &[Printed]) -> Result<(), String> {
-    for (point, row) in rows(dir, "frequency_measure.txt").iter().enumerate() {
-        let measure = probed(printed[0].members[point].0, printed[1].members[point].0)?;
+    let rows = rows(dir, "frequency_measure.txt");
+    let dropped = published_dropped_points(&rows);
+    for (point, row) in rows.iter().enumerate() {
+        let shown = |member: usize| probed(printed[0].members[member].0, printed[1].members[member].0);
+        let measure = match dropped.iter().position(|&one| one == point) {
+            Some(nth) => {
+                near(&format!("{} is dropped", row[0]), shown(point)?, 0, 0)?;
+                shown(POINTS + nth)?
+            }
+            None => shown(point)?,
+        };
         near(&row[0], measure, decimal(&row[3], 6), 5)?;
         let longer = decimal(&row[4], 12) + decimal(&row[5], 12);
         near(&row[0], measure * 1_000_000, longer, 2_000_000)?;
@@ -127,9 +159,10 @@ fn steps_of(dir: &Path, region: usize) -> Vec<Vec<String>> {
     all.into_iter().filter(|row| row[1] == PUBLISHED_REGIONS[region]).collect()
 }
 
-/// Source document 004, table 4: one step in each region. All later points are bad
-/// and keep the measure, but for TAS1, whose measure is too small to be reliable on
-/// its own and is therefore sent below -10,000 afterwards.
+/// Source document 004, table 4: one step in each region. All later points are bad and keep the measure, but for TAS1,
+/// whose measure is too small to be reliable on its own and is therefore sent below -10,000 from the third point on.
+/// A probe shows the step, another the bad point after it: TAS1's step is dropped, since its published frequency is
+/// below the band while its measure is below 0.
 fn one_step_measure(dir: &Path) -> Vector {
     let mut book = base_book();
     book.settings.smoothing = 2_222;
@@ -138,15 +171,17 @@ fn one_step_measure(dir: &Path) -> Vector {
         let steps = steps_of(dir, region);
         let record = &mut book.frequencies[region];
         record.measure_before = decimal(&steps[0][3], 6);
+        record.good = [false; POINTS];
+        record.frequencies = [0; POINTS];
         if name == "TAS1" {
-            record.frequencies = [50_100_000; POINTS];
-        } else {
-            record.good = [false; POINTS];
-            record.frequencies = [0; POINTS];
+            record.good[2..].fill(true);
+            record.frequencies[2..].fill(50_100_000);
         }
         record.good[0] = true;
         record.frequencies[0] = decimal(&steps[1][2], 6);
-        book.units.push(probe(region as i128, region, 1));
+        for t in [1, 2] {
+            book.units.push(probe((2 * region + t) as i128, region, t));
+        }
     }
     book.requirements =
         vec![base_requirement(1, 0b01111, Direction::Raise), base_requirement(2, 0b10000, Direction::Lower)];
@@ -154,13 +189,13 @@ fn one_step_measure(dir: &Path) -> Vector {
 }
 
 fn check_one_step_measure(dir: &Path, printed: &[Printed]) -> Result<(), String> {
-    for region in 0..REGIONS {
-        let measure = match region {
-            4 => probed(0, printed[1].members[0].0)?,
-            _ => probed(printed[0].members[region].0, 0)?,
-        };
+    for (region, name) in PUBLISHED_REGIONS.into_iter().enumerate() {
+        let members = if name == "TAS1" { &printed[1].members } else { &printed[0].members[2 * region..] };
+        let (step, after) = (probed(members[0].0, 0)?, probed(members[1].0, 0)?);
         let published = &steps_of(dir, region)[1];
-        near(&published[1], measure, decimal(&published[3], 6), 1)?;
+        near(&published[1], after, decimal(&published[3], 6), 1)?;
+        let shown = if name == "TAS1" { 0 } else { after };
+        near(&format!("{name}, its step"), step, shown, 0)?;
     }
     Ok(())
 }

@@ -3,7 +3,7 @@
 use crate::book::*;
 use crate::quantities::*;
 use crate::write::*;
-use crate::{describe, listing, rules};
+use crate::{describe, listing, rules, table_15};
 
 /// A worked book: its name, what it shows, the book, and the bytes that follow its last body.
 pub struct Worked {
@@ -18,7 +18,8 @@ impl Worked {
         [&to_bytes(&self.book), self.behind].concat()
     }
 
-    /// The book in words, and what the rule of the share before request R-9 would have listed otherwise.
+    /// The book in words, its dropped points with what they are left out of, and what the rule of the share before
+    /// request R-9 would have listed otherwise.
     pub fn text(&self) -> String {
         let mut text = format!(
             "{}\n\n{}\n\n{}\n{}{}\n({} bytes)\n",
@@ -29,6 +30,11 @@ impl Worked {
             describe::behind(self.behind),
             self.bytes().len()
         );
+        let dropped = rules::dropped_in_words(&self.book);
+        if !dropped.is_empty() {
+            text.push_str("\nDropped points, and performances over the kept ones (request R-3):\n");
+            text.push_str(&dropped);
+        }
         let before = rules::in_words(&self.book);
         let refused = listing::settle(&self.bytes()).starts_with("refused");
         if !before.is_empty() && !refused {
@@ -563,6 +569,104 @@ fn larger_first() -> Book {
     book
 }
 
+/// A region all of whose points are good: these frequencies from t = 1 on, then 50 Hz.
+fn good_from_the_first(book: &mut Book, region: usize, frequencies: &[i128]) {
+    book.frequencies[region].frequencies[..frequencies.len()].copy_from_slice(frequencies);
+}
+
+/// Both sides of both edges of the band; a 1,000, so that FM outlives a frequency on its own side.
+fn dropped_edges() -> Book {
+    let mut book = base_book();
+    book.settings.smoothing = 1_000;
+    book.settings.interval = 112;
+    let raise = [
+        50_015_000, 50_015_001, 0, 0, 50_015_001, 49_984_999, 50_015_000, 49_985_000, 50_081_269, 49_800_000,
+        50_180_009,
+    ];
+    let lower = [
+        50_200_000, 49_985_000, 49_984_999, 0, 0, 49_984_999, 50_015_001, 49_985_000, 50_015_000, 49_918_731,
+        50_200_000, 49_819_991,
+    ];
+    good_from_the_first(&mut book, 0, &[&raise[..], &lower].concat());
+    let record = &mut book.frequencies[0];
+    spoil(&mut record.good, &mut record.frequencies, 3, 4);
+    spoil(&mut record.good, &mut record.frequencies, 15, 16);
+    record.measure_before = 20_000;
+    record.generation = 30_000;
+    record.defaults = [0, 0, -5, 0, 0, -9];
+    let agreeing = [&[49_800_000][..], &[49_980_000; 7], &[50_380_000], &[50_020_000; 7], &[49_820_000]];
+    good_from_the_first(&mut book, 1, &agreeing.concat());
+    book.frequencies[1].generation = 10_000;
+    book.units = vec![
+        with_defaults(unit(1, 0, false, 1_001, 1_013, |t| 1_041 - 6 * t), [0, 0, -3, 0, 0, -1]),
+        with_defaults(unit(2, 0, true, 503, 491, |t| 497 + 2 * t), [0, 0, -1, 0, 0, -4]),
+        with_defaults(unit(3, 1, false, -7, 5, |t| 2 * t - 21), [0, 0, -2, 0, 0, -2]),
+    ];
+    book.requirements = vec![
+        requirement(1, 0b00011, Direction::Raise, 9_000, 1_001, 7, 3),
+        requirement(2, 0b00011, Direction::Lower, 9_000, 1_001, 7, 5),
+    ];
+    book
+}
+
+/// Dropped points that reliability, RCR and the requirement's sign cannot do without.
+fn dropped_reliability() -> Book {
+    let mut book = base_book();
+    book.settings.smoothing = 5_000;
+    book.settings.interval = 113;
+    let one = [
+        &[49_984_999, 50_007_500][..],
+        &[50_010_000; 8],
+        &[49_900_000, 50_015_001, 49_995_000],
+        &[49_990_000; 4],
+        &[50_010_000],
+    ];
+    good_from_the_first(&mut book, 0, &one.concat());
+    book.frequencies[0].measure_before = -40_001;
+    book.frequencies[0].generation = 30_000;
+    book.frequencies[0].defaults = [-50_000_000, -60_000_000, -1, -70_000_000, -80_000_000, -1];
+    let other = [&[49_960_000][..], &[49_980_000; 9], &[50_060_000], &[50_020_000; 7], &[49_980_000]];
+    good_from_the_first(&mut book, 1, &other.concat());
+    book.frequencies[1].generation = 10_000;
+    let reading = |t: i128| match t {
+        1 => -91,
+        12 => 77,
+        2..=11 => -13,
+        _ => 9,
+    };
+    book.units = vec![
+        with_defaults(
+            unit(1, 0, false, 0, 0, reading),
+            [-10_000_000, -20_000_000, -1, -30_000_000, -40_000_000, -1],
+        ),
+        unit(2, 1, true, 0, 0, |_| 3),
+    ];
+    book.requirements = vec![
+        requirement(1, 0b00011, Direction::Raise, 9_000, 1_001, 7, 3),
+        requirement(2, 0b00011, Direction::Lower, 9_000, 1_001, 7, 5),
+    ];
+    book
+}
+
+/// The market's own frequencies and measures, with four units that no round number fits.
+fn table_15() -> Book {
+    let mut book = table_15::frequencies_book();
+    book.settings.interval = 114;
+    book.frequencies[3].generation = 123_457;
+    book.frequencies[3].defaults = [0, 0, -7, 0, 0, -11];
+    book.units = vec![
+        with_defaults(unit(1, 3, false, 10_007, 10_133, |t| 9_973 + 3 * t), [0, 0, -13, 0, 0, -17]),
+        with_defaults(unit(2, 3, true, 4_999, 4_871, |t| 5_021 - 2 * t), [0, 0, -19, 0, 0, -23]),
+        with_defaults(unit(3, 3, false, 2_503, 2_503, |t| 2_659 - 4 * t), [0, 0, -29, 0, 0, -31]),
+        with_defaults(unit(4, 3, true, -307, 211, |t| 7 * t - 341), [0, 0, -37, 0, 0, -41]),
+    ];
+    book.requirements = vec![
+        regional(3, 1, Direction::Raise, 1_237, 10_007, 1_009, 337),
+        regional(3, 2, Direction::Lower, 2_341, 10_009, 1_013, 719),
+    ];
+    book
+}
+
 /// The same book with a unit whose number is that of the unit before.
 fn number_not_rising() -> Book {
     let mut book = thirteen_units();
@@ -709,6 +813,46 @@ pub fn all() -> Vec<Worked> {
                     Requirements 8, 301 and 9999: a default residual, by a region without a good unit and by\n\
                     an unreliable one. Requirements 7 and 60000: a live one, and a bad unit among live ones.",
             book: thirteen_units(),
+            behind: &[],
+        },
+        Worked {
+            name: "dropped_edges",
+            shows: "Points where measure and frequency disagree. Region 0, FM above 0: t 1 and t 7 are kept at\n\
+                    50015000, t 2 and t 5 dropped at 50015001; t 3 and t 4 between them are bad and kept with the\n\
+                    FM of t 2; t 6 and t 10 are outside the band on the other side and kept, as t 8 is at 49985000;\n\
+                    t 9 is dropped with FM 1; at t 11 FM comes to 0, which is kept. FM below 0: t 12, t 18 and t 22\n\
+                    are outside on the other side and kept, as t 20 is at 50015000; t 13 and t 19 are kept at\n\
+                    49985000, t 14 and t 17 dropped at 49984999; t 15 and t 16 between them are bad and kept; t 21 is\n\
+                    dropped with FM -1; at t 23 FM comes to 0, which is kept. In region 1 all of t 1 to 17 is outside\n\
+                    the band and nothing dropped. Both residuals are live: a region's performances add up to zero.",
+            book: dropped_edges(),
+            behind: &[],
+        },
+        Worked {
+            name: "dropped_reliability",
+            shows: "Dropped points count for reliability and for RCR. Region 0, lower: t 1 is dropped, and no other\n\
+                    point has FM below -10000. Region 0, raise: seven points have FM above 0, and t 12, which is\n\
+                    dropped, is one of them. Region 1 has the other sign at both, but region 0 weighs three times as\n\
+                    much. RCR for raise is that of t 12; it would be 1200 (t 11) without the dropped points, and\n\
+                    7050 (t 1) if region 0 had no FM in the sign there. RCR for lower is that of t 1; likewise it\n\
+                    would be 1200 (t 2) and 5775 (t 12). Unit 1 would help to raise over all points; over the kept\n\
+                    ones it hinders.",
+            book: dropped_reliability(),
+            behind: &[],
+        },
+        Worked {
+            name: "table_15",
+            shows: "Region 3 has the frequencies of source document 000's table 15 (SA1), its measures to the 5 µHz that\n\
+                    tests/vectors tells of, and its first point, which the table gives the measure 0, as a bad one.\n\
+                    Which points are dropped was read from the table's own columns by hand: deviation and measure\n\
+                    have one sign, and the deviation is more than 0.015 Hz either way:\n\
+                    \x20 t 20, 12:04:20 AM, deviation -0.01875, Frequency Measure -0.00343\n\
+                    \x20 t 58, 12:06:52 AM, deviation 0.01550, Frequency Measure 0.00047\n\
+                    \x20 t 68, 12:07:32 AM, deviation -0.02000, Frequency Measure -0.00447\n\
+                    One sign, but a deviation within the band, have t 16, 19, 23, 27, 34, 37, 41, 42, 51, 57, 62 and\n\
+                    75, the farthest of them t 37 with -0.01300: they are kept. At t 70 the deviation is -0.01500, an\n\
+                    edge of the band, but the measure is above 0.",
+            book: table_15(),
             behind: &[],
         },
         Worked {

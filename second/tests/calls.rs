@@ -162,6 +162,108 @@ fn what_a_chain_leaves() {
     assert_eq!(numbers("rows", 16, 1), [77]);
 }
 
+/// The lists over a book whose dropped points were worked by hand (tests/worked).
+fn chain_over(name: &str) -> (Book, Lent) {
+    let book = second::worked::all().into_iter().find(|worked| worked.name == name).expect("a book").book;
+    let mut lent = lent_for(book.units.len());
+    lent.call("contents", &to_bytes(&book));
+    for (kind, bytes) in records_of(&book) {
+        assert_eq!(lent.call(kind, &bytes), 0);
+    }
+    (book, lent)
+}
+
+/// A dropped point's FM is lent with 10,000,001 more; sums have every point, rows the kept ones alone.
+#[test]
+fn dropped_points_are_lent_with_their_measure() {
+    let (_, lent) = chain_over("dropped_edges");
+    let numbers =
+        |name: &str, from: usize, count: usize| lent.list(name).numbers[from..from + count].to_vec();
+    let by_hand = [
+        16_500, 10_013_351, 13_350, 13_350, 10_010_516, 10_964, 8_368, 9_031, 10_000_002, 20_001, 0, -20_000,
+        -16_500, 9_986_651, -13_350, -13_350, 9_989_486, -10_964, -8_368, -9_031, 10_000_000, -20_001, 0,
+    ];
+    assert_eq!(numbers("measures", 0, 23), by_hand);
+    assert_eq!(numbers("measures", 23, 52), [0; 52]);
+    let other = [&[20_000; 8][..], &[-20_000; 8], &[0; 59]].concat();
+    assert_eq!(numbers("measures", 75, 75), other);
+    assert_eq!(numbers("measures", 150, 225), [0; 225]);
+    // t 2 and t 5 are dropped: unit 1 is 3,000 - 462·t away, unit 2 450 - 162·t.
+    assert_eq!(numbers("sums", 1, 1), [2_076 + 126]);
+    assert_eq!([numbers("sums", 4, 1), numbers("sums", 79, 1)], [[690], [-360]]);
+    assert_eq!(numbers("figures", 0, 4), [112, 30_000, 1, 1]);
+    assert_eq!(numbers("rows", 0, 2), [40_657_584, 517_853_232]);
+    assert_eq!(numbers("rows", 8, 2), [-40_860_216, 248_740_632]);
+    let (_, lent) = chain_over("dropped_reliability");
+    assert_eq!(lent.list("measures").numbers[..13], {
+        let mut all = [-10_000; 13];
+        (all[0], all[10], all[11], all[12]) = (9_987_501, 45_000, 10_015_001, 10_000);
+        all
+    });
+    assert_eq!(lent.list("figures").numbers[2..4], [1, 1], "reliable by them");
+}
+
+/// All of a region's lent measures one number: what a unit's row and an answer's RCR make of it, or the refusal.
+#[test]
+fn what_a_lent_measure_says() {
+    let book = second::worked::listing_book();
+    let mut taken = lent_for(2);
+    taken.call("contents", &to_bytes(&book));
+    let records = records_of(&book);
+    for (kind, bytes) in &records[..6] {
+        assert_eq!(taken.call(kind, bytes), 0);
+    }
+    // The number, what it weighs, and whether its FM is above 0.
+    let cases = [
+        (-5_000_000, Some((-5_000_000, false))),
+        (-1, Some((-1, false))),
+        (0, Some((0, false))),
+        (1, Some((1, true))),
+        (5_000_000, Some((5_000_000, true))),
+        (5_000_001, Some((0, false))),
+        (9_980_001, Some((0, false))),
+        (10_000_000, Some((0, false))),
+        (10_000_001, Some((0, false))),
+        (10_000_002, Some((0, true))),
+        (10_020_001, Some((0, true))),
+        (15_000_001, Some((0, true))),
+        (-5_000_001, None),
+        (15_000_002, None),
+        (i32::MIN as i128, None),
+        (i32::MAX as i128, None),
+    ];
+    for (number, said) in cases {
+        let mut lent = taken.clone();
+        let honest = lent.list("measures").numbers[..POINTS].to_vec();
+        lent.put("measures", 0, &[number; POINTS]);
+        let reply = lent.call("unit", &records[6].1);
+        let Some((weight, raises)) = said else {
+            assert_eq!(reply, 11, "{number}");
+            // Read alone, at the last point, by the unit and by the answer.
+            lent.put("measures", 0, &honest);
+            lent.put("measures", POINTS - 1, &[number]);
+            assert_eq!(lent.call("unit", &records[6].1), 11, "{number}");
+            lent.put("measures", 0, &honest);
+            for (kind, bytes) in &records[6..] {
+                assert_eq!(lent.call(kind, bytes), 0);
+            }
+            lent.put("measures", SERIES - 1, &[number]);
+            assert_eq!(lent.call("answer", &records[8].1), 11, "{number}");
+            continue;
+        };
+        assert_eq!(reply, 0, "{number}");
+        // 7,500 away at each of 75 points.
+        let row = [weight.max(0) * 7_500 * 75, weight.min(0) * 7_500 * 75];
+        assert_eq!(lent.list("rows").numbers[..2], row, "{number}");
+        assert_eq!(lent.list("sums").numbers[..POINTS], [7_500; POINTS], "{number}");
+        for (kind, bytes) in &records[7..] {
+            assert_eq!(lent.call(kind, bytes), 0);
+        }
+        assert_eq!(lent.call("answer", &records[8].1), 0, "{number}");
+        assert_eq!(lent.list("reply").numbers[1], if raises { 7_500 } else { 0 }, "RCR of {number}");
+    }
+}
+
 /// A tally stored at every step of a book is good for as long as no frequency record of another book is taken.
 #[test]
 fn a_stored_tally_over_the_next_books_lists() {
@@ -332,6 +434,13 @@ fn every_limit_of_a_lent_number_is_tried_on_both_sides() {
                 assert_met(&met, &format!("{kind}: {what} of any size"), 0);
             }
         }
+        for kind in ["unit", "answer"] {
+            for what in
+                ["the highest kept", "the lowest dropped", "a dropped 0", "a dropped 1", "a dropped -1"]
+            {
+                assert_met(&met, &format!("{kind}: a measure, {what}"), 0);
+            }
+        }
         assert_met(&met, "unit: a measure off, two bytes", 1);
         assert_met(&met, "unit: a measure off, three bytes", 11);
         assert_met(&met, "unit: a measure off, no such region", 8);
@@ -399,6 +508,27 @@ fn a_refusal_changes_nothing_and_each_is_reached() {
         for reply in replies {
             assert!(reached.contains(&format!("{kind} {reply}")), "{kind} {reply} is never reached");
         }
+    }
+}
+
+/// In random calls, too, units and answers meet measures of dropped points, of chains and of no chain.
+#[test]
+fn scripts_have_dropped_points() {
+    let mut lent = Lent::default();
+    let mut met: BTreeMap<String, usize> = BTreeMap::new();
+    for line in script(10_000, 2026).lines() {
+        let measures = lent.list("measures").numbers.clone();
+        let Some(answer) = script_line(&mut lent, line) else {
+            continue;
+        };
+        let reply: Vec<&str> = answer.split(' ').take(2).collect();
+        let dropped = measures.iter().any(|&number| says_dropped(number) && number <= LENT_MEASURE_HIGHEST);
+        if dropped {
+            *met.entry(reply.join(" ")).or_default() += 1;
+        }
+    }
+    for (kind, least) in [("frequency 0", 500), ("unit 0", 300), ("answer 0", 500), ("member 0", 100)] {
+        assert!(met.get(kind).is_some_and(|&calls| calls >= least), "{kind}: {met:?}");
     }
 }
 

@@ -7,8 +7,10 @@ use std::fs;
 use std::path::{Path, PathBuf};
 
 use common::refusal;
-use second::book::{Refusal, Requirement, Unit, CONTENTS_SIZE};
+use second::book::{Book, Refusal, Requirement, Unit, CONTENTS_SIZE};
 use second::cents::{payment_pool, settle_book};
+use second::deviation::unit_deviations;
+use second::performance::{performance_over_all, region_views};
 use second::quantities::{Direction, FACTOR_ONE};
 use second::rules::totals_and_weights;
 use second::share::{share, share_earlier_first};
@@ -102,9 +104,10 @@ fn listings_are_those_of_the_second_program() {
     assert_eq!(seen, names);
 }
 
-/// The worked books that a theorem speaks of: all but those on which `settle` alone is run.
+/// The worked books whose listing is a theorem: all but those on which `settle` alone is run, and the guide's table 15, of which the
+/// theorems say the performances.
 fn stated() -> Vec<&'static str> {
-    const RUN_ALONE: [&str; 3] = ["byte_behind", "number_not_rising", "thirteen_units"];
+    const RUN_ALONE: [&str; 4] = ["byte_behind", "number_not_rising", "table_15", "thirteen_units"];
     worked::all().iter().map(|worked| worked.name).filter(|name| !RUN_ALONE.contains(name)).collect()
 }
 
@@ -127,7 +130,63 @@ fn bytes_are_those_that_the_second_program_is_given() {
         assert_eq!(number(&all[says - 1]), sum_of(&bytes), "{name}");
         seen += 1;
     }
-    assert_eq!(seen, stated().len());
+    assert_eq!(seen, stated().len() + OF_TABLE_15);
+}
+
+/// The guide's table 15 has its bytes and performances told, and no listing.
+const OF_TABLE_15: usize = 1;
+
+fn worked_book(name: &str) -> Book {
+    let worked = worked::all().into_iter().find(|worked| worked.name == name);
+    worked.unwrap_or_else(|| panic!("no worked book {name}")).book
+}
+
+/// The numbers of a list such as `pos 3 ∷ negℤ (pos 4) ∷ []`, or of a plain one, at the end of a statement.
+fn list_at_the_end(statement: &str) -> Vec<i128> {
+    let list = statement.rsplit("≡").next().expect("an equation").split("[]").next().expect("a list");
+    let of = |part: &str| match part.trim().strip_prefix("negℤ (pos ") {
+        Some(digits) => -number(digits.trim_end_matches(')')),
+        None => number(part.trim().trim_start_matches("pos ")),
+    };
+    list.split('∷').filter(|part| !part.trim().is_empty()).map(of).collect()
+}
+
+#[test]
+fn dropped_points_are_those_of_the_second_program() {
+    let text = theorems("books", "DroppedPoints");
+    let mut seen = 0;
+    for part in text.split("dropped-of ").skip(2).filter(|part| part.contains(" ≡ ")) {
+        let (term, list) = part.split_once(" ≡ ").expect("an equation");
+        let (name, region) = term.split_once(' ').expect("a book and a region");
+        if name == "b" {
+            continue;
+        }
+        let view = &region_views(&worked_book(&name.replace('-', "_")))[region.parse::<usize>().expect("a region")];
+        let dropped: Vec<i128> = (1..).zip(view.dropped).filter(|(_, dropped)| *dropped).map(|(t, _)| t).collect();
+        assert_eq!(list_at_the_end(&format!("≡ {}", list.split("[]").next().expect("a list"))), dropped, "{term}");
+        seen += 1;
+    }
+    assert_eq!(seen, 4);
+}
+
+#[test]
+fn performances_of_table_15_are_those_of_the_second_program() {
+    let book = worked_book("table_15");
+    let view = &region_views(&book)[3];
+    let mut series: Vec<_> = book.units.iter().map(unit_deviations).collect();
+    series.push(view.residual_deviations);
+    let mut seen = 0;
+    for (name, statement) in declarations(&theorems("worked", "TableFifteen")) {
+        let direction = if name.starts_with("raise") { Direction::Raise } else { Direction::Lower };
+        let told = |deviations: &_| match name.ends_with("kept") {
+            true => view.performance(direction, deviations),
+            false => performance_over_all(direction, &view.measures, deviations),
+        };
+        let told: Vec<i128> = series.iter().map(told).collect();
+        assert_eq!(list_at_the_end(statement.split("unfolding").next().expect("a statement")), told, "{name}");
+        seen += 1;
+    }
+    assert_eq!(seen, 4);
 }
 
 /// A change of a table: the place, the width and the value of a field.

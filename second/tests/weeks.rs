@@ -276,7 +276,7 @@ fn a_chosen_unit_performs_as_chosen() {
         let measures = region_views(&first)[0].measures;
         let measures = measures.map(|measure| if direction == Direction::Raise { measure } else { -measure });
         let deviations = second::deviation::unit_deviations(&unit);
-        assert_eq!(performance(direction, &measures, &deviations), performance_wanted);
+        assert_eq!(performance(direction, &measures, &[false; POINTS], &deviations), performance_wanted);
         let mut book = base_book();
         book.units.push(unit);
         book.requirements.push(base_requirement(1, 1, direction));

@@ -21,7 +21,7 @@ use Rattle.rules.specs.Bytes.{bit}
 use Rattle.rules.specs.Fields.{sized}
 use Rattle.laws.proofs.LimitsLaws.{size-fits}
 use Rattle.interval.specs.declared.Tally.{Tally}
-use Rattle.interval.specs.Lent.{Lent, series-start, sum-place, of-interval}
+use Rattle.interval.specs.Lent.{Lent, series-start, measure-held, sum-place, of-interval}
 use Rattle.kept.specs.Kept.{figure, generation-of, kept-rcr, kept-reliable}
 use Rattle.kept.specs.Range.{measures-fine, sums-fine, from-0, row-fine, series-fine, figures-fine, rows-fine, kept-fine}
 use Rattle.answer.specs.Asked.{lent, lent-members, asked}
@@ -88,7 +88,7 @@ module _ (t : Tally) (l : Lent) (long : Long (t .units) l) (fine : kept-fine t l
         figures-long = long .figures;
         measures-within =
             λ r p b c.
-            size-fits measure-limit _ (every-at regions (λ r. sized measure-limit (getD (l .measures) (series-start r + p) (pos 0))) (at-point p c .0) r b);
+            size-fits measure-limit _ (every-at regions (λ r. sized measure-limit (measure-held (getD (l .measures) (series-start r + p) (pos 0)))) (at-point p c .0) r b);
         sums-within = sums-there;
         generation-within = generation;
       }
@@ -138,7 +138,7 @@ when-within true h = h
 when-within false h = within-natural (omega arith)
 
 module _ {l : Lent} (h : PointsInRange l) (set p : ℕ) (b : p < points) where
-  pub product-fits : (r : ℕ) → r < regions → SFits w64 (generation-of l r *ℤ getD (l .measures) (series-start r + p) (pos 0))
+  pub product-fits : (r : ℕ) → r < regions → SFits w64 (generation-of l r *ℤ measure-held (getD (l .measures) (series-start r + p) (pos 0)))
   product-fits r q = fits-within tt (within-product (h .generation-within r q) (h .measures-within r p q b))
 
   pub weighed-turn : (r : ℕ) (z x : ℤ) → r < regions → z ≡ sum r (weighed-part set l p) → x ≡ weighed-part set l p r → Turn (weighed-part set l p) r z x

@@ -13,7 +13,7 @@ use Rattle.rules.specs.declared.Direction.the-variants.{Raise, Lower}
 use Rattle.rules.specs.Quantities.{points, regions, most-units, measure-limit, amount-limit}
 use Rattle.rules.specs.Bytes.{bit}
 use Rattle.rules.specs.Book.{toward}
-use Rattle.interval.specs.Lent.{Lent, series-start, series-length, sum-place, sums-length, figures-length}
+use Rattle.interval.specs.Lent.{Lent, series-start, measure-held, series-length, sum-place, sums-length, figures-length}
 use Rattle.kept.specs.Kept.{generation-of, good-of, kept-weighed, kept-response, kept-rcr, kept-reliable}
 use Rattle.answer.specs.Asked.{tally-of, asked}
 use Rattle.answer.specs.Values.{meant}
@@ -38,7 +38,7 @@ few-bad units percent set l = leb (100 * count units (bad-there set l)) (percent
 
 -- ---- the sums at a point
 abbrev pub weighed-part : ℕ → Lent → ℕ → ℕ → ℤ
-weighed-part set l p r = when (bit r set) (generation-of l r *ℤ getD (l .measures) (series-start r + p) (pos 0))
+weighed-part set l p r = when (bit r set) (generation-of l r *ℤ measure-held (getD (l .measures) (series-start r + p) (pos 0)))
 
 abbrev pub sum-part : Direction → ℕ → Lent → ℕ → ℕ → ℤ
 sum-part d set l p r = when (bit r set) (getD (l .sums) (sum-place d r p) (pos 0))
@@ -59,7 +59,7 @@ pub record PointsInRange (l : Lent) : Type 0 where
   pub measures-long : series-length ≤ length (l .measures)
   pub sums-long : sums-length ≤ length (l .sums)
   pub figures-long : figures-length ≤ length (l .figures)
-  pub measures-within : (r p : ℕ) → r < regions → p < points → Within measure-limit (getD (l .measures) (series-start r + p) (pos 0))
+  pub measures-within : (r p : ℕ) → r < regions → p < points → Within measure-limit (measure-held (getD (l .measures) (series-start r + p) (pos 0)))
   pub sums-within : (d : Direction) (r p : ℕ) → r < regions → p < points → Within 7_680_000_000 (getD (l .sums) (sum-place d r p) (pos 0))
   pub generation-within : (r : ℕ) → r < regions → Within amount-limit (generation-of l r)
 

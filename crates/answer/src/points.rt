@@ -16,9 +16,10 @@ use book::POINTS;
 use book::REGIONS;
 use interval::FIGURES_EACH;
 use interval::SUMS_EACH;
+use interval::lent::measure_held;
 use rules::Direction;
 
-// Over the set's regions, at one point: generation times FM, and the sums of positive and of negative deviations.
+// Over the set's regions, at one point: generation times FM, of dropped points too, and the sums of positive and of negative deviations.
 pub(crate) struct Sums {
     pub weighed: i64,
     pub positive: i64,
@@ -55,9 +56,10 @@ fn sums_at(set: u8, t: usize, measures: &[i32], sums: &[i64], figures: &[i64]) -
     while region < REGIONS {
         let start = SUMS_EACH * region;
         let counts = covers(set, region);
+        let measure = measure_held(measures[POINTS * region + t]) as i64;
         weighed += if_counted(
             counts,
-            figures[FIGURES_EACH * region + GENERATION] * (measures[POINTS * region + t] as i64),
+            figures[FIGURES_EACH * region + GENERATION] * measure,
         );
         risen += if_counted(counts, sums[start + t]);
         fallen += if_counted(counts, sums[start + (POINTS + t)]);

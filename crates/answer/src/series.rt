@@ -17,9 +17,10 @@ use interval::SUMS_EACH;
 
 const LEAST_MEASURE: i64 = -5_000_000;
 
-const MOST_MEASURE: i64 = 5_000_000;
+// The limit of FM with the mark of a dropped point.
+const MOST_MEASURE: i64 = 15_000_001;
 
-// The five regions' measures at one point.
+// The five regions' measures at one point: the FM of dropped points stands right above that of kept ones.
 fn measures_within(t: usize, measures: &[i32]) -> bool
     requires { ⌜ (t < 75) × (375 ≤ length (now measures)) ⌝ }
     ensures { λ r. ⌜ r ≡ measures-fine (lent (now (measures .entry)) [] [] [] []) t ⌝ }
@@ -68,7 +69,7 @@ fn point_within(most: u64, t: usize, measures: &[i32], sums: &[i64]) -> bool
     sums_within(most, POINTS + t, sums)
 }
 
-// Are measures within their limit, and sums within 15,000,000 for each unit taken?
+// Is the FM of measures within its limit, and are sums within 15,000,000 for each unit taken?
 pub(crate) fn series_in_range(units: u16, measures: &[i32], sums: &[i64]) -> bool
     requires { ⌜ (375 ≤ length (now measures)) × (750 ≤ length (now sums)) ⌝ }
     ensures { λ r. ⌜ r ≡ series-fine (tally-of units 0 0) (lent (now (measures .entry)) (now (sums .entry)) [] [] []) ⌝ }

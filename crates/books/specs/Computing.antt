@@ -9,9 +9,10 @@ use Rattle.rules.specs.UnitRecord.{unit-in, unit-record}
 use Rattle.rules.specs.RequirementRecord.{requirement-in, requirement-record}
 use Rattle.rules.specs.WholeBook.{frequency-body, unit-body, requirement-body, book}
 use Rattle.rules.specs.Measure.{measure-after}
+use Rattle.rules.specs.Dropped.{dropped-at}
 use Rattle.rules.specs.Reliability.{reliable, reliable-in}
 use Rattle.rules.specs.Deviation.{deviation, good}
-use Rattle.rules.specs.Performance.{performance, unit-performance, residual-performance}
+use Rattle.rules.specs.Performance.{weight, performance, unit-performance, residual-performance}
 use Rattle.rules.specs.Standings.{some-good-or-none}
 use Rattle.rules.specs.Members.{unit-member, residual-member, members}
 use Rattle.rules.specs.Share.{left-over, gets-one, amount, unplaced, share-reply}
@@ -23,8 +24,8 @@ use Rattle.books.specs.Writing.{bytes, concat, bits, regions-bytes, book
 
 unfoldable pub computing : Unit {0}
 unfolding sum sumℕ every largest total totalℕ those numbered little listed contents settings region-in frequency-record unit-in unit-record requirement-in
-    requirement-record frequency-body unit-body requirement-body book measure-after reliable reliable-in deviation good performance unit-performance
-    residual-performance some-good-or-none unit-member residual-member members left-over gets-one amount unplaced share-reply weighed-measure response
-    all-reliable
-    rcr lines-of answered answer text digits words joined answer-lines listing settle bytes concat bits regions-bytes book-bytes
+    requirement-record frequency-body unit-body requirement-body book measure-after dropped-at reliable reliable-in deviation good weight performance
+    unit-performance residual-performance some-good-or-none unit-member residual-member members left-over gets-one amount unplaced share-reply
+    weighed-measure response all-reliable rcr lines-of answered answer text digits words joined answer-lines listing settle bytes concat bits
+    regions-bytes book-bytes
 computing = tt

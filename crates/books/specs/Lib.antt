@@ -7,3 +7,4 @@ pub mod Edges
 pub mod WorkedBooks
 pub mod WorkedAnswers
 pub mod Ties
+pub mod DroppedPoints

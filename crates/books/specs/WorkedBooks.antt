@@ -1,12 +1,14 @@
 -- Further worked books, for what the paper's listing does not use: lower, several regions, each default reason, bad points, a region without units, an
--- unreliable region, generation weights that turn the sign, used over enabled, unplaced amounts, ties, and one with a value of its own in each field. In most
+-- unreliable region, generation weights that turn the sign, used over enabled, unplaced amounts, ties, one with a value of its own in each field, and points
+-- that are dropped from performance. In most
 -- of them few points of a region are good, so that they are computed in little time: between those FM keeps its value. Their figures (`worked`) are the second
 -- program's, which shares nothing with these definitions; tests/worked/ has each book described, as bytes and with its listing.
 use mathlib.Core.Bool.{Bool, true, false, not, cond, _&&_, _||_}
 use mathlib.Core.List.{List, [], _∷_}
 use Prim.Native.Nat.{ℕ, _+_, _*_, _-_}
 use lib.Dec.{eqb, leb}
-use lib.IntN.{ℤ, pos, negℤ, _-ℤ_}
+use lib.IntN.{ℤ, pos, negℤ, _+ℤ_, _-ℤ_, _*ℤ_}
+use lib.ListN.{getD}
 use Rattle.rules.specs.declared.Direction.{Direction}
 use Rattle.rules.specs.declared.Direction.the-variants.{Raise, Lower}
 use Rattle.rules.specs.declared.Kind.{Kind}
@@ -65,6 +67,11 @@ abbrev three-good : ℕ → ByDirection Defaults → ℕ → ℕ → ℕ → ℕ
 three-good generation defaults frequency middle frequency′ last frequency″ =
     region-where (λ t. eqb t 1 || eqb t middle || eqb t last) (λ t. cond (eqb t 1) frequency (cond (eqb t middle) frequency′ frequency″)) (pos 0) generation
     defaults
+
+-- frequencies from t = 1 on, and 50,000,000 past the last of them; a point that holds 0 is bad
+abbrev listed-region : ℤ → ℕ → ByDirection Defaults → List ℕ → Region
+listed-region before generation defaults frequencies =
+    region-where (λ t. not (eqb (getD frequencies (t - 1) 50_000_000) 0)) (λ t. getD frequencies (t - 1) 50_000_000) before generation defaults
 
 abbrev separated : Region → Region
 separated r =
@@ -311,3 +318,61 @@ every-field =
 
     above : ℕ → Region
     above step = three step (λ t. 50_000_000 + away step t) (negℤ (pos (11_111 * step)))
+
+-- ---- points where measure and frequency disagree (02, R-3). Region 0, FM above 0: dropped at t = 2, 5 and 9, kept at an end of the band, on the other side
+-- of it, at bad points and where FM comes to 0; likewise below 0: dropped at t = 14, 17 and 21. In region 1 nothing is dropped
+abbrev pub dropped-edges : Book
+dropped-edges =
+    book (settings 1_000 10 20 112)
+    (listed-region (pos 20_000) 30_000 (minus 0 0 5 0 0 9)
+    (50_015_000 ∷ 50_015_001 ∷ 0 ∷ 0 ∷ 50_015_001 ∷ 49_984_999 ∷ 50_015_000 ∷ 49_985_000 ∷ 50_081_269 ∷ 49_800_000 ∷ 50_180_009 ∷ 50_200_000 ∷
+    49_985_000 ∷ 49_984_999 ∷ 0 ∷ 0 ∷ 49_984_999 ∷ 50_015_001 ∷ 49_985_000 ∷ 50_015_000 ∷ 49_918_731 ∷ 50_200_000 ∷ 49_819_991 ∷ [])
+    ∷ listed-region (pos 0) 10_000 zeros
+    (49_800_000 ∷ 49_980_000 ∷ 49_980_000 ∷ 49_980_000 ∷ 49_980_000 ∷ 49_980_000 ∷ 49_980_000 ∷ 49_980_000 ∷ 50_380_000 ∷ 50_020_000 ∷ 50_020_000 ∷
+    50_020_000 ∷ 50_020_000 ∷ 50_020_000 ∷ 50_020_000 ∷ 50_020_000 ∷ 49_820_000 ∷ [])
+    ∷ quiet ∷ quiet ∷ quiet ∷ [])
+    (unit 1 0 Generation (pos 1_001) (pos 1_013) (minus 0 0 3 0 0 1) (flat true) (series (λ t. pos 1_041 -ℤ pos 6 *ℤ pos t))
+    ∷ unit 2 0 Load (pos 503) (pos 491) (minus 0 0 1 0 0 4) (flat true) (series (λ t. pos 497 +ℤ pos 2 *ℤ pos t))
+    ∷ unit 3 1 Generation (negℤ (pos 7)) (pos 5) (minus 0 0 2 0 0 2) (flat true) (series (λ t. pos 2 *ℤ pos t -ℤ pos 21))
+    ∷ [])
+    (requirement 1 3 Raise 9_000 1_001 7 3 ∷ requirement 2 3 Lower 9_000 1_001 7 5 ∷ [])
+
+-- ---- dropped points count for reliability, for RCR and for the requirement's sign: region 0 is reliable by t = 1 for lower and by t = 12 for raise, and at
+-- these two the response is largest
+abbrev pub dropped-reliability : Book
+dropped-reliability =
+    book (settings 5_000 10 20 113)
+    (listed-region (negℤ (pos 40_001)) 30_000 (minus 50_000_000 60_000_000 1 70_000_000 80_000_000 1)
+    (49_984_999 ∷ 50_007_500 ∷ 50_010_000 ∷ 50_010_000 ∷ 50_010_000 ∷ 50_010_000 ∷ 50_010_000 ∷ 50_010_000 ∷ 50_010_000 ∷ 50_010_000 ∷ 49_900_000 ∷
+    50_015_001 ∷ 49_995_000 ∷ 49_990_000 ∷ 49_990_000 ∷ 49_990_000 ∷ 49_990_000 ∷ 50_010_000 ∷ [])
+    ∷ listed-region (pos 0) 10_000 zeros
+    (49_960_000 ∷ 49_980_000 ∷ 49_980_000 ∷ 49_980_000 ∷ 49_980_000 ∷ 49_980_000 ∷ 49_980_000 ∷ 49_980_000 ∷ 49_980_000 ∷ 49_980_000 ∷ 50_060_000 ∷
+    50_020_000 ∷ 50_020_000 ∷ 50_020_000 ∷ 50_020_000 ∷ 50_020_000 ∷ 50_020_000 ∷ 50_020_000 ∷ 49_980_000 ∷ [])
+    ∷ quiet ∷ quiet ∷ quiet ∷ [])
+    (steady 1 0 Generation 0 (minus 10_000_000 20_000_000 1 30_000_000 40_000_000 1)
+    (series (λ t. cond (eqb t 1) (negℤ (pos 91)) (cond (leb t 11) (negℤ (pos 13)) (cond (eqb t 12) (pos 77) (pos 9)))))
+    ∷ steady 2 1 Load 0 zeros (flat (pos 3))
+    ∷ [])
+    (requirement 1 3 Raise 9_000 1_001 7 3 ∷ requirement 2 3 Lower 9_000 1_001 7 5 ∷ [])
+
+-- ---- the guide's table 15 as region 3: its region frequency deviation on top of 50,000,000 (its first point has no FM yet, and is bad). t = 20, 58 and 68
+-- are dropped
+abbrev pub table-15 : Book
+table-15 =
+    book (settings 2_222 10 20 114)
+    (quiet ∷ quiet ∷ quiet
+    ∷ listed-region (pos 0) 123_457 (minus 0 0 7 0 0 11)
+    (0 ∷ 50_005_000 ∷ 50_041_500 ∷ 50_038_000 ∷ 50_020_750 ∷ 50_015_250 ∷ 50_019_250 ∷ 50_022_250 ∷ 50_030_250 ∷ 50_033_750 ∷ 50_033_750 ∷
+    50_034_250 ∷ 50_023_750 ∷ 50_008_000 ∷ 50_004_000 ∷ 49_996_000 ∷ 50_010_750 ∷ 50_014_750 ∷ 49_997_250 ∷ 49_981_250 ∷ 49_979_250 ∷ 49_992_500 ∷
+    50_000_250 ∷ 49_993_000 ∷ 49_995_000 ∷ 49_995_750 ∷ 50_007_750 ∷ 50_009_000 ∷ 50_003_500 ∷ 49_993_250 ∷ 49_985_250 ∷ 49_988_750 ∷ 49_999_250 ∷
+    50_008_250 ∷ 50_016_250 ∷ 50_012_250 ∷ 49_987_000 ∷ 49_990_750 ∷ 50_019_400 ∷ 50_017_000 ∷ 49_993_500 ∷ 49_988_250 ∷ 49_987_000 ∷ 49_988_250 ∷
+    49_979_000 ∷ 49_969_250 ∷ 49_981_000 ∷ 49_991_750 ∷ 49_979_400 ∷ 49_981_000 ∷ 50_001_000 ∷ 49_997_750 ∷ 49_987_000 ∷ 49_984_750 ∷ 49_988_750 ∷
+    49_997_750 ∷ 50_010_500 ∷ 50_015_500 ∷ 50_014_750 ∷ 50_007_000 ∷ 50_002_000 ∷ 49_999_500 ∷ 50_012_750 ∷ 50_023_750 ∷ 50_029_250 ∷ 50_017_750 ∷
+    50_001_000 ∷ 49_980_000 ∷ 49_980_500 ∷ 49_985_000 ∷ 49_989_000 ∷ 49_973_000 ∷ 49_973_750 ∷ 49_990_000 ∷ 50_003_000 ∷ [])
+    ∷ quiet ∷ [])
+    (unit 1 3 Generation (pos 10_007) (pos 10_133) (minus 0 0 13 0 0 17) (flat true) (series (λ t. pos 9_973 +ℤ pos 3 *ℤ pos t))
+    ∷ unit 2 3 Load (pos 4_999) (pos 4_871) (minus 0 0 19 0 0 23) (flat true) (series (λ t. pos 5_021 -ℤ pos 2 *ℤ pos t))
+    ∷ unit 3 3 Generation (pos 2_503) (pos 2_503) (minus 0 0 29 0 0 31) (flat true) (series (λ t. pos 2_659 -ℤ pos 4 *ℤ pos t))
+    ∷ unit 4 3 Load (negℤ (pos 307)) (pos 211) (minus 0 0 37 0 0 41) (flat true) (series (λ t. pos 7 *ℤ pos t -ℤ pos 341))
+    ∷ [])
+    (requirement 1 8 Raise 1_237 10_007 1_009 337 ∷ requirement 2 8 Lower 2_341 10_009 1_013 719 ∷ [])

@@ -33,10 +33,9 @@ use Rattle.rules.specs.declared.Standing.{Standing}
 use Rattle.rules.specs.Quantities.{points, regions}
 use Rattle.rules.specs.Bytes.{listed}
 use Rattle.rules.specs.Book.{by, toward, Settings, Defaults, Unit, Requirement, covers, Book, regionOf}
-use Rattle.rules.specs.Measure.{measure-in}
 use Rattle.rules.specs.Reliability.{reliable, reliable-in}
 use Rattle.rules.specs.Deviation.{deviation, good, good-units}
-use Rattle.rules.specs.Performance.{wanted, performance, units-of, unit-performance, residual-performance}
+use Rattle.rules.specs.Performance.{weight-in, wanted, performance, units-of, unit-performance, residual-performance}
 use Rattle.laws.proofs.PerformanceLaws.{residual-is}
 use Rattle.rules.specs.Standings.{standing, unit-standing, some-good-or-none, live-or}
 use Rattle.rules.specs.Members.{Name, unit, Member, unit-member, over-regions, each-region, residual-or, residual-member, unit-members, members}
@@ -227,10 +226,10 @@ module _ (t : Tally) (l : Lent) (b : Book) (h : Keeps t l b) (inside : All (λ u
       (b .roster) each
       ∙ sym (total-those (λ u. eqb r (u .region)) (λ u. when (good u) (at r u)) (b .roster))
       ∙ sym (total-those good (at r) (units-of b r)))
-      ∙ sym (residual-is d (measure-in b r) (units-of b r))
+      ∙ sym (residual-is d (weight-in b r) (units-of b r))
     where
       at : ℕ → Unit → ℤ
-      at s u = performance d (measure-in b s) (deviation u)
+      at s u = performance d (weight-in b s) (deviation u)
 
       each : (j : ℕ) (z : Unit) → j < length (b .roster) → when (eqb r (region-of l j)) (when (good-of l j) (performance-of l d j)) ≡
           when (eqb r (getD (b .roster) j z .region)) (when (good (getD (b .roster) j z)) (at r (getD (b .roster) j z)))

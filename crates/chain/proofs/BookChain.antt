@@ -20,20 +20,21 @@ use Rattle.rules.specs.WholeBook.{book}
 use Rattle.rules.specs.Book.{Settings, Region, Unit, Requirement, Book, regionOf, no-region}
 use Rattle.laws.proofs.Limits.{UnitFits, BookFits}
 use Rattle.laws.proofs.LimitsLaws.{settings-fit, region-fits}
-use Rattle.rules.specs.Measure.{measure, measure-in}
+use Rattle.rules.specs.Measure.{measure}
 use Rattle.rules.specs.Deviation.{deviation, good-units, units-in}
-use Rattle.rules.specs.Performance.{wanted}
+use Rattle.rules.specs.Performance.{weight, weight-in, wanted}
 use Rattle.rules.specs.Answer.{answer}
 use Rattle.interval.specs.declared.Tally.{Tally}
 use Rattle.interval.specs.Tally.{before-units}
-use Rattle.interval.specs.Lent.{Lent, figures-of, home-of, row-of}
+use Rattle.interval.specs.Lent.{Lent, measure-held, figures-of, home-of, row-of}
+use Rattle.interval.proofs.HeldLaws.{measure-read}
 use Rattle.kept.specs.Kept.{kept-answer}
 use Rattle.kept.specs.Range.{kept-fine}
 use Rattle.chain.proofs.ChainLaws.{listed-ext, listed-length, listed-shift}
 use Rattle.chain.specs.Taken.{counts-in}
 use Rattle.chain.proofs.Taken.{contents-is, settings-is}
 use Rattle.chain.specs.Chain.{Chain, Means, regions-among, units-among, the-settings, region, unit, roster}
-use Rattle.chain.proofs.ChainTheorem.{chain}
+use Rattle.chain.proofs.ChainTheorem.{measure-fits, chain}
 use Rattle.chain.proofs.ChainValues.{measures-are, sums-are, figures-are, numbers-are, homes-are, rows-are}
 use Rattle.chain.proofs.Judged.{unit-within}
 use Rattle.chain.specs.BookRecords.{part-of, Read}
@@ -85,22 +86,25 @@ module _
   unit-fine : (i : ℕ) → i < many → UnitFits (unit part i)
   unit-fine i h = unit-within d i (rw units-there h)
 
-  -- a row is by the measures of its unit's region
+  -- a row is by what the points of its unit's region weigh
   row-is :
       (j i : ℕ) (z : Unit) → j < length (b .roster) →
-      row-of (measure (the-settings part) (region part (unit part j .region))) (unit part j) i ≡
-      row-of (measure-in b (getD (b .roster) j z .region)) (getD (b .roster) j z) i
+      row-of (weight (the-settings part) (region part (unit part j .region))) (unit part j) i ≡
+      row-of (weight-in b (getD (b .roster) j z .region)) (getD (b .roster) j z) i
   row-is j i z h =
       let inside = unit-fine j (rw (listed-length 0 many (unit part)) at h) .region in
-      ap (λ (x : Region). row-of (measure (the-settings part) x) (unit part j) i) (region-is (unit part j .region) inside)
-      ∙ ap (λ (u : Unit). row-of (measure-in b (u .region)) u i) (unit-is j z h)
+      ap (λ (x : Region). row-of (weight (the-settings part) x) (unit part j) i) (region-is (unit part j .region) inside)
+      ∙ ap (λ (u : Unit). row-of (weight-in b (u .region)) u i) (unit-is j z h)
 
   pub chain-keeps : Keeps t l b
   chain-keeps =
       record {
         settings = m .kept (omega arith);
         units = m .units ∙ sym (listed-length 0 many (unit part));
-        measures = λ r i h k. measures-are d r (region-there r h) i k ∙ ap (λ (x : Region). measure (the-settings part) x i) (region-is r h);
+        measures = λ r i h k.
+            let there = region-there r h in
+            ap measure-held (measures-are d r there i k) ∙ measure-read (the-settings part) (region part r) i (measure-fits head part l₀ m r there i k)
+            ∙ ap (λ (x : Region). measure (the-settings part) x i) (region-is r h);
         sums = λ e r p h k. sums-are d r (region-there r h) e p k ∙ ap (λ (u : ℕ). total (λ u. wanted e (deviation u p))
             (good-units (units-in (eqb r) (roster part u)))) units-there;
         figures = λ r i h k. figures-are d r (region-there r h) i k ∙ ap (λ (x : Region). figures-of (the-settings part) x i) (region-is r h);

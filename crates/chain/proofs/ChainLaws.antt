@@ -120,11 +120,11 @@ summed-adds u G xs h l = go (good u)
     go false = filled-ext sums-length G _ xs (λ j b. sym (+ℤ-idr (G j)))
 
 -- ---- a row looks at the measures of the 75 points alone
-pub row-same : (fm fm′ : ℕ → ℤ) (u : Unit) → ((t : ℕ) → t < points → fm t ≡ fm′ t) → (i : ℕ) → row-of fm u i ≡ row-of fm′ u i
+pub row-same : (w w′ : ℕ → ℤ) (u : Unit) → ((t : ℕ) → t < points → w t ≡ w′ t) → (i : ℕ) → row-of w u i ≡ row-of w′ u i
 unfolding performance
-row-same fm fm′ u h zero = sum-ext points _ _ (λ t l. ap (λ (z : ℤ). wanted Raise z *ℤ deviation u t) (h t l))
-row-same fm fm′ u h (suc zero) = sum-ext points _ _ (λ t l. ap (λ (z : ℤ). wanted Lower z *ℤ deviation u t) (h t l))
-row-same fm fm′ u h (suc (suc i)) = refl
+row-same w w′ u h zero = sum-ext points _ _ (λ t l. ap (λ (z : ℤ). wanted Raise z *ℤ deviation u t) (h t l))
+row-same w w′ u h (suc zero) = sum-ext points _ _ (λ t l. ap (λ (z : ℤ). wanted Lower z *ℤ deviation u t) (h t l))
+row-same w w′ u h (suc (suc i)) = refl
 
 -- ---- whose figures they are: of a book where all regions have its number, and of none that has another number than some region
 module _ (n : ℕ) (xs : List ℤ) where

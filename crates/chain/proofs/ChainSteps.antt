@@ -10,13 +10,16 @@ use Rattle.integers.specs.Sums.{sum}
 use Rattle.integers.proofs.Sums.{sum-none}
 use Rattle.integers.specs.Fills.{filled}
 use Rattle.integers.proofs.Fills.{filled-more, filled-length}
-use Rattle.rules.specs.Quantities.{points, regions}
+use Rattle.integers.specs.Bounds.{Within}
+use Rattle.rules.specs.Quantities.{points, regions, measure-limit}
 use Rattle.rules.specs.Measure.{measure}
+use Rattle.rules.specs.Performance.{weight}
 use Rattle.interval.specs.declared.Tally.{Tally}
 use Rattle.interval.specs.Tally.{settings-of, next-region, units-taken}
-use Rattle.interval.specs.Lent.{Lent, sums-each, sums-length, figures-each, figures-of, home-of, row-each, row-of}
+use Rattle.interval.specs.Lent.{Lent, kept-measure, weight-held, sums-each, sums-length, figures-each, figures-of, home-of, row-each, row-of}
+use Rattle.interval.proofs.HeldLaws.{weight-read}
 use Rattle.interval.specs.Calls.{unit-long}
-use Rattle.interval.specs.Promises.{region-kept, measured, unit-kept}
+use Rattle.interval.specs.Promises.{region-kept, weighed, unit-kept}
 use Rattle.chain.specs.Long.{Long}
 use Rattle.chain.proofs.Long.{long-passes, passes-long}
 use Rattle.chain.proofs.ChainLaws.{in-block, block-at, block-next, summed-adds, row-same}
@@ -54,15 +57,16 @@ module _ {part : ℕ → List ℕ} {l₀ : Lent} where
         rows = w .rows;
       }
     where
-      measure-here : (i : ℕ) → i < points → measure (the-settings part) (region part k) i ≡ measure-at part (points * k + i)
-      measure-here i h = sym (in-block points (λ r. measure (the-settings part) (region part r)) k i h)
+      measure-here : (i : ℕ) → i < points → kept-measure (the-settings part) (region part k) i ≡ measure-at part (points * k + i)
+      measure-here i h = sym (in-block points (λ r. kept-measure (the-settings part) (region part r)) k i h)
 
       figure-here : (i : ℕ) → i < figures-each → figures-of (the-settings part) (region part k) i ≡ figure-at part (figures-each * k + i)
       figure-here i h = sym (in-block figures-each (λ r. figures-of (the-settings part) (region part r)) k i h)
 
   -- ---- a unit
   module _
-      {m : ℕ} (t : Tally) {l : Lent} (w : Leaves part l₀ regions m l) (row : units-taken t ≡ m) (here : unit part m .region < regions) (long : Long l₀ m) where
+      {m : ℕ} (t : Tally) {l : Lent} (w : Leaves part l₀ regions m l) (row : units-taken t ≡ m) (here : unit part m .region < regions) (long : Long l₀ m)
+      (fits : (i : ℕ) → i < points → Within measure-limit (measure (the-settings part) (region part (unit part m .region)) i)) where
     stored : {A : Type 0} (g : ℕ → A) (xs : List A) → set (filled m g xs) m (g m) ≡ filled (suc m) g xs
     stored g xs = filled-more m g xs ∙ ap (λ (n : ℕ). filled n g xs) (add-one m)
 
@@ -71,17 +75,18 @@ module _ {part : ℕ → List ℕ} {l₀ : Lent} where
     unfolding sum
     one-more xs = refl
 
-    -- the unit's region holds its measures
-    region-measured : (i : ℕ) → i < points → measured l (unit part m) i ≡ measure (the-settings part) (region part (unit part m .region)) i
-    region-measured i h =
-        ap (λ (xs : List ℤ). getD xs (points * unit part m .region + i) (pos 0)) (w .measures)
+    -- the unit's region holds its measures, and by them its points weigh what the rules say
+    region-weighed : (i : ℕ) → i < points → weighed l (unit part m) i ≡ weight (the-settings part) (region part (unit part m .region)) i
+    region-weighed i h =
+        ap weight-held (ap (λ (xs : List ℤ). getD xs (points * unit part m .region + i) (pos 0)) (w .measures)
         ∙ block-at points regions (measure-at part) (l₀ .measures) (unit part m .region) i (pos 0) h here (omega (arith, long .measures))
-        ∙ in-block points (λ r. measure (the-settings part) (region part r)) (unit part m .region) i h
+        ∙ in-block points (λ r. kept-measure (the-settings part) (region part r)) (unit part m .region) i h)
+        ∙ weight-read (the-settings part) (region part (unit part m .region)) i (fits i h)
 
-    row-here : (i : ℕ) → i < row-each → row-of (measured l (unit part m)) (unit part m) i ≡ row-at part (row-each * m + i)
+    row-here : (i : ℕ) → i < row-each → row-of (weighed l (unit part m)) (unit part m) i ≡ row-at part (row-each * m + i)
     row-here i h =
-        row-same _ _ (unit part m) region-measured i
-        ∙ sym (in-block row-each (λ j. row-of (measure (the-settings part) (region part (unit part j .region))) (unit part j)) m i h)
+        row-same _ _ (unit part m) region-weighed i
+        ∙ sym (in-block row-each (λ j. row-of (weight (the-settings part) (region part (unit part j .region))) (unit part j)) m i h)
 
     pub unit-leaves : Leaves part l₀ regions (suc m) (unit-kept t (unit part m) l)
     unit-leaves =

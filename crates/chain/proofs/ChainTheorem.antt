@@ -7,18 +7,23 @@ use native.Mathlib.Numerals.{add-one}
 use native.Mathlib.Decide.{decLt}
 use native.Mathlib.Omega.{arith}
 use lib.Dec.{eqb, ltb}
+use lib.ListN.{getD}
 use borrow.Author.Tests.{lt-ltb, le-ltb, ne-eqb}
+use Rattle.integers.specs.Bounds.{Within}
 use Rattle.integers.proofs.Sums.{none-below}
 use Rattle.integers.proofs.Fills.{filled-none}
 use Rattle.rules.specs.declared.Refusal.{Refusal}
-use Rattle.rules.specs.Quantities.{regions}
+use Rattle.rules.specs.Quantities.{points, regions, measure-limit}
 use Rattle.rules.specs.Bytes.{number-at}
 use Rattle.rules.specs.Refusals.{Reply, taken, refused}
 use Rattle.rules.specs.Book.{Region, Unit, Requirement}
 use Rattle.rules.specs.Contents.{Counts, contents}
 use Rattle.rules.specs.UnitRecord.{unit-in}
 use Rattle.rules.specs.RequirementRecord.{requirement-in}
-use Rattle.laws.proofs.LimitsLaws.{unit-fits}
+use Rattle.laws.proofs.LimitsLaws.{settings-fit, region-fits, unit-fits}
+use Rattle.rules.specs.Fields.{good-at}
+use Rattle.rules.specs.Measure.{measure}
+use Rattle.laws.proofs.MeasureLaws.{measure-within}
 use Rattle.interval.specs.declared.Tally.{Tally}
 use Rattle.interval.specs.declared.Opened as o
 use Rattle.interval.specs.declared.Step.{Step}
@@ -92,6 +97,10 @@ regions-now k h = omega arith
 
 regions-all : (n : ℕ) → before-units ≤ n → regions-among n ≡ regions
 regions-all n h = omega arith
+
+-- where a region stands among the records
+region-place : (n r : ℕ) → r < regions-among n → (0 < n) × (suc r < n) × (suc r < before-units)
+region-place n r h = (omega arith, omega arith, omega arith)
 
 units-none : (u n : ℕ) → n ≤ before-units → units-among u n ≡ 0
 units-none u n h = omega arith
@@ -225,6 +234,16 @@ module _ (head : List ℕ) (part : ℕ → List ℕ) (l₀ : Lent) where
       (rw (regions-now (suc k) few, units-none (c .units) (suc (suc k)) (omega arith), leaves)
       (region-leaves t lent (omega (arith, w .records)) (w .kept (omega arith))))
 
+  -- FM of a region that was taken is within its limit
+  pub measure-fits : {n : ℕ} {t : Tally} {l : Lent} → Means head part l₀ n t l → (r : ℕ) → r < regions-among n → (i : ℕ) → i < points →
+      Within measure-limit (measure (the-settings part) (region part r) i)
+  measure-fits {n} w r h i b =
+      let at = region-place n r h in
+      let s = settings-fit (part 0) (the-settings part) (w .taken-each 0 (at .0) .as-settings refl) in
+      let f = region-fits _ (part (suc r)) (region part r) (w .taken-each (suc r) (at .1) .as-frequency (omega arith) (at .2)) in
+      measure-within (the-settings part .smoothing) (good-at (region part r .quality)) (λ i. getD (region part r .frequency) i 0) (region part r .before)
+      (s .smoothing) (f .before) (f .frequency) (suc i) b
+
   unit-least : (n : ℕ) (t : Tally) (u : Unit) → t .records ≡ n → t .units ≡ c .units → before-units ≤ n → unit-in (part n) ≡ u →
       unit-counted t u .least ≡ least-at part (c .units) (suc n)
   unfolding least-at
@@ -246,6 +265,7 @@ module _ (head : List ℕ) (part : ℕ → List ℕ) (l₀ : Lent) where
       let lent : Leaves part l₀ regions (n - before-units) l = rw (regions-all n first, units-now (c .units) n (omega arith)) at (w .lent) in
       let long : Long l₀ (n - before-units) = rw (units-now (c .units) n (omega arith)) at (w .long (omega arith)) in
       let inside : unit-in (part n) .region < regions = unit-fits (t .least) (part n) (unit-in (part n)) whole .region in
+      let here = subst (λ (m : ℕ). unit-in (part m) .region < regions) place inside in
       counts w (omega arith) (a .2) (unit-least n t (a .0) (w .records) (w .units) first is) (omega arith)
       (record {
         as-settings = λ f. absurd (omega arith);
@@ -255,7 +275,7 @@ module _ (head : List ℕ) (part : ℕ → List ℕ) (l₀ : Lent) where
       })
       (rw (units-then (c .units) n first last) (was-long lent (rw (row, add-one (n - before-units)) at (f .long))))
       (rw (regions-all (suc n) (omega arith), units-then (c .units) n first last, leaves ∙ ap (λ (m : ℕ). unit-kept t (unit-in (part m)) l) place)
-      (unit-leaves t lent row (subst (λ (m : ℕ). unit-in (part m) .region < regions) place inside) long))
+      (unit-leaves t lent row here long (measure-fits w _ (rw (regions-all n first) here))))
 
   requirement-least : (n : ℕ) (q : Requirement) → before-units + c .units ≤ n → requirement-in (part n) ≡ q → q .number + 1 ≡ least-at part (c .units) (suc n)
   unfolding least-at

@@ -18,14 +18,14 @@ use Rattle.rules.specs.declared.Direction.{Direction}
 use Rattle.rules.specs.declared.Direction.the-variants.{Raise, Lower}
 use Rattle.rules.specs.Quantities.{points, regions, most-units}
 use Rattle.rules.specs.Book.{Settings}
-use Rattle.rules.specs.Measure.{measure}
 use Rattle.rules.specs.Deviation.{deviation, good, units-in, good-units}
-use Rattle.rules.specs.Performance.{wanted}
+use Rattle.rules.specs.Performance.{weight, wanted}
 use Rattle.interval.specs.declared.Tally.{Tally}
 use Rattle.interval.specs.Tally.{settings-of, before-units, units-taken}
 use Rattle.interval.specs.Lent.{
   Lent,
   series-start,
+  kept-measure,
   sums-each,
   sums-start,
   sum-place,
@@ -105,10 +105,10 @@ module _ {head : List ℕ} {part : ℕ → List ℕ} {l₀ : Lent} {n : ℕ} {t 
         ap (λ (zs : List ℤ). getD zs (each * r + i) (pos 0)) e
         ∙ block-at each (regions-among n) G xs r i (pos 0) b h (omega (arith, mul-le-mul-left each few))
 
-    pub measures-are : (i : ℕ) → i < points → getD (l .measures) (series-start r + i) (pos 0) ≡ measure (the-settings part) (region part r) i
+    pub measures-are : (i : ℕ) → i < points → getD (l .measures) (series-start r + i) (pos 0) ≡ kept-measure (the-settings part) (region part r) i
     measures-are i b =
         region-at points (measure-at part) (l₀ .measures) (l .measures) (w .lent .measures) (inside .measures) i b
-        ∙ in-block points (λ r. measure (the-settings part) (region part r)) r i b
+        ∙ in-block points (λ r. kept-measure (the-settings part) (region part r)) r i b
 
     pub sums-at : (i : ℕ) → i < sums-each → getD (l .sums) (sums-start r + i) (pos 0) ≡ sum-at part many (sums-start r + i)
     sums-at = region-at sums-each (sum-at part many) (l₀ .sums) (l .sums) (w .lent .sums) (inside .sums)
@@ -135,11 +135,11 @@ module _ {head : List ℕ} {part : ℕ → List ℕ} {l₀ : Lent} {n : ℕ} {t 
     homes-are = ap (λ (zs : List ℕ). getD zs j 0) (w .lent .homes) ∙ filled-at many _ (l₀ .homes) j 0 h (omega (arith, there .homes))
 
     pub rows-are : (i : ℕ) → i < row-each →
-        getD (l .rows) (row-each * j + i) (pos 0) ≡ row-of (measure (the-settings part) (region part (unit part j .region))) (unit part j) i
+        getD (l .rows) (row-each * j + i) (pos 0) ≡ row-of (weight (the-settings part) (region part (unit part j .region))) (unit part j) i
     rows-are i b =
         ap (λ (zs : List ℤ). getD zs (row-each * j + i) (pos 0)) (w .lent .rows)
         ∙ block-at row-each many (row-at part) (l₀ .rows) j i (pos 0) b h (omega (arith, there .rows))
-        ∙ in-block row-each (λ j. row-of (measure (the-settings part) (region part (unit part j .region))) (unit part j)) j i b
+        ∙ in-block row-each (λ j. row-of (weight (the-settings part) (region part (unit part j .region))) (unit part j)) j i b
 
 -- ---- what a chain leaves is fixed by what was taken and what was lent: neither a refused call nor anything else shows
 tally-of : ℕ → ℕ → ℕ → ℕ → Settings → Tally

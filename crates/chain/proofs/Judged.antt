@@ -21,11 +21,8 @@ use Rattle.rules.specs.SettingsRecord.{settings}
 use Rattle.rules.specs.FrequencyRecord.{frequency-record}
 use Rattle.rules.specs.UnitRecord.{unit-record}
 use Rattle.rules.specs.RequirementRecord.{requirement-record}
-use Rattle.rules.specs.Fields.{good-at}
 use Rattle.laws.proofs.Limits.{UnitFits}
-use Rattle.laws.proofs.LimitsLaws.{settings-fit, region-fits, unit-fits}
-use Rattle.rules.specs.Measure.{measure}
-use Rattle.laws.proofs.MeasureLaws.{measure-within}
+use Rattle.laws.proofs.LimitsLaws.{unit-fits}
 use Rattle.rules.specs.Deviation.{good}
 use Rattle.laws.proofs.DeviationLaws.{deviation-within}
 use Rattle.laws.proofs.PerformanceLaws.{wanted-within}
@@ -34,6 +31,7 @@ use Rattle.interval.specs.Tally.{before-units, units-end, book-end, units-taken
 use Rattle.interval.specs.Lent.{
   Lent,
   series-start,
+  measure-held,
   sums-each,
   sums-start,
   side-of,
@@ -41,9 +39,11 @@ use Rattle.interval.specs.Lent.{
   figures-each,
   of-interval,
   each-sized,
+  each-measured,
   named-region,
   series-in-range,
 }
+use Rattle.interval.proofs.HeldLaws.{measure-read}
 use Rattle.interval.specs.Calls.{settings-reply, frequency-reply, unit-reply, requirement-reply}
 use Rattle.chain.specs.Long.{Long}
 use Rattle.chain.proofs.Long.{shorter, regions-pass, long-passes}
@@ -52,7 +52,7 @@ use Rattle.chain.specs.Taken.{counts-in, CountsFit}
 use Rattle.chain.proofs.Taken.{contents-is, settings-is}
 use Rattle.chain.specs.Chain.{Chain, Means, adds, regions-among, units-among, the-settings, region, unit, least-at, sum-at}
 use Rattle.chain.proofs.ChainSteps.{still-long}
-use Rattle.chain.proofs.ChainTheorem.{chain}
+use Rattle.chain.proofs.ChainTheorem.{measure-fits, chain}
 use Rattle.chain.proofs.ChainValues.{measures-are, sums-at, figures-are}
 
 -- ---- sizes
@@ -72,12 +72,14 @@ sized-all : (limit start n : ℕ) (xs : List ℤ) → ((i : ℕ) → i < n → W
 unfolding each-sized
 sized-all limit start n xs h = every-all n _ (λ i b. le-leb _ limit (h i b .size))
 
--- ---- where a unit and a region stand among the records
+measured-all : (start : ℕ) (ms : List ℤ) → ((i : ℕ) → i < points → Within measure-limit (measure-held (getD ms (start + i) (pos 0)))) →
+    each-measured start ms ≡ true
+unfolding each-measured
+measured-all start ms h = every-all points _ (λ i b. le-leb _ measure-limit (h i b .size))
+
+-- ---- where a unit stands among the records
 unit-place : (u n i : ℕ) → i < units-among u n → (before-units + i < n) × (before-units + i < before-units + u)
 unit-place u n i h = (omega arith, omega arith)
-
-region-place : (n r : ℕ) → r < regions-among n → (0 < n) × (suc r < n) × (suc r < before-units)
-region-place n r h = (omega arith, omega arith, omega arith)
 
 module _ {head : List ℕ} {part : ℕ → List ℕ} {l₀ : Lent} {n : ℕ} {t : Tally} {l : Lent} (d : Chain head part l₀ n t l) where
   w : Means head part l₀ n t l
@@ -88,14 +90,6 @@ module _ {head : List ℕ} {part : ℕ → List ℕ} {l₀ : Lent} {n : ℕ} {t 
   unit-within i h =
       let at = unit-place (counts-in head .units) n i h in
       unit-fits _ (part (before-units + i)) (unit part i) (w .taken-each (before-units + i) (at .0) .as-unit (omega arith) (at .1))
-
-  measure-fits : (r : ℕ) → r < regions-among n → (i : ℕ) → i < points → Within measure-limit (measure (the-settings part) (region part r) i)
-  measure-fits r h i b =
-      let at = region-place n r h in
-      let s = settings-fit (part 0) (the-settings part) (w .taken-each 0 (at .0) .as-settings refl) in
-      let f = region-fits _ (part (suc r)) (region part r) (w .taken-each (suc r) (at .1) .as-frequency (omega arith) (at .2)) in
-      measure-within (the-settings part .smoothing) (good-at (region part r .quality)) (λ i. getD (region part r .frequency) i 0) (region part r .before)
-      (s .smoothing) (f .before) (f .frequency) (suc i) b
 
   sum-fits : (j : ℕ) → Within (deviation-limit * units-taken t) (sum-at part (units-among (counts-in head .units) n) j)
   sum-fits j =
@@ -122,13 +116,15 @@ module _ {head : List ℕ} {part : ℕ → List ℕ} {l₀ : Lent} {n : ℕ} {t 
       among : (n r : ℕ) → before-units ≤ n → r < regions → r < regions-among n
       among n r f h = omega arith
 
-      go : (b : Bool) → ltb r regions ≡ b → cond b (each-sized measure-limit (series-start r) points (l .measures)
+      go : (b : Bool) → ltb r regions ≡ b → cond b (each-measured (series-start r) (l .measures)
           && each-sized (deviation-limit * units-taken t) (sums-start r) sums-each (l .sums)) true ≡ true
       go false e = refl
       go true e =
           let h = among n r first (ltb-true r regions e) in
           rw (
-            sized-all measure-limit (series-start r) points (l .measures) (λ i b. rw (measures-are d r h i b) (measure-fits r h i b)),
+            measured-all (series-start r) (l .measures) (λ i b.
+                let f = measure-fits head part l₀ w r h i b in
+                rw (measures-are d r h i b, measure-read (the-settings part) (region part r) i f) f),
             sized-all (deviation-limit * units-taken t) (sums-start r) sums-each (l .sums) (λ i b. rw (sums-at d r h i b) (sum-fits (sums-start r + i))),
           )
 

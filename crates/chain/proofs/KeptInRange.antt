@@ -26,8 +26,7 @@ use Rattle.laws.proofs.Limits.{DefaultFits, DefaultsFit, UnitFits, BookFits}
 use Rattle.rules.specs.Reliability.{reliable}
 use Rattle.rules.specs.Deviation.{deviation, good}
 use Rattle.laws.proofs.DeviationLaws.{deviation-within}
-use Rattle.rules.specs.Measure.{measure-in}
-use Rattle.rules.specs.Performance.{wanted, units-of}
+use Rattle.rules.specs.Performance.{weight-in, wanted, units-of}
 use Rattle.laws.proofs.PerformanceLaws.{wanted-within}
 use Rattle.laws.proofs.MembersLaws.{measure-in-within, unit-performance-within}
 use Rattle.interval.specs.declared.Tally.{Tally}
@@ -156,8 +155,8 @@ module _ (t : Tally) (l : Lent) (b : Book) (h : Keeps t l b) (f : BookFits b) wh
       g = all-at UnitFits (b .roster) (f .roster) i z m
 
       -- after two performances come the defaults
-      past : (j : ℕ) → row-of (measure-in b (u .region)) u (2 + j) ≡ six (u .defaults) j
-      past j = let e : 2 + j ≡ suc (suc j) = omega arith in ap (row-of (measure-in b (u .region)) u) e
+      past : (j : ℕ) → row-of (weight-in b (u .region)) u (2 + j) ≡ six (u .defaults) j
+      past j = let e : 2 + j ≡ suc (suc j) = omega arith in ap (row-of (weight-in b (u .region)) u) e
 
   rows-in-range : rows-fine t l ≡ true
   unfolding rows-fine

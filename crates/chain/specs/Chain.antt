@@ -19,14 +19,14 @@ use Rattle.rules.specs.SettingsRecord.{settings, settings-in}
 use Rattle.rules.specs.FrequencyRecord.{region-in, frequency-record}
 use Rattle.rules.specs.UnitRecord.{unit-in, unit-record}
 use Rattle.rules.specs.RequirementRecord.{requirement-in, requirement-record}
-use Rattle.rules.specs.Measure.{measure}
 use Rattle.rules.specs.Deviation.{good}
+use Rattle.rules.specs.Performance.{weight}
 use Rattle.interval.specs.declared.Tally.{Tally}
 use Rattle.interval.specs.declared.Opened as o
 use Rattle.interval.specs.declared.Taking as k
 use Rattle.interval.specs.declared.Step.{Step}
 use Rattle.interval.specs.Tally.{settings-of, before-units}
-use Rattle.interval.specs.Lent.{Lent, sums-each, side-part, figures-each, figures-of, home-of, row-each, row-of}
+use Rattle.interval.specs.Lent.{Lent, kept-measure, sums-each, side-part, figures-each, figures-of, home-of, row-each, row-of}
 use Rattle.interval.specs.Promises.{ContentsPromise, SettingsPromise, FrequencyPromise, UnitPromise, RequirementPromise}
 use Rattle.chain.specs.Long.{Long}
 use Rattle.chain.specs.Taken.{counts-in}
@@ -97,9 +97,9 @@ module _ (part : ℕ → List ℕ) where
         (part m) ≡ taken (requirement-in (part m))
 
   -- ---- what k regions and m units leave in the lent lists. All other numbers are as they were
-  -- at each index of a list: a region's measure, its sum over all good units of it, its figure; a number in a unit's row
+  -- at each index of a list: a region's measure as it is kept, its sum over all good units of it, its figure; a number in a unit's row
   abbrev pub measure-at : ℕ → ℤ
-  measure-at j = measure the-settings (region (j / points)) (j % points)
+  measure-at j = kept-measure the-settings (region (j / points)) (j % points)
 
   abbrev pub sum-at : ℕ → ℕ → ℤ
   sum-at m j = sum m (λ i. adds (unit i) j)
@@ -108,7 +108,7 @@ module _ (part : ℕ → List ℕ) where
   figure-at j = figures-of the-settings (region (j / figures-each)) (j % figures-each)
 
   abbrev pub row-at : ℕ → ℤ
-  row-at j = row-of (measure the-settings (region (unit (j / row-each) .region))) (unit (j / row-each)) (j % row-each)
+  row-at j = row-of (weight the-settings (region (unit (j / row-each) .region))) (unit (j / row-each)) (j % row-each)
 
   pub record Leaves (l₀ : Lent) (k m : ℕ) (l : Lent) : Type 0 where
     pub measures : l .measures ≡ filled (points * k) measure-at (l₀ .measures)

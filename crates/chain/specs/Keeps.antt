@@ -10,17 +10,17 @@ use Rattle.rules.specs.Quantities.{points, regions}
 use Rattle.rules.specs.Book.{Unit, Book, regionOf}
 use Rattle.rules.specs.Measure.{measure-in}
 use Rattle.rules.specs.Deviation.{deviation, good-units}
-use Rattle.rules.specs.Performance.{wanted, units-of}
+use Rattle.rules.specs.Performance.{weight-in, wanted, units-of}
 use Rattle.interval.specs.declared.Tally.{Tally}
 use Rattle.interval.specs.Tally.{settings-of, book-end}
-use Rattle.interval.specs.Lent.{Lent, series-start, sum-place, figures-each, figures-of, home-of, row-each, row-of}
+use Rattle.interval.specs.Lent.{Lent, series-start, measure-held, sum-place, figures-each, figures-of, home-of, row-each, row-of}
 
 -- z stands where a roster has no unit
 pub record Keeps (t : Tally) (l : Lent) (b : Book) : Type 0 where
   pub settings : settings-of t ≡ b .settings
   pub units : t .units ≡ length (b .roster)
-  -- of a region: measures, the sums over all its good units, figures
-  pub measures : (r p : ℕ) → r < regions → p < points → getD (l .measures) (series-start r + p) (pos 0) ≡ measure-in b r p
+  -- of a region: FM, the sums over all its good units, figures
+  pub measures : (r p : ℕ) → r < regions → p < points → measure-held (getD (l .measures) (series-start r + p) (pos 0)) ≡ measure-in b r p
   pub sums : (d : Direction) (r p : ℕ) → r < regions → p < points → getD (l .sums) (sum-place d r p) (pos 0) ≡ total (λ u. wanted d (deviation u p))
       (good-units (units-of b r))
   pub figures : (r i : ℕ) → r < regions → i < figures-each → getD (l .figures) (figures-each * r + i) (pos 0) ≡ figures-of (b .settings) (regionOf b r) i
@@ -28,7 +28,7 @@ pub record Keeps (t : Tally) (l : Lent) (b : Book) : Type 0 where
   pub numbers : (j : ℕ) (z : Unit) → j < length (b .roster) → getD (l .numbers) j 0 ≡ getD (b .roster) j z .number
   pub homes : (j : ℕ) (z : Unit) → j < length (b .roster) → getD (l .homes) j 0 ≡ home-of (getD (b .roster) j z)
   pub rows : (j i : ℕ) (z : Unit) → j < length (b .roster) → i < row-each → getD (l .rows) (row-each * j + i) (pos 0) ≡ row-of
-      (measure-in b (getD (b .roster) j z .region)) (getD (b .roster) j z) i
+      (weight-in b (getD (b .roster) j z .region)) (getD (b .roster) j z) i
 
 -- ---- what the calls leave of a whole book
 pub record BookMeans (b : Book) (t : Tally) (l : Lent) : Type 0 where

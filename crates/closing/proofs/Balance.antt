@@ -20,10 +20,9 @@ use Rattle.rules.specs.declared.Standing.{Standing}
 use Rattle.rules.specs.declared.Standing.the-variants.{Live, Default}
 use Rattle.rules.specs.Quantities.{regions}
 use Rattle.rules.specs.Book.{Defaults, Unit, Requirement, covers, Book}
-use Rattle.rules.specs.Measure.{measure-in}
 use Rattle.rules.specs.Reliability.{reliable-in}
 use Rattle.rules.specs.Deviation.{deviation, good, good-units}
-use Rattle.rules.specs.Performance.{performance, units-of, unit-performance, residual-performance}
+use Rattle.rules.specs.Performance.{weight-in, performance, units-of, unit-performance, residual-performance}
 use Rattle.laws.proofs.PerformanceLaws.{residual-is}
 use Rattle.rules.specs.Standings.{standing, unit-standing, some-good-or-none, residual-standing, is-live, live-or}
 use Rattle.rules.specs.Members.{unit-member, over-regions, each-region, residual-or, residual-member, unit-members, members}
@@ -82,10 +81,10 @@ module _ (b : Book) (r : ℕ) where
     -- its units' performances go by its own measures
     residual-is-minus : residual-performance b d r ≡ negℤ (total (unit-performance b d) (good-units (units-of b r)))
     unfolding residual-performance unit-performance
-    residual-is-minus = residual-is d (measure-in b r) (units-of b r) ∙ ap negℤ (same-over-good-units _ _ own)
+    residual-is-minus = residual-is d (weight-in b r) (units-of b r) ∙ ap negℤ (same-over-good-units _ _ own)
       where
-        own : (u : Unit) → counted (λ u. performance d (measure-in b r) (deviation u)) u ≡ counted (unit-performance b d) u
-        own u = sym (when-there (λ s. when (good u) (performance d (measure-in b s) (deviation u))) r (u .region))
+        own : (u : Unit) → counted (λ u. performance d (weight-in b r) (deviation u)) u ≡ counted (unit-performance b d) u
+        own u = sym (when-there (λ s. when (good u) (performance d (weight-in b s) (deviation u))) r (u .region))
 
     -- over the interval good units and residual add up to zero
     pub interval-closes : total (unit-performance b d) (good-units (units-of b r)) +ℤ residual-performance b d r ≡ pos 0

@@ -10,9 +10,8 @@ use Rattle.rules.specs.declared.Kind.{Kind}
 use Rattle.rules.specs.declared.Kind.the-variants.{Generation, Load}
 use Rattle.rules.specs.Quantities.{points}
 use Rattle.rules.specs.Book.{Unit, Book}
-use Rattle.rules.specs.Measure.{measure-in}
 use Rattle.rules.specs.Deviation.{turned, line, deviation}
-use Rattle.rules.specs.Performance.{performance, unit-performance}
+use Rattle.rules.specs.Performance.{weight-in, performance, unit-performance}
 use Rattle.laws.proofs.PerformanceLaws.{performance-ext, performance-plus}
 use Rattle.closing.specs.Parts.{Parts}
 
@@ -45,6 +44,6 @@ module _ {u x y : Unit} (h : Parts u x y) where
   pub performance-adds-up : (b : Book) (d : Direction) → unit-performance b d x +ℤ unit-performance b d y ≡ unit-performance b d u
   unfolding unit-performance
   performance-adds-up b d =
-      ap₂ (λ (r s : ℕ). performance d (measure-in b r) (deviation x) +ℤ performance d (measure-in b s) (deviation y)) (h .first .region) (h .second .region)
-      ∙ sym (performance-plus d (measure-in b (u .region)) (deviation x) (deviation y))
-      ∙ performance-ext d (measure-in b (u .region)) _ _ deviation-adds-up
+      ap₂ (λ (r s : ℕ). performance d (weight-in b r) (deviation x) +ℤ performance d (weight-in b s) (deviation y)) (h .first .region) (h .second .region)
+      ∙ sym (performance-plus d (weight-in b (u .region)) (deviation x) (deviation y))
+      ∙ performance-ext d (weight-in b (u .region)) _ _ deviation-adds-up

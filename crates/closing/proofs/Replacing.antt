@@ -13,10 +13,9 @@ use Rattle.rules.specs.declared.Standing.{Standing}
 use Rattle.rules.specs.declared.Standing.the-variants.{Live, Default}
 use Rattle.rules.specs.Quantities.{points}
 use Rattle.rules.specs.Book.{by, Defaults, Unit, Requirement, covers, Book}
-use Rattle.rules.specs.Measure.{measure-in}
 use Rattle.rules.specs.Reliability.{reliable-in}
 use Rattle.rules.specs.Deviation.{deviation, good, units-in, good-units, residual-deviation}
-use Rattle.rules.specs.Performance.{units-of, unit-performance, residual-performance}
+use Rattle.rules.specs.Performance.{weight-in, units-of, unit-performance, residual-performance}
 use Rattle.laws.proofs.PerformanceLaws.{performance-ext}
 use Rattle.rules.specs.Standings.{standing, unit-standing, some-good-or-none, residual-standing, live-or}
 use Rattle.rules.specs.Members.{unit-member, residual-member, unit-members, members}
@@ -104,7 +103,7 @@ module _ {u x y : Unit} (h : Parts u x y) (b : Book) where
 
     pub residual-performance-stays : (d : Direction) (r : ℕ) → residual-performance after d r ≡ residual-performance b d r
     unfolding residual-performance
-    residual-performance-stays d r = performance-ext d (measure-in b r) _ _ (residual-deviation-stays r)
+    residual-performance-stays d r = performance-ext d (weight-in b r) _ _ (residual-deviation-stays r)
 
     some-good-stays : (r : ℕ) → some-good-or-none after r ≡ some-good-or-none b r
     unfolding some-good-or-none

@@ -1,4 +1,5 @@
 pub mod Calls
+pub mod HeldLaws
 pub mod LentLaws
 pub mod Promises
 pub mod TallyLaws

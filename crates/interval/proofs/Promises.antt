@@ -11,7 +11,7 @@ use Rattle.interval.specs.declared.Tally.{Tally}
 use Rattle.interval.specs.declared.Opened.{Opened}
 use Rattle.interval.specs.declared.Step.{Step}
 use Rattle.interval.specs.Tally.{in-range, frequency-turn, unit-turn, answer-turn}
-use Rattle.interval.specs.Lent.{Lent, figures-length, of-interval}
+use Rattle.interval.specs.Lent.{Lent, figures-length, of-interval, measure-held}
 use Rattle.interval.specs.Calls.{refused-step, count-step, least-after}
 use Rattle.interval.specs.Promises.{ContentsPromise, FrequencyPromise, RequirementPromise, SettingsPromise, UnitPromise}
 
@@ -54,3 +54,6 @@ pub of-interval-only :
     (n : ℕ) (figures : List ℤ) {r r′ : Bool} → r ≡ (leb figures-length (length figures) && of-interval n figures) →
     r′ ≡ (leb figures-length (length figures) && of-interval n figures) → r ≡ r′
 of-interval-only n figures a b = a ∙ sym b
+
+pub measure-held-only : (m : ℤ) {r r′ : ℤ} → r ≡ measure-held m → r′ ≡ measure-held m → r ≡ r′
+measure-held-only m a b = a ∙ sym b

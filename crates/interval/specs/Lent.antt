@@ -4,8 +4,9 @@ use mathlib.Core.Bool.{Bool, true, false, _&&_, cond}
 use mathlib.Core.List.{List, [], _∷_, _++_}
 use Prim.Native.Nat.{ℕ, zero, suc, _+_, _*_, _%_}
 use lib.Dec.{eqb, leb, ltb}
-use lib.IntN.{ℤ, pos, negsuc, _+ℤ_}
+use lib.IntN.{ℤ, pos, negsuc, _+ℤ_, _-ℤ_}
 use lib.ListN.{length, getD, take, drop}
+use lib.Signed.{ltZ}
 use Rattle.integers.specs.Sums.{every, one}
 use Rattle.integers.specs.Fills.{filled}
 use Rattle.rules.specs.declared.Direction.{Direction}
@@ -14,6 +15,8 @@ use Rattle.rules.specs.Quantities.{points, regions, measure-limit, deviation-li
 use Rattle.rules.specs.Bytes.{number-at}
 use Rattle.rules.specs.Fields.{sized}
 use Rattle.rules.specs.Book.{ByDirection, Defaults, Settings, Region, Unit}
+use Rattle.rules.specs.Measure.{measure}
+use Rattle.rules.specs.Dropped.{dropped-at}
 use Rattle.rules.specs.Reliability.{reliable}
 use Rattle.rules.specs.Deviation.{deviation, good}
 use Rattle.rules.specs.Performance.{wanted, performance}
@@ -51,6 +54,26 @@ series-start r = points * r
 
 abbrev pub series-length : ℕ
 series-length = points * regions
+
+-- one number keeps FM and whether its point is dropped: at a dropped point FM stands so much higher, past the FM of every kept one
+abbrev pub mark : ℕ
+mark = 10_000_001
+
+abbrev pub marked : Bool → ℤ → ℤ
+marked dropped fm = cond dropped (fm +ℤ pos mark) fm
+
+unfoldable pub kept-measure : Settings → Region → ℕ → ℤ
+kept-measure s r t = marked (dropped-at s r t) (measure s r t)
+
+-- what such a number says: whether its point is dropped, its FM, and what its point weighs
+abbrev pub is-marked : ℤ → Bool
+is-marked m = ltZ (pos measure-limit) m
+
+unfoldable pub measure-held : ℤ → ℤ
+measure-held m = cond (is-marked m) (m -ℤ pos mark) m
+
+unfoldable pub weight-held : ℤ → ℤ
+weight-held m = cond (is-marked m) (pos 0) m
 
 -- ---- sums of deviations: 150 a region, those of deviations above zero at its 75 points, then those of deviations below
 abbrev pub sums-each : ℕ
@@ -101,14 +124,14 @@ figures-of s r (suc (suc (suc (suc i)))) = six (r .defaults) i
 abbrev pub home-of : Unit → ℕ
 home-of u = 2 * u .region + one (good u)
 
--- ---- a unit's row of eight: its performances for raise and for lower, by the measures of its region, and its six defaults
+-- ---- a unit's row of eight: its performances for raise and for lower, by what the points of its region weigh, and its six defaults
 abbrev pub row-each : ℕ
 row-each = 8
 
 abbrev pub row-of : (ℕ → ℤ) → Unit → ℕ → ℤ
-row-of measured u zero = performance Raise measured (deviation u)
-row-of measured u (suc zero) = performance Lower measured (deviation u)
-row-of measured u (suc (suc i)) = six (u .defaults) i
+row-of weighed u zero = performance Raise weighed (deviation u)
+row-of weighed u (suc zero) = performance Lower weighed (deviation u)
+row-of weighed u (suc (suc i)) = six (u .defaults) i
 
 -- ---- long enough: for five regions, and for the homes and rows of n units
 abbrev pub regions-long : Lent → Bool
@@ -130,6 +153,10 @@ of-interval n figures = every regions (λ r. is-number n (getD figures (figures-
 unfoldable pub each-sized : ℕ → ℕ → ℕ → List ℤ → Bool
 each-sized limit start n xs = every n (λ t. sized limit (getD xs (start + t) (pos 0)))
 
+-- the measures of a region hold an FM within its limit
+unfoldable pub each-measured : ℕ → List ℤ → Bool
+each-measured start ms = every points (λ t. sized measure-limit (measure-held (getD ms (start + t) (pos 0))))
+
 -- the region that byte 2 of a unit's part names; a part that ends before it names none
 abbrev pub named-region : List ℕ → ℕ
 named-region part = cond (ltb 2 (length part)) (number-at 1 2 part) regions
@@ -139,5 +166,5 @@ named-region part = cond (ltb 2 (length part)) (number-at 1 2 part) regions
 unfoldable pub series-in-range : ℕ → ℕ → Lent → Bool
 series-in-range r taken l =
     cond (ltb r regions)
-    (each-sized measure-limit (series-start r) points (l .measures) && each-sized (deviation-limit * taken) (sums-start r) sums-each (l .sums))
+    (each-measured (series-start r) (l .measures) && each-sized (deviation-limit * taken) (sums-start r) sums-each (l .sums))
     true

@@ -7,12 +7,25 @@ use lib.ListN.{getD, set}
 use Rattle.rules.specs.Quantities.{points}
 use Rattle.rules.specs.Book.{Region, Unit}
 use Rattle.rules.specs.Contents.{contents}
-use Rattle.rules.specs.Measure.{measure}
 use Rattle.interval.specs.declared.Tally.{Tally}
 use Rattle.interval.specs.declared.Opened.{Opened}
 use Rattle.interval.specs.declared.Step.{Step}
 use Rattle.interval.specs.Tally.{settings-of, next-region, units-taken}
-use Rattle.interval.specs.Lent.{Lent, put-from, series-start, sums-each, sums-start, summed, figures-each, figures-of, home-of, row-each, row-of}
+use Rattle.interval.specs.Lent.{
+  Lent,
+  put-from,
+  series-start,
+  kept-measure,
+  weight-held,
+  sums-each,
+  sums-start,
+  summed,
+  figures-each,
+  figures-of,
+  home-of,
+  row-each,
+  row-of,
+}
 use Rattle.interval.specs.Calls.{opened, stepped, left, settings-reply, settled, frequency-reply, counted, unit-reply, unit-counted, requirement-reply}
 
 -- ---- contents
@@ -27,7 +40,7 @@ pub record SettingsPromise (t : Tally) (part : List ℕ) (r : Step) : Type 0 whe
 abbrev pub region-kept : Tally → Region → Lent → Lent
 region-kept t x l =
     record {
-      measures = put-from (series-start (next-region t)) points (measure (settings-of t) x) (l .measures);
+      measures = put-from (series-start (next-region t)) points (kept-measure (settings-of t) x) (l .measures);
       sums = put-from (sums-start (next-region t)) sums-each (λ j. pos 0) (l .sums);
       figures = put-from (figures-each * next-region t) figures-each (figures-of (settings-of t) x) (l .figures);
       numbers = l .numbers;
@@ -40,8 +53,8 @@ pub record FrequencyPromise (t : Tally) (part : List ℕ) (l : Lent) (r : Step) 
   pub lent : l′ ≡ left (region-kept t) (frequency-reply t part l) l
 
 -- ---- a unit: its deviations in its region's sums if it is good, its number, its home and its row
-abbrev pub measured : Lent → Unit → ℕ → ℤ
-measured l u i = getD (l .measures) (series-start (u .region) + i) (pos 0)
+abbrev pub weighed : Lent → Unit → ℕ → ℤ
+weighed l u i = weight-held (getD (l .measures) (series-start (u .region) + i) (pos 0))
 
 abbrev pub unit-kept : Tally → Unit → Lent → Lent
 unit-kept t u l =
@@ -51,7 +64,7 @@ unit-kept t u l =
       figures = l .figures;
       numbers = set (l .numbers) (units-taken t) (u .number);
       homes = set (l .homes) (units-taken t) (home-of u);
-      rows = put-from (row-each * units-taken t) row-each (row-of (measured l u) u) (l .rows);
+      rows = put-from (row-each * units-taken t) row-each (row-of (weighed l u) u) (l .rows);
     }
 
 pub record UnitPromise (t : Tally) (part : List ℕ) (l : Lent) (r : Step) (l′ : Lent) : Type 0 where

@@ -18,6 +18,9 @@ pub const ROW_EACH: usize = 8;
 
 pub const ROWS_LENGTH: usize = 4096;
 
+// At a point that is dropped from performance its measure is kept as FM and so much more: twice the limit of FM, and 1.
+pub const MARK: i32 = 10_000_001;
+
 // A unit's deviation is at most so much either way.
 pub const DEVIATION_LIMIT: u64 = 15_000_000;
 

@@ -21,7 +21,7 @@ use Rattle.rules.specs.Standings.{standing, live-or}
 use Rattle.rules.specs.Members.{unit, residual, Member, over-regions, each-region}
 use Rattle.rules.specs.Answer.{Answer, answered}
 use Rattle.interval.specs.declared.Tally.{Tally}
-use Rattle.interval.specs.Lent.{Lent, series-start, sum-place, figures-each, row-each}
+use Rattle.interval.specs.Lent.{Lent, series-start, measure-held, sum-place, figures-each, row-each}
 
 module _ (l : Lent) where
   -- ---- a region's figures, by its number
@@ -77,7 +77,7 @@ module _ (l : Lent) where
 
   -- ---- RCR: the larger of the sums of positive and of negative deviations over its regions, at points of the right sign
   abbrev pub kept-weighed : Requirement → ℕ → ℤ
-  kept-weighed q p = over-regions q (λ r. generation-of r *ℤ getD (l .measures) (series-start r + p) (pos 0))
+  kept-weighed q p = over-regions q (λ r. generation-of r *ℤ measure-held (getD (l .measures) (series-start r + p) (pos 0)))
 
   abbrev pub kept-sum : Direction → Requirement → ℕ → ℤ
   kept-sum d q p = over-regions q (λ r. getD (l .sums) (sum-place d r p) (pos 0))

@@ -13,16 +13,16 @@ use Rattle.rules.specs.Fields.{default-fine, sized}
 use Rattle.rules.specs.declared.Direction.{Direction}
 use Rattle.rules.specs.declared.Direction.the-variants.{Raise, Lower}
 use Rattle.interval.specs.declared.Tally.{Tally}
-use Rattle.interval.specs.Lent.{Lent, series-start, sum-place, of-interval}
+use Rattle.interval.specs.Lent.{Lent, series-start, measure-held, sum-place, of-interval}
 use Rattle.kept.specs.Kept.{figure, in-row}
 
 -- from 0 to a limit
 abbrev pub from-0 : ℕ → ℤ → Bool
 from-0 limit x = leZ (pos 0) x && leZ x (pos limit)
 
--- ---- at a point: the five regions' measures, and their sums of deviations together
+-- ---- at a point: the FM of the five regions' measures, and their sums of deviations together
 abbrev pub measures-fine : Lent → ℕ → Bool
-measures-fine l p = every regions (λ r. sized measure-limit (getD (l .measures) (series-start r + p) (pos 0)))
+measures-fine l p = every regions (λ r. sized measure-limit (measure-held (getD (l .measures) (series-start r + p) (pos 0))))
 
 abbrev pub sums-fine : ℕ → Lent → Direction → ℕ → Bool
 sums-fine most l d p = leb (sumℕ regions (λ r. natAbs (getD (l .sums) (sum-place d r p) (pos 0)))) most

@@ -5,6 +5,7 @@ pub mod RecordLaws
 pub mod Limits
 pub mod LimitsLaws
 pub mod MeasureLaws
+pub mod DroppedLaws
 pub mod DeviationLaws
 pub mod PerformanceLaws
 pub mod SeriesLaws

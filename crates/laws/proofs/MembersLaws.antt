@@ -25,8 +25,8 @@ use Rattle.rules.specs.Measure.{measure-in}
 use Rattle.laws.proofs.MeasureLaws.{measure-within}
 use Rattle.rules.specs.Deviation.{deviation, good}
 use Rattle.laws.proofs.DeviationLaws.{deviation-within}
-use Rattle.rules.specs.Performance.{performance, units-of, unit-performance, residual-performance}
-use Rattle.laws.proofs.PerformanceLaws.{performance-within, residual-is}
+use Rattle.rules.specs.Performance.{weight-in, performance, units-of, unit-performance, residual-performance}
+use Rattle.laws.proofs.PerformanceLaws.{weight-within, performance-within, residual-is}
 use Rattle.rules.specs.Standings.{unit-standing, residual-standing, live-or}
 use Rattle.rules.specs.Members.{Member, unit-member, residual-or, residual-member, unit-members, members, over-regions}
 use Rattle.rules.specs.Factors.{helpful, unhelpful}
@@ -76,11 +76,14 @@ module _ (b : Book) (h : BookFits b) where
       measure-within (b .settings .smoothing) (good-at (regionOf b r .quality)) (λ i. getD (regionOf b r .frequency) i 0) (regionOf b r .before)
       (h .settings .smoothing) (f .before) (f .frequency) (suc t) (omega arith)
 
-  -- a unit's performance by any region's measures
+  pub weight-in-within : (r : ℕ) → r < regions → (t : ℕ) → t < points → Within measure-limit (weight-in b r t)
+  weight-in-within r l t k = weight-within (b .settings) (regionOf b r) t (measure-in-within r l t k)
+
+  -- a unit's performance by what any region's points weigh
   pub unit-performance-within : (u : Unit) → UnitFits u → (d : Direction) (r : ℕ) → r < regions →
-      Within performance-limit (performance d (measure-in b r) (deviation u))
+      Within performance-limit (performance d (weight-in b r) (deviation u))
   unit-performance-within u f d r l =
-      performance-within d (measure-in b r) (deviation u) (measure-in-within r l) (deviation-within u (f .start) (f .end) (f .reading))
+      performance-within d (weight-in b r) (deviation u) (weight-in-within r l) (deviation-within u (f .start) (f .end) (f .reading))
 
   -- a region's residual performance is at most that for each of its units
   pub residual-performance-size : (d : Direction) (r : ℕ) → r < regions →
@@ -88,9 +91,9 @@ module _ (b : Book) (h : BookFits b) where
   unfolding residual-performance
   residual-performance-size d r l =
       rw (
-        residual-is d (measure-in b r) (units-of b r),
+        residual-is d (weight-in b r) (units-of b r),
         abs-neg,
-        total-those good (λ u. performance d (measure-in b r) (deviation u)) (units-of b r),
+        total-those good (λ u. performance d (weight-in b r) (deviation u)) (units-of b r),
         total-those (λ u. eqb r (u .region)) _ (b .roster),
       )
       (counted-size UnitFits performance-limit (λ u. eqb r (u .region)) good _ (λ u f. unit-performance-within u f d r l) (b .roster) (h .roster))

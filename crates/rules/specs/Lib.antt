@@ -11,6 +11,7 @@ pub mod UnitRecord
 pub mod RequirementRecord
 pub mod WholeBook
 pub mod Measure
+pub mod Dropped
 pub mod Reliability
 pub mod Deviation
 pub mod Performance

@@ -25,6 +25,13 @@ lowest-frequency = 45_000_000
 abbrev pub highest-frequency : ℕ
 highest-frequency = 55_000_000
 
+-- the primary frequency control band (02, R-3): its lowest and its highest frequency
+abbrev pub band-lowest : ℕ
+band-lowest = 49_985_000
+
+abbrev pub band-highest : ℕ
+band-highest = 50_015_000
+
 -- sizes: the measure in µHz, power in hundredths of a MW, generation and amounts in the same, defaults, money in cents
 abbrev pub measure-limit : ℕ
 measure-limit = 5_000_000

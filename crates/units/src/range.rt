@@ -7,10 +7,13 @@ ghost use lib.ListN.{length};
 ghost use mir.Syntax.{w64};
 ghost use mir.Val.{ofZ};
 ghost use Rattle.rules.specs.Fields.{sized};
-ghost use Rattle.interval.specs.Lent.{each-sized};
+ghost use Rattle.interval.specs.Lent.{measure-held, each-sized, each-measured};
 use book::frequency::MEASURE_LIMIT;
 
 const MOST_BITS: u64 = 0xffff_ffff_ffff_ffff;
+
+// The limit of FM with the mark of a dropped point.
+const MARKED_LIMIT: i32 = 15_000_001;
 
 const SIGN_BIT: u64 = 0x8000_0000_0000_0000;
 
@@ -49,24 +52,24 @@ pub(crate) fn each_sum_within(limit: u64, start: usize, sums: &[i64]) -> bool
     any == 0
 }
 
-// 0 where a measure is within its limit, else 1.
+// 0 where the FM of a lent measure is within its limit, else 1: the FM of dropped points stands right above that of kept ones, so two tests tell.
 fn past_limit(measure: i32) -> u32
-    ensures { λ r. ⌜ (r ≤ 1) × (eqb r 0 ≡ sized 5_000_000 measure) ⌝ }
+    ensures { λ r. ⌜ (r ≤ 1) × (eqb r 0 ≡ sized 5_000_000 (measure-held measure)) ⌝ }
 {
     let most = MEASURE_LIMIT as i32;
     if measure < -most {
         return 1;
     }
-    if most < measure {
+    if MARKED_LIMIT < measure {
         return 1;
     }
     0
 }
 
-// Is each of a region's 75 measures within its limit?
+// Is the FM of each of a region's 75 measures within its limit?
 pub(crate) fn each_measure_within(start: usize, measures: &[i32]) -> bool
     requires { ⌜ start + 75 ≤ length (now measures) ⌝ }
-    ensures { λ r. ⌜ r ≡ each-sized 5_000_000 start 75 (now (measures .entry)) ⌝ }
+    ensures { λ r. ⌜ r ≡ each-measured start (now (measures .entry)) ⌝ }
 {
     let mut many: u32 = 0;
     let mut t: u32 = 0;

@@ -1,6 +1,7 @@
 // vectors: the calls on figures that source document 000 (the guide) publishes. It takes two records from standard input: a frequency record with Table 15's
 // region frequency deviation on top of 50,000,000 µHz (its first point has no FM yet: it is bad, and holds 0), and a unit that stays at the start of Table 5's
-// trajectory, 28.89 MW to 31.11. It prints what is compared: a number of each line is what the calls leave, beside the published one. The record is taken
+// trajectory, 28.89 MW to 31.11. It prints what is compared: a number of each line is what the calls leave, beside the published one; and the points that are
+// dropped from performance, as the table's own columns have them (docs/DECISIONS.md, 93). The record is taken
 // for each of the five regions; the unit is alone in the first, so that the sums of this region are its deviations.
 ghost use Prim.Native.Nat.{_≤_};
 ghost use Rattle.integers.specs.Bounds.{Within};
@@ -10,6 +11,7 @@ use interval::SERIES_LENGTH;
 use interval::SUMS_LENGTH;
 use interval::Taking;
 use interval::Tally;
+use interval::lent::measure_held;
 use libc::STDIN_FILENO;
 use libc::STDOUT_FILENO;
 
@@ -120,6 +122,11 @@ fn apart(a: i64, b: i64) -> u64 {
     (x - y) as u64
 }
 
+// How far FM, as a lent measure says it, is from the published one.
+fn off_published(measure: i32, published: i64) -> u64 {
+    apart(measure_held(measure) as i64, published)
+}
+
 fn larger(a: u64, b: u64) -> u64 {
     if a < b { b } else { a }
 }
@@ -135,7 +142,7 @@ fn near_points(measures: &[i32; SERIES_LENGTH], published: &[i64; 75]) -> u64 {
     let mut near: u64 = 0;
     let mut t: usize = 0;
     while t < 75 {
-        near += one_if(apart(measures[t] as i64, published[t]) <= TOLERANCE);
+        near += one_if(off_published(measures[t], published[t]) <= TOLERANCE);
         t += 1;
     }
     near
@@ -145,7 +152,7 @@ fn largest_difference(measures: &[i32; SERIES_LENGTH], published: &[i64; 75]) ->
     let mut largest: u64 = 0;
     let mut t: usize = 0;
     while t < 75 {
-        largest = larger(largest, apart(measures[t] as i64, published[t]));
+        largest = larger(largest, off_published(measures[t], published[t]));
         t += 1;
     }
     largest
@@ -220,13 +227,34 @@ fn take_regions(
     true
 }
 
+// A point, counted from 1, that is dropped from performance.
+fn say_if_dropped(measure: i32, t: usize) {
+    if measure == measure_held(measure) {
+        return;
+    }
+    say(b" ");
+    say_number(std::num::wrapping_add_u64(t as u64, 1));
+}
+
+fn say_dropped(measures: &[i32; SERIES_LENGTH]) {
+    say(b"table 15: dropped from performance: points");
+    let mut t: usize = 0;
+    while t < 75 {
+        say_if_dropped(measures[t], t);
+        t += 1;
+    }
+    say(b"\n");
+}
+
 fn say_table_15(measures: &[i32; SERIES_LENGTH], figures: &[i64; FIGURES_LENGTH]) {
     let published = PUBLISHED;
     say(b"table 15: of 75 measures within 10 uHz of the published: ");
     say_number(near_points(measures, &published));
     say(b"; largest difference in uHz: ");
     say_number(largest_difference(measures, &published));
-    say(b"\nreliable for raise:");
+    say(b"\n");
+    say_dropped(measures);
+    say(b"reliable for raise:");
     say_reliable(figures[2]);
     say(b"reliable for lower:");
     say_reliable(figures[3]);

@@ -23,6 +23,9 @@ use Rattle.books.specs.WorkedBooks.{
   lower-defaults,
   edges-of-reliability,
   every-field,
+  dropped-edges,
+  dropped-reliability,
+  table-15,
 }
 
 abbrev sum-of : List ℕ → ℕ
@@ -87,3 +90,15 @@ edges-of-reliability-bytes = record { long = refl; same = refl }
 pub every-field-bytes : Written every-field 2_696 1_573_966_949_096_326_953
 unfolding computing
 every-field-bytes = record { long = refl; same = refl }
+
+pub dropped-edges-bytes : Written dropped-edges 3_068 1_956_781_453_118_845_645
+unfolding computing
+dropped-edges-bytes = record { long = refl; same = refl }
+
+pub dropped-reliability-bytes : Written dropped-reliability 2_696 1_013_002_347_676_891_062
+unfolding computing
+dropped-reliability-bytes = record { long = refl; same = refl }
+
+pub table-15-bytes : Written table-15 3_440 572_737_380_810_571_913
+unfolding computing
+table-15-bytes = record { long = refl; same = refl }

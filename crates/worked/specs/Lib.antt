@@ -8,3 +8,6 @@ pub mod NoUnits
 pub mod LowerDefaults
 pub mod EdgesOfReliability
 pub mod EveryField
+pub mod DroppedEdges
+pub mod DroppedReliability
+pub mod TableFifteen

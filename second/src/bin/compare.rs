@@ -23,26 +23,28 @@ struct Trial {
     whole: bool,
 }
 
-/// Half of the books are whole ones of the classes in which the rules of the share differ, a quarter whole ones of the
-/// others, a quarter damaged ones of all. A large roster comes about once in sixteen.
+/// The class of a turn, and whether its book is left whole. Of eight books two are damaged ones of all classes; three are
+/// whole ones in which both the rules of the share and those of performance differ, one is of the other classes made for
+/// the share, one of the other classes made for dropped points, and one of all that is left.
+fn class_of(turn: u64) -> (&'static str, bool) {
+    let nth = turn as usize / 8;
+    let of = |classes: &[&'static str]| classes[nth % classes.len()];
+    match turn % 8 {
+        0 => (of(&make::others()), true),
+        4 => (of(&["swings", "band", "runs", "patchy"]), true),
+        3 => (of(&["standins", "unequal"]), true),
+        2 | 6 | 7 => ("keptties", true),
+        _ => (make::CLASSES[turn as usize / 4 % make::CLASSES.len()].0, false),
+    }
+}
+
+/// A large roster comes about once in sixteen.
 fn trial(turn: u64) -> Trial {
-    let nth = turn / 4;
-    let (whole, unequal) = match turn % 4 {
-        0 => (true, false),
-        1 => (false, false),
-        _ => (true, true),
-    };
-    let others = make::CLASSES.len() - make::UNEQUAL.len();
-    let class = if unequal {
-        make::UNEQUAL[turn as usize % make::UNEQUAL.len()]
-    } else if whole {
-        make::CLASSES[nth as usize % others].0
-    } else {
-        make::CLASSES[nth as usize % make::CLASSES.len()].0
-    };
+    let (class, whole) = class_of(turn);
+    let with_units = make::UNEQUAL.contains(&class) || make::DROPPING.contains(&class);
     let large = [76, 477, 509, 511, 512];
-    // A residual alone ties with nobody.
-    let small = if unequal { [6, 1, 5, 7, 13, 2, 3] } else { [0, 1, 5, 7, 13, 2, 3] };
+    // A residual alone ties with nobody, and has no performance.
+    let small = if whole && with_units { [6, 1, 5, 7, 13, 2, 3] } else { [0, 1, 5, 7, 13, 2, 3] };
     let spread = turn.wrapping_mul(0x9E37_79B9_7F4A_7C15) >> 32;
     let roster = if spread.is_multiple_of(16) {
         large[(spread / 16 % large.len() as u64) as usize]
@@ -59,10 +61,12 @@ fn trial(turn: u64) -> Trial {
     }
 }
 
-/// What a program has to print for a book, and the shares in which the rule before request R-9 would differ.
+/// What a program has to print for a book, the shares in which the rule before request R-9 would differ, and whether the
+/// rule of performance before request R-3 would.
 struct Expected {
     output: String,
     shares: BTreeSet<(&'static str, &'static str)>,
+    dropping_tells: bool,
 }
 
 /// The second program's output, with its invariants tested on the way.
@@ -76,12 +80,14 @@ fn second_output(trial: &Trial, turn: u64) -> Result<Expected, String> {
             invariants::check(&book, &all)?;
             invariants::splits_close(&book, &all, turn as usize)?;
             let output = write_listing(book.settings.interval, &all);
-            Ok(Expected { output, shares: rules::shares_of(&all) })
+            let dropping_tells = rules::dropping_tells(&book, &all);
+            Ok(Expected { output, shares: rules::shares_of(&all), dropping_tells })
         }
         Err(Refusal(number)) if trial.whole => Err(format!("a made book is refused {number}")),
         Err(Refusal(number)) if !(1..=10).contains(&number) => Err(format!("refused {number}")),
         Err(Refusal(number)) => {
-            Ok(Expected { output: format!("refused {number}\n"), shares: BTreeSet::new() })
+            let output = format!("refused {number}\n");
+            Ok(Expected { output, shares: BTreeSet::new(), dropping_tells: false })
         }
     }
 }
@@ -132,6 +138,8 @@ fn main() -> ExitCode {
     let mut outcomes: BTreeMap<String, u64> = BTreeMap::new();
     let mut shares: BTreeMap<(&str, &str), u64> = BTreeMap::new();
     let mut told_apart = 0;
+    // Whole books, those of them that drop points with a difference, and damaged ones that do.
+    let (mut whole, mut whole_dropping, mut damaged_dropping) = (0, 0, 0);
     let (mut passed, mut failed) = (0, 0);
     for turn in first..first + books {
         let trial = trial(turn);
@@ -139,6 +147,9 @@ fn main() -> ExitCode {
             Ok(expected) => {
                 *outcomes.entry(outcome_of(&expected.output)).or_default() += 1;
                 told_apart += u64::from(!expected.shares.is_empty());
+                whole += u64::from(trial.whole);
+                whole_dropping += u64::from(trial.whole && expected.dropping_tells);
+                damaged_dropping += u64::from(!trial.whole && expected.dropping_tells);
                 for share in expected.shares {
                     *shares.entry(share).or_default() += 1;
                 }
@@ -159,6 +170,9 @@ fn main() -> ExitCode {
     for ((share, direction), count) in &shares {
         println!("    {share}, {direction}: {count}");
     }
+    let dropping = whole_dropping + damaged_dropping;
+    println!("  listings that the rule before request R-3 would give otherwise: {dropping}");
+    println!("    of {whole} whole books: {whole_dropping}");
     println!("compare: {passed} passed, {failed} failed");
     if failed == 0 {
         ExitCode::SUCCESS

@@ -1,5 +1,6 @@
 //! `make SEED CLASS [ROSTER]`: a valid book to standard output; `make list`: the classes; `make ties FIRST COUNT`:
 //! in how many books of so many seeds the rule of the share and the one before request R-9 differ, and where;
+//! `make dropped FIRST COUNT`: in how many points are dropped, and in how many listings that shows (request R-3);
 //! `make bench SHAPE UNITS REQUIREMENTS`: one that costs the most.
 
 use std::collections::BTreeMap;
@@ -12,7 +13,7 @@ use second::rules;
 use second::write::to_bytes;
 
 const USAGE: &str = "usage: make SEED CLASS [ROSTER] | make list | make ties FIRST COUNT | \
-                     make bench SHAPE UNITS REQUIREMENTS";
+                     make dropped FIRST COUNT | make bench SHAPE UNITS REQUIREMENTS";
 
 /// Books of each class and of each roster, and in how many of them the rules differ; for every share and direction
 /// in how many books it is one that differs.
@@ -45,6 +46,29 @@ fn count_ties(first: u64, count: u64) {
     by_share.iter().for_each(|((share, direction), books)| println!("  {share}, {direction}: {books}"));
 }
 
+/// Books of each class, in how many of them a point is dropped, and in how many the rule of performance before
+/// request R-3 gives another listing.
+fn count_dropped(first: u64, count: u64) {
+    let mut all = [0; 3];
+    for (class, _) in CLASSES {
+        let mut counts = [0; 3];
+        for seed in first..first + count {
+            let book = make(seed, class, None).expect("a class of the list");
+            let settled = settle_book(&book).expect("a made book");
+            counts[0] += 1;
+            counts[1] += u64::from(rules::dropped_in(&book) > 0);
+            counts[2] += u64::from(rules::dropping_tells(&book, &settled));
+        }
+        let [books, dropped, tell] = counts;
+        println!(
+            "{class}: points dropped in {dropped} of {books} books, another listing without that in {tell}"
+        );
+        all.iter_mut().zip(counts).for_each(|(sum, count)| *sum += count);
+    }
+    let [books, dropped, tell] = all;
+    println!("all: points dropped in {dropped} of {books} books, another listing without that in {tell}");
+}
+
 fn main() -> std::io::Result<()> {
     let words: Vec<String> = std::env::args().skip(1).collect();
     if words == ["list"] {
@@ -52,6 +76,10 @@ fn main() -> std::io::Result<()> {
         return Ok(());
     }
     if let [word, first, count] = &words[..] {
+        if word == "dropped" {
+            count_dropped(first.parse().expect(USAGE), count.parse().expect(USAGE));
+            return Ok(());
+        }
         if word == "ties" {
             count_ties(first.parse().expect(USAGE), count.parse().expect(USAGE));
             return Ok(());

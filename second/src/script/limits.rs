@@ -72,6 +72,22 @@ impl<W: Write> Script<W> {
         }
     }
 
+    /// A lent measure: its limits, and the highest of a kept point and the lowest of a dropped one, between which no
+    /// number is missing.
+    fn around_measure(&mut self, honest: &Honest, place: usize) {
+        self.around(honest, "a measure", ("measures", place), (-MEASURE_LIMIT, LENT_MEASURE_HIGHEST));
+        let inner = [
+            ("the highest kept", MEASURE_LIMIT),
+            ("the lowest dropped", MEASURE_LIMIT + 1),
+            ("a dropped 0", DROPPED),
+            ("a dropped 1", DROPPED + 1),
+            ("a dropped -1", DROPPED - 1),
+        ];
+        for (what, number) in inner {
+            self.trial(honest, &format!("a measure, {what}"), &[("measures", place, number)]);
+        }
+    }
+
     /// A lent number that the call has nothing to do with may be any.
     fn unread(&mut self, honest: &Honest, what: &str, name: &'static str, place: usize) {
         let (first, last) = span(name);
@@ -165,7 +181,7 @@ impl<W: Write> Script<W> {
         let limit = DEVIATION_LIMIT * taken as i128;
         for point in [0, self.chance.place(POINTS), POINTS - 1] {
             let measure = POINTS * region + point;
-            self.around(honest, "a measure", ("measures", measure), (-MEASURE_LIMIT, MEASURE_LIMIT));
+            self.around_measure(honest, measure);
             self.unread(honest, "a measure elsewhere", "measures", POINTS * other + point);
             for (what, half) in [("above", 0), ("below", POINTS)] {
                 let sum = SUMS_OF_A_REGION * region + half + point;
@@ -174,7 +190,7 @@ impl<W: Write> Script<W> {
             }
         }
         // Without its third byte a part names no region; a region that there is not has no numbers.
-        let off = [("measures", POINTS * region, MEASURE_LIMIT + 1)];
+        let off = [("measures", POINTS * region, LENT_MEASURE_HIGHEST + 1)];
         self.cut_trial(honest, "a measure off, two bytes", &off, 2);
         self.cut_trial(honest, "a measure off, three bytes", &off, 3);
         let mut nowhere = Honest { kind: honest.kind, part: honest.part.clone() };
@@ -209,7 +225,7 @@ impl<W: Write> Script<W> {
         }
         self.unread(honest, "a home past the last unit", "homes", UNITS);
         self.unread(honest, "a row past the last unit", "rows", NUMBERS_OF_A_ROW * UNITS);
-        let off = [("measures", SERIES - 1, MEASURE_LIMIT + 1)];
+        let off = [("measures", SERIES - 1, LENT_MEASURE_HIGHEST + 1)];
         self.cut_trial(honest, "a measure off, no bytes", &off, 0);
     }
 
@@ -217,7 +233,7 @@ impl<W: Write> Script<W> {
         let limit = DEVIATION_LIMIT * UNITS as i128;
         for point in [0, POINTS - 1] {
             let measure = POINTS * region + point;
-            self.around(honest, "a measure", ("measures", measure), (-MEASURE_LIMIT, MEASURE_LIMIT));
+            self.around_measure(honest, measure);
             for (what, half) in [("above", 0), ("below", POINTS)] {
                 let sum = SUMS_OF_A_REGION * region + half + point;
                 let left = limit - self.other_sums(sum);

@@ -1,12 +1,7 @@
 -- `vectors::largest_difference` is safe: before point t t is at most 75, and each turn takes one of 75 points.
 use Prim.Native.Nat.{_≤_, _-_}
 use native.Mathlib.Omega.{arith}
-use borrow.Author.Needs.{needs, sfits-of}
-use lib.IntN.{pos}
-use lib.ListN.{getD}
-use mir.Syntax.{w32, w64}
-use mir.Val.{SFits}
-use mir.Facts.{toZ-ofZ, sfits-widen}
+use borrow.Author.Needs.{needs}
 use Rattle.vectors.proofs.largest_difference.Statement.{statement}
 use Rattle.vectors.proofs.largest_difference.Tie as tie
 
@@ -19,26 +14,20 @@ abbrev μ-loop : tie.MeasureT-loop
 loop-holds : tie.Need-loop-holds Inv-loop μ-loop
 loop-holds c = omega arith
 
-mul-apart : tie.Need-mul-apart Inv-loop μ-loop
-mul-apart c = omega arith
+mul-off-published : tie.Need-mul-off-published Inv-loop μ-loop
+mul-off-published c = omega arith
 
-element-copy-out-apart : tie.Need-element-copy-out-apart Inv-loop μ-loop
-element-copy-out-apart c = omega arith
+element-copy-out-off-published : tie.Need-element-copy-out-off-published Inv-loop μ-loop
+element-copy-out-off-published c = omega arith
 
-narrow : (c : tie.After-apart-arg Inv-loop μ-loop) → SFits w32 (getD (c .before .before .before .args .measures .now) (c .before .before .loop .t) (pos 0))
-narrow c = sfits-of (c .apart-arg .given)
+mul-off-published-2 : tie.Need-mul-off-published-2 Inv-loop μ-loop
+mul-off-published-2 c = omega arith
 
-cast-apart : tie.Need-cast-apart Inv-loop μ-loop
-cast-apart c = rw (toZ-ofZ (narrow c)) (sfits-widen {w′ = w64} tt (narrow c))
+element-copy-out-off-published-2 : tie.Need-element-copy-out-off-published-2 Inv-loop μ-loop
+element-copy-out-off-published-2 c = omega arith
 
-mul-apart-2 : tie.Need-mul-apart-2 Inv-loop μ-loop
-mul-apart-2 c = omega arith
-
-element-copy-out-apart-2 : tie.Need-element-copy-out-apart-2 Inv-loop μ-loop
-element-copy-out-apart-2 c = omega arith
-
-apart-requires : tie.Need-apart-requires Inv-loop μ-loop
-apart-requires c κs = search needs
+off-published-requires : tie.Need-off-published-requires Inv-loop μ-loop
+off-published-requires c κs = search needs
 
 larger-requires : tie.Need-larger-requires Inv-loop μ-loop
 larger-requires c κs = search needs
@@ -62,12 +51,11 @@ largest-difference-spec =
     Inv-loop
     μ-loop
     loop-holds
-    mul-apart
-    element-copy-out-apart
-    cast-apart
-    mul-apart-2
-    element-copy-out-apart-2
-    apart-requires
+    mul-off-published
+    element-copy-out-off-published
+    mul-off-published-2
+    element-copy-out-off-published-2
+    off-published-requires
     larger-requires
     add-t
     loop-less

@@ -1,4 +1,4 @@
--- Before a region every one passed is within the limit; the first that is not ends the loop.
+-- Before a region the FM of every one passed is within the limit; the first that is not ends the loop.
 use mathlib.Core.Path.{_≡_, sym, _∙_}
 use mathlib.Core.Bool.{Bool, true}
 use Prim.Native.Nat.{ℕ, _+_, _-_, _≤_}
@@ -15,8 +15,8 @@ use Rattle.integers.specs.Sums.{every}
 use Rattle.integers.proofs.Sums.{every-step, every-none, every-fails}
 use Rattle.rules.specs.Quantities.{regions, measure-limit}
 use Rattle.rules.specs.Fields.{sized}
-use Rattle.answer.proofs.Ranges.{sized-within-bounds}
-use Rattle.interval.specs.Lent.{series-start}
+use Rattle.interval.specs.Lent.{series-start, measure-held}
+use Rattle.interval.proofs.HeldLaws.{held-bounds}
 use Rattle.answer.proofs.series.measures_within.Statement.{statement}
 use Rattle.answer.proofs.series.measures_within.Tie as tie
 
@@ -24,7 +24,7 @@ abbrev there : List ℤ → ℕ → ℕ → ℤ
 there xs t r = getD xs (series-start r + t) (pos 0)
 
 abbrev Inv-loop : tie.InvT-loop
-Inv-loop t measures region₀ region = (region ≤ 5) × (every region (λ r. sized measure-limit (there measures t r)) ≡ true)
+Inv-loop t measures region₀ region = (region ≤ 5) × (every region (λ r. sized measure-limit (measure-held (there measures t r))) ≡ true)
 
 abbrev μ-loop : tie.MeasureT-loop
 μ-loop t measures region₀ region = 5 - region
@@ -33,7 +33,7 @@ abbrev L : tie.After-within-bounds Inv-loop μ-loop → tie.At-loop Inv-loop μ-
 L c = c .before .before .before
 
 abbrev tests : tie.At-loop Inv-loop μ-loop → ℕ → Bool
-tests l r = sized measure-limit (there (l .before .args .measures .now) (l .before .args .t) r)
+tests l r = sized measure-limit (measure-held (there (l .before .args .measures .now) (l .before .args .t) r))
 
 abbrev measured : tie.After-measure Inv-loop μ-loop → ℤ
 measured c = let l = c .before .before in there (l .before .args .measures .now) (l .before .args .t) (l .loop .region)
@@ -47,7 +47,7 @@ wide c = sfits-widen {w′ = w64} tt (narrow c)
 told : (c : tie.After-within-bounds Inv-loop μ-loop) → tests (L c) (L c .loop .region) ≡ c .within-bounds .result
 told c =
     let m = c .before in
-    sym (rw (toZ-ofZ (narrow m), toZ-ofZ (wide m)) at (c .within-bounds .ensures) ∙ sized-within-bounds measure-limit (measured m))
+    sym (rw (toZ-ofZ (narrow m), toZ-ofZ (wide m)) at (c .within-bounds .ensures) ∙ held-bounds (measured m))
 
 loop-holds : tie.Need-loop-holds Inv-loop μ-loop
 loop-holds c = (omega arith, every-none _)

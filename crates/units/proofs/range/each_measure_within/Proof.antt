@@ -1,4 +1,4 @@
--- Before point t what is gathered is 0 exactly where every number passed is within the limit; each adds at most 1.
+-- Before point t what is gathered is 0 exactly where the FM of every measure passed is within the limit; each adds at most 1.
 use mathlib.Core.Path.{_≡_, sym, _∙_, ap₂}
 use mathlib.Core.Bool.{Bool, _&&_}
 use Prim.Native.Nat.{ℕ, _+_, _*_, _-_, _≤_}
@@ -10,14 +10,14 @@ use Rattle.integers.specs.Sums.{every}
 use Rattle.integers.proofs.Sums.{every-more, every-none}
 use Rattle.rules.specs.Quantities.{points, measure-limit}
 use Rattle.rules.specs.Fields.{sized}
-use Rattle.interval.specs.Lent.{each-sized}
+use Rattle.interval.specs.Lent.{measure-held, each-measured}
 use Rattle.book.proofs.UnitLaws.{none-of-both}
 use Rattle.units.specs.Points.{at}
 use Rattle.units.proofs.range.each_measure_within.Statement.{statement}
 use Rattle.units.proofs.range.each_measure_within.Tie as tie
 
 abbrev Inv-loop : tie.InvT-loop
-Inv-loop start measures many₀ t₀ many t = (t ≤ 75) × (many ≤ 1 * t) × (eqb many 0 ≡ every t (λ i. sized measure-limit (at start measures i)))
+Inv-loop start measures many₀ t₀ many t = (t ≤ 75) × (many ≤ 1 * t) × (eqb many 0 ≡ every t (λ i. sized measure-limit (measure-held (at start measures i))))
 
 abbrev μ-loop : tie.MeasureT-loop
 μ-loop start measures many₀ t₀ many t = 75 - t
@@ -26,7 +26,7 @@ abbrev L : tie.After-past-limit Inv-loop μ-loop → tie.At-loop Inv-loop μ-loo
 L c = c .before .before .before
 
 abbrev tests : tie.After-past-limit Inv-loop μ-loop → ℕ → Bool
-tests c i = let a = L c .before .args in sized measure-limit (at (a .start) (a .measures .now) i)
+tests c i = let a = L c .before .args in sized measure-limit (measure-held (at (a .start) (a .measures .now) i))
 
 told : (c : tie.After-past-limit Inv-loop μ-loop) → eqb (c .past-limit .result) 0 ≡ tests c (L c .loop .t)
 told c = rw (toZ-ofZ (sfits-of (c .before .past-limit-arg .given))) at (c .past-limit .ensures .1)
@@ -68,7 +68,7 @@ loop-again c =
     )
 
 returns : tie.Need-returns Inv-loop μ-loop
-unfolding each-sized
+unfolding each-measured
 returns c = let e : c .before .loop .t ≡ points = omega arith in rw e at (c .before .loop .inv .2)
 
 pub each-measure-within-spec : {M : Type 1} → statement M

@@ -1,11 +1,12 @@
--- `units::range::past_limit` meets its contract: two signed tests, against the limit and its negative, tell the size.
+-- Two signed tests, against the negative of the limit and against the limit with the mark of a dropped point, tell whether FM is within it.
 use mathlib.Core.Path.{_≡_, sym, _∙_, ap}
 use mathlib.Core.Bool.{not}
 use native.Mathlib.Omega.{arith}
 use borrow.Author.Needs.{needs}
 use lib.IntN.{pos}
 use mir.Facts.{toZ-ofZ}
-use Rattle.integers.proofs.Tests.{leZ-not, size-below, size-above}
+use Rattle.integers.proofs.Tests.{leZ-not}
+use Rattle.interval.proofs.HeldLaws.{held-below, held-above}
 use Rattle.units.proofs.range.past_limit.Statement.{statement}
 use Rattle.units.proofs.range.past_limit.Tie as tie
 
@@ -18,7 +19,7 @@ sub-if1 c = search needs
 returns : tie.Need-returns
 returns c =
     let s = c .before in
-    (omega arith, sym (size-below 5_000_000 (s .args .measure) (rw (toZ-ofZ (s .fits .measure)) at (c .if1 .taken))))
+    (omega arith, sym (held-below (s .args .measure) (rw (toZ-ofZ (s .fits .measure)) at (c .if1 .taken))))
 
 returns-2 : tie.Need-returns-2
 returns-2 c =
@@ -26,7 +27,7 @@ returns-2 c =
     let x = s .args .measure in
     let e = rw (toZ-ofZ (s .fits .measure)) at (c .before .if1 .left) in
     let f = rw (toZ-ofZ (s .fits .measure)) at (c .if2 .taken) in
-    (omega arith, sym (ap not f) ∙ sym (leZ-not (pos 5_000_000) x) ∙ size-above 5_000_000 x e)
+    (omega arith, sym (ap not f) ∙ sym (leZ-not (pos 15_000_001) x) ∙ held-above x e)
 
 returns-3 : tie.Need-returns-3
 returns-3 c =
@@ -34,7 +35,7 @@ returns-3 c =
     let x = s .args .measure in
     let e = rw (toZ-ofZ (s .fits .measure)) at (c .before .if1 .left) in
     let f = rw (toZ-ofZ (s .fits .measure)) at (c .if2 .left) in
-    (omega arith, sym (ap not f) ∙ sym (leZ-not (pos 5_000_000) x) ∙ size-above 5_000_000 x e)
+    (omega arith, sym (ap not f) ∙ sym (leZ-not (pos 15_000_001) x) ∙ held-above x e)
 
 pub past-limit-spec : {M : Type 1} → statement M
 past-limit-spec = tie.close (tie.spec cast-most sub-if1 returns returns-2 returns-3)
