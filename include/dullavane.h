@@ -51,7 +51,7 @@
        12  a lent list is too short
        14  the average of a week is below the limit of its field in a book
        17  a week of more than 2,016 intervals, or a live performance that no such member can have
-   5 is given, too, where who a week's member is, as a number, is over 512.
+   5 is given, too, where who a week's member is, as a number, is over 512, and by dullavane_sheet, which says when.
    A call tests 12 for the tally's 8 words first, since without them there is no tally; then 11 for the tally and its turn, 12 for the lists, 11 for
    lent numbers that it reads, 1, and then the record's fields by their place.
 
@@ -83,6 +83,10 @@
    A total is high x 2,880,000,000,000,000,000 + low. Words that no calls leave are refused with 11. 512 units and five residuals take 16,544 bytes
    for both directions.
 
+   IS A FACTOR SHEET POSSIBLE? dullavane_sheet holds a bureau's factors, in billionths, against a requirement's performances, those that factors are made
+   of: payment defaults where they stand in. It needs no tally. Unlike other lists, these two are taken at their exact lengths. What an answer leaves in the
+   columns performances and factors, as many numbers as it tells members, is always possible.
+
    What is proved of each call, for any bytes, words and lists whatever: its return value and every lent number after it are those of the
    definitions that document 01 is written out in. What is outside the proof: this header, the caller, and the compiler's back end. */
 #ifndef DULLAVANE_H
@@ -110,7 +114,9 @@ enum {
     DULLAVANE_UNIT_SIZE = 372,
     DULLAVANE_REQUIREMENT_SIZE = 24,
     DULLAVANE_MOST_INTERVALS = 2016,
-    DULLAVANE_WEEK_WORDS = 2
+    DULLAVANE_WEEK_WORDS = 2,
+    DULLAVANE_MOST_MEMBERS = 513,
+    DULLAVANE_VERDICT_WORDS = 2
 };
 
 /* The words of an answer, in their order: how many members the requirement has, its RCR, the three pools, what of the used and of the unused pool is
@@ -138,6 +144,9 @@ enum { DULLAVANE_IS_MEMBER, DULLAVANE_NUMBER, DULLAVANE_STANDING, DULLAVANE_MEMB
 
 /* How a member stands: live, by its own performance, or by its default, with the reason. */
 enum { DULLAVANE_LIVE, DULLAVANE_UNRELIABLE_REGION, DULLAVANE_BAD_UNIT, DULLAVANE_NO_GOOD_UNIT };
+
+/* What is wrong with a sheet of factors: nothing, a member, or the sum of a side. */
+enum { DULLAVANE_POSSIBLE, DULLAVANE_WRONG_MEMBER, DULLAVANE_WRONG_POSITIVE, DULLAVANE_WRONG_NEGATIVE };
 
 /* Whose week it is, as a number: a residual, a unit, or so many units of a group. */
 enum { DULLAVANE_A_RESIDUAL, DULLAVANE_UNIT };
@@ -207,6 +216,13 @@ uint32_t dullavane_week_add(uint16_t whose, uint8_t live, int64_t performance, u
 
 /* Reads count and default off a running week, which stays as it is. Refuses 12 (either list), 11, 5, 14. */
 uint32_t dullavane_week_read(uint16_t whose, const uint64_t *week, uint64_t week_length, int64_t *reply, uint64_t reply_length);
+
+/* Can these factors be right? Into two words of verdict goes what is wrong (as above), and the first wrong member, from 1, or 0 where it is none. Each factor has to be
+   less than one billionth from its performance over the absolute total of its side, with its sign or 0; with a performance of 0 it is 0; and each side that has a
+   member sums to exactly plus or minus 1,000,000,000. Refuses 12 (fewer than two words), 5 (more than 513 factors), 12 (factors and performances differ in
+   number), 5 (a side's absolute total over 6,010,000,000,000,000,000). */
+uint32_t dullavane_sheet(const int64_t *performances, uint64_t performances_length, const int64_t *factors, uint64_t factors_length, uint64_t *verdict,
+                         uint64_t verdict_length);
 
 #ifdef __cplusplus
 }

@@ -18,6 +18,8 @@ pub mod cents;
 pub mod listing;
 pub mod week;
 pub mod replay;
+pub mod sheet;
+pub mod sheet_text;
 
 pub mod invariants;
 pub mod rules;
@@ -42,3 +44,5 @@ pub mod script;
 pub mod doors;
 pub mod week_script;
 pub mod week_books;
+pub mod sheet_script;
+pub mod sheet_trials;

@@ -1,4 +1,4 @@
-//! Running the library's programs, `settle` on a book and `week` on several, where they are built.
+//! Running the library's programs, `settle` on a book, `week` on several, `sheet` on factors, where they are built.
 
 use std::fs;
 use std::io::Read;
@@ -10,7 +10,7 @@ use std::time::{Duration, Instant};
 const LONGEST: Duration = Duration::from_secs(60);
 
 /// The command that runs a program of the library: the environment variable of its name in capitals (SETTLE,
-/// WEEK), split at spaces, or what tests/tools/program says of the program at its place under the top of the
+/// WEEK, SHEET), split at spaces, or what tests/tools/program says of the program at its place under the top of the
 /// repository, on whatever processor; None where there is none.
 pub fn library_command(name: &str) -> Option<Vec<String>> {
     let words = |line: &str| line.split_whitespace().map(str::to_string).collect();

@@ -10,13 +10,11 @@ use super::Field;
 use super::Member;
 use super::pools::pool;
 use super::values::put_members;
+use rules::BILLION;
 use rules::Direction;
 use rules::Refusal;
 use share::Shared;
 use share::SharedSigns;
-
-// A factor's whole, in billionths.
-const BILLION: u64 = 1_000_000_000;
 
 // A pool over the first n numbers below zero, as charges.
 fn charge(pool: u64, n: usize, values: &[i64], amounts: &mut [i64]) -> Shared

@@ -57,7 +57,7 @@ unfolding numbered
 performances-are h e [] = refl
 performances-are h e (m ∷ ms) = ap₂ (λ (x : ℤ) (xs : List ℤ). x ∷ xs) (e 0 m) (performances-are (λ i. h (suc i)) (λ i x. e (suc i) x) ms)
 
-lines-performances : (b : Book) (q : Requirement) → map (λ l. l .performance) (answer b q .lines) ≡ map (λ m. m .payment) (members b q)
+pub lines-performances : (b : Book) (q : Requirement) → map (λ l. l .performance) (answer b q .lines) ≡ map (λ m. m .payment) (members b q)
 unfolding answer answered lines-of
 lines-performances b q = performances-are _ (λ i m. refl) (members b q)
 

@@ -3,6 +3,7 @@ pub mod Demand1
 pub mod Demand2
 pub mod Demand3
 pub mod NoFairerSplit
+pub mod OurSheet
 pub mod OtherBook
 pub mod WeekDefaults
 pub mod WordsAnswered

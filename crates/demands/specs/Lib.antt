@@ -14,3 +14,4 @@ pub mod Demand1
 pub mod WeekDefaults
 pub mod Demand3
 pub mod NoFairerSplit
+pub mod OurSheet

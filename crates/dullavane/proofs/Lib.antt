@@ -4,3 +4,4 @@ pub mod Called
 pub mod Promises
 pub mod WeeklyLaws
 pub mod WordsLaws
+pub mod VerdictsLaws

@@ -5,3 +5,4 @@ pub mod Promises
 pub mod Asked
 pub mod Answers
 pub mod Weekly
+pub mod Verdicts

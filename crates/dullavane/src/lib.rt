@@ -4,6 +4,7 @@ ghost use Rattle.interval.specs.Lent.{Lent, lent-frequency, lent-unit, lent-ans
 ghost use Rattle.answer.specs.Promises.{columns};
 ghost use Rattle.dullavane.specs.Answers.{AnswerCalled};
 ghost use Rattle.dullavane.specs.Asked.{MemberCalled};
+ghost use Rattle.dullavane.specs.Verdicts.{SheetCalled};
 ghost use Rattle.dullavane.specs.Weekly.{WeekCalled, WeeksCalled, WeekAddCalled, WeekReadCalled};
 ghost use Rattle.dullavane.specs.Promises.{ContentsCalled, SettingsCalled, FrequencyCalled, UnitCalled, RequirementCalled};
 use answer::roster::member;
@@ -19,7 +20,10 @@ use interval::requirement::requirement;
 use interval::settings::settings;
 use rules::Refusal;
 use rules::refusal_number;
+use sheets::sheet;
 use units::unit::unit;
+use verdicts::VERDICT_WORDS;
+use verdicts::tell_verdict;
 use weekly::DEFAULT_NUMBERS;
 use weekly::as_group;
 use weekly::tell_default;
@@ -39,6 +43,7 @@ use words::tell;
 use words::words_refusal;
 
 mod asked;
+mod verdicts;
 mod weekly;
 mod words;
 
@@ -301,4 +306,16 @@ pub extern "C" fn dullavane_week_read(whose: u16, week: &[u64], reply: &mut [i64
         return refusal;
     }
     tell_default(read(whose_of(whose), week_in(week)), reply)
+}
+
+// Is a factor sheet possible? What is wrong and the member, from 1, in two words. Refuses 12 for fewer than two words, then 5 for more than 513 factors, 12
+// where factors and performances differ in number, and 5 where a side's absolute total passes the limit of W.
+#[no_mangle]
+pub extern "C" fn dullavane_sheet(performances: &[i64], factors: &[i64], verdict: &mut [u64]) -> u32
+    ensures { λ r. ⌜ SheetCalled (now (performances .entry)) (now (factors .entry)) (now (verdict .entry)) r (now (verdict .exit)) ⌝ }
+{
+    if verdict.len() < VERDICT_WORDS {
+        return refusal_number(Refusal::TooShort);
+    }
+    tell_verdict(sheet(performances, factors), verdict)
 }

@@ -12,5 +12,6 @@ pub mod SeriesLaws
 pub mod MembersLaws
 pub mod ShareLaws
 pub mod FairnessLaws
+pub mod SheetLaws
 pub mod RcrLaws
 pub mod CentsLaws

@@ -19,6 +19,7 @@ pub mod Standings
 pub mod Members
 pub mod Share
 pub mod Factors
+pub mod Sheet
 pub mod Rcr
 pub mod Cents
 pub mod Answer

@@ -70,3 +70,7 @@ weight-limit = 6_010_000_000_000_000_000
 
 abbrev pub billion : ℕ
 billion = 1_000_000_000
+
+-- members of a requirement: every unit, and its residual
+abbrev pub most-members : ℕ
+most-members = 513

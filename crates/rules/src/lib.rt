@@ -5,6 +5,9 @@ ghost use Rattle.rules.specs.Refusals.{number};
 
 pub const MOST_UNITS: u16 = 512;
 
+// A factor's whole, in billionths.
+pub const BILLION: u64 = 1_000_000_000;
+
 // Raise is wanted where frequency is low, lower where it is high. Every rule is one definition, by the direction.
 pub enum Direction {
     Raise,
@@ -48,6 +51,19 @@ pub struct RunningWeek {
     pub live: u16,
     pub high: u16,
     pub low: u64,
+}
+
+// A side of the performances: those above zero, or those below.
+pub enum Side {
+    Positive,
+    Negative,
+}
+
+// What is wrong with a sheet of factors: nothing, its first wrong member, from 1, or the side whose sum is off.
+pub enum Verdict {
+    Possible,
+    WrongMember(u16),
+    WrongSide(Side),
 }
 
 // What the box says no with, in the order of the numbers 1 to 12, 14 and 17. None has the number 13, and none will (02, R-10).

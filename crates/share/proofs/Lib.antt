@@ -1,6 +1,7 @@
 pub mod Members
 pub mod Column
 pub mod Digits
+pub mod ExactLaws
 pub mod Keys
 pub mod Promises
 pub mod Rates

@@ -5,3 +5,4 @@ pub mod Column
 pub mod Digits
 pub mod Promises
 pub mod Signs
+pub mod Exact

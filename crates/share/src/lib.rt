@@ -1,6 +1,8 @@
 // share: a total over weights, to the unit, by largest remainder (document 01, The share; document 02, R-9), in words of 64 bits. The weights are lent, or
-// they are one side of the lent performances; nothing else is lent but the column that the amounts go to.
+// they are one side of the lent performances; nothing else is lent but the column that the amounts go to. `exact` holds amounts that others worked out
+// against the exact shares (document 02, R-12).
 mod cut;
+pub mod exact;
 mod left_overs;
 mod marks;
 mod part;

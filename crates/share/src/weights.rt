@@ -16,7 +16,7 @@ pub(crate) enum Source {
 }
 
 // A performance above zero, or 0.
-fn helpful_part(performance: i64) -> u64
+pub(crate) fn helpful_part(performance: i64) -> u64
     ensures { λ r. ⌜ r ≡ gain performance ⌝ }
 {
     if 0 < performance {
@@ -27,7 +27,7 @@ fn helpful_part(performance: i64) -> u64
 }
 
 // The size of a performance below zero, or 0. The least i64 has no negative of its own.
-fn unhelpful_part(performance: i64) -> u64
+pub(crate) fn unhelpful_part(performance: i64) -> u64
     ensures { λ r. ⌜ r ≡ loss performance ⌝ }
 {
     if performance < 0 {

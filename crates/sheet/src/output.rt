@@ -1,0 +1,103 @@
+// The one line on standard output, or why there is none on standard error.
+use super::lines::Line;
+use libc::STDERR_FILENO;
+use libc::STDOUT_FILENO;
+use rules::Refusal;
+use rules::Side;
+use rules::Verdict;
+use rules::refusal_number;
+use sheets::Told;
+
+fn unwritten() {
+    io::write_all(STDERR_FILENO, b"sheet: the line cannot be written\n");
+}
+
+// A line of words.
+fn say(words: &[u8]) {
+    if !io::write_all(STDOUT_FILENO, words) {
+        unwritten();
+    }
+}
+
+// A line of words, a number and words.
+pub(crate) fn say_number(words: &[u8], number: u64, rest: &[u8]) {
+    if !io::write_all(STDOUT_FILENO, words) {
+        unwritten();
+        return;
+    }
+    if !io::print_decimal(STDOUT_FILENO, number) {
+        unwritten();
+        return;
+    }
+    say(rest);
+}
+
+pub(crate) fn refused(refusal: Refusal) {
+    say_number(b"refused ", refusal_number(refusal) as u64, b"\n");
+}
+
+// A side whose sum is off.
+fn wrong_side(side: Side) {
+    match side {
+        Side::Positive => say(b"wrong side positive\n"),
+        Side::Negative => say(b"wrong side negative\n"),
+    }
+}
+
+// The verdict, but for a wrong member.
+pub(crate) fn tell_verdict(verdict: Verdict) {
+    match verdict {
+        Verdict::Possible => say(b"possible\n"),
+        Verdict::WrongMember(member) => say_number(b"wrong member ", member as u64, b"\n"),
+        Verdict::WrongSide(side) => wrong_side(side),
+    }
+}
+
+// A wrong member by its name too.
+pub(crate) fn wrong_unit(member: u16, unit: u16) {
+    if !io::write_all(STDOUT_FILENO, b"wrong member ") {
+        unwritten();
+        return;
+    }
+    if !io::print_decimal(STDOUT_FILENO, member as u64) {
+        unwritten();
+        return;
+    }
+    say_number(b" unit ", unit as u64, b"\n");
+}
+
+pub(crate) fn wrong_residual(member: u16) {
+    say_number(b"wrong member ", member as u64, b" residual\n");
+}
+
+// A book without the requirement that was asked for.
+pub(crate) fn no_requirement(number: u64) {
+    say_number(b"no requirement ", number, b"\n");
+}
+
+pub(crate) fn tell(told: Told) {
+    match told {
+        Told::Is(verdict) => tell_verdict(verdict),
+        Told::Refused(refusal) => refused(refusal),
+    }
+}
+
+// A line that holds no numbers alone.
+pub(crate) fn no_line(line: Line, place: u64) {
+    if let Line::NoNumber = line {
+        say_number(b"text ", place, b"\n");
+        return;
+    }
+    io::write_all(STDERR_FILENO, b"sheet: standard input cannot be read\n");
+}
+
+pub(crate) fn unread() {
+    io::write_all(STDERR_FILENO, b"sheet: the book cannot be read\n");
+}
+
+pub(crate) fn usage() {
+    io::write_all(
+        STDERR_FILENO,
+        b"sheet: no arguments, or a book and a requirement's number\n",
+    );
+}

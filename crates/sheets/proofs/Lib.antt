@@ -1,0 +1,4 @@
+pub mod Promises
+pub mod SidesLaws
+pub mod Possible
+pub mod Ours
