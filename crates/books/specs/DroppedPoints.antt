@@ -5,10 +5,15 @@ use mathlib.Core.Bool.{true, false}
 use mathlib.Core.List.{List, [], _∷_}
 use Prim.Native.Nat.{ℕ, _-_}
 use lib.IntN.{pos, negsuc}
+use lib.ListN.{getD}
 use Rattle.integers.specs.Totals.{those}
+use Rattle.rules.specs.declared.Direction.the-variants.{Raise, Lower}
 use Rattle.rules.specs.Bytes.{listed}
 use Rattle.rules.specs.Book.{Book, regionOf}
 use Rattle.rules.specs.Dropped.{dropped, dropped-at}
+use Rattle.rules.specs.Reliability.{reliable-in}
+use Rattle.rules.specs.Rcr.{rcr}
+use Rattle.books.specs.PaperBook.{requirement}
 use Rattle.books.specs.Computing.{computing}
 use Rattle.books.specs.WorkedBooks.{dropped-edges, dropped-reliability, table-15}
 
@@ -60,3 +65,13 @@ at-the-first = refl
 pub of-table-15 : dropped-of table-15 3 ≡ 20 ∷ 58 ∷ 68 ∷ []
 unfolding computing
 of-table-15 = refl
+
+-- they count for reliability: region 0 has one point of FM below -10,000, its first, and seven of FM above 0 with its twelfth
+pub still-reliable : (reliable-in dropped-reliability Lower 0 ≡ true) × (reliable-in dropped-reliability Raise 0 ≡ true)
+unfolding computing
+still-reliable = (refl, refl)
+
+-- and for RCR and the requirement's sign: the response is largest at the twelfth, where region 1 alone would ask for lower
+pub still-in-the-response : rcr dropped-reliability (getD (dropped-reliability .requirements) 0 requirement) ≡ 5_775
+unfolding computing
+still-in-the-response = refl
