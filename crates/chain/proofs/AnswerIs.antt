@@ -30,9 +30,11 @@ use Rattle.rules.specs.declared.Direction.{Direction}
 use Rattle.rules.specs.declared.Direction.the-variants.{Raise, Lower}
 use Rattle.rules.specs.declared.Reason.the-variants.{BadUnit, NoGoodUnit}
 use Rattle.rules.specs.declared.Standing.{Standing}
-use Rattle.rules.specs.Quantities.{points, regions}
+use Rattle.integers.specs.Bounds.{Within}
+use Rattle.rules.specs.Quantities.{points, regions, measure-limit}
 use Rattle.rules.specs.Bytes.{listed}
 use Rattle.rules.specs.Book.{by, toward, Settings, Defaults, Unit, Requirement, covers, Book, regionOf}
+use Rattle.rules.specs.Measure.{measure-in}
 use Rattle.rules.specs.Reliability.{reliable, reliable-in}
 use Rattle.rules.specs.Deviation.{deviation, good, good-units}
 use Rattle.rules.specs.Performance.{weight-in, wanted, performance, units-of, unit-performance, residual-performance}
@@ -43,7 +45,8 @@ use Rattle.rules.specs.Rcr.{weighed-measure, response, all-reliable, few-bad, r
 use Rattle.laws.proofs.RcrLaws.{response-is}
 use Rattle.rules.specs.Answer.{answered, answer}
 use Rattle.interval.specs.declared.Tally.{Tally}
-use Rattle.interval.specs.Lent.{Lent}
+use Rattle.interval.specs.Lent.{Lent, measure-held}
+use Rattle.interval.proofs.HeldLaws.{measure-read}
 use Rattle.chain.proofs.ChainLaws.{listed-shift}
 use Rattle.kept.specs.Kept.{
   reliable-of,
@@ -150,7 +153,9 @@ larger Lower us t =
     max-swap : (m n : ℕ) → max m n ≡ max n m
     max-swap m n = omega arith
 
-module _ (t : Tally) (l : Lent) (b : Book) (h : Keeps t l b) (inside : All (λ u. u .region < regions) (b .roster)) where
+module _
+    (t : Tally) (l : Lent) (b : Book) (h : Keeps t l b) (inside : All (λ u. u .region < regions) (b .roster))
+    (fits : (r p : ℕ) → r < regions → p < points → Within measure-limit (measure-in b r p)) where
   -- ---- a row is its unit
   inside-at : (j : ℕ) (z : Unit) → j < length (b .roster) → getD (b .roster) j z .region < regions
   inside-at j z i = all-at (λ u. u .region < regions) (b .roster) inside j z i
@@ -272,7 +277,10 @@ module _ (t : Tally) (l : Lent) (b : Book) (h : Keeps t l b) (inside : All (λ u
 
   weighed-is : (q : Requirement) (p : ℕ) → p < points → kept-weighed l q p ≡ weighed-measure b q p
   unfolding weighed-measure
-  weighed-is q p i = over-same q _ _ (λ r m. ap₂ _*ℤ_ (h .figures r 1 m (omega arith)) (h .measures r p m i))
+  weighed-is q p i =
+      over-same q _ _
+      (λ r m. ap₂ _*ℤ_ (h .figures r 1 m (omega arith))
+      (ap measure-held (h .measures r p m i) ∙ measure-read (b .settings) (regionOf b r) p (fits r p m i)))
 
   -- the sums of its regions are the sums over its units
   sums-are : (d : Direction) (q : Requirement) (p : ℕ) → p < points → kept-sum l d q p ≡ total (λ u. wanted d (deviation u p)) (good-units (unit-members b q))

@@ -1,6 +1,6 @@
 -- THE BOOK OF THE RECORDS TAKEN: once a chain has all units in, what it has kept is what the rules say of the book whose settings, regions and roster are the
 -- records that it took, whatever its requirements.
-use mathlib.Core.Path.{_≡_, refl, sym, _∙_, ap, ap₂}
+use mathlib.Core.Path.{_≡_, refl, sym, _∙_, ap, ap₂, subst}
 use mathlib.Core.Bool.{true}
 use mathlib.Core.List.{List, []}
 use Prim.Native.Nat.{ℕ, zero, suc, _+_, _*_, _≤_, _<_}
@@ -8,7 +8,8 @@ use native.Mathlib.Omega.{arith}
 use lib.Dec.{eqb}
 use lib.ListN.{length, getD, drop}
 use Rattle.integers.specs.Totals.{total, All}
-use Rattle.rules.specs.Quantities.{regions}
+use Rattle.integers.specs.Bounds.{Within}
+use Rattle.rules.specs.Quantities.{regions, measure-limit}
 use Rattle.rules.specs.Bytes.{listed}
 use Rattle.laws.proofs.BytesLaws.{listed-from-zero}
 use Rattle.rules.specs.Refusals.{taken}
@@ -26,8 +27,7 @@ use Rattle.rules.specs.Performance.{weight, weight-in, wanted}
 use Rattle.rules.specs.Answer.{answer}
 use Rattle.interval.specs.declared.Tally.{Tally}
 use Rattle.interval.specs.Tally.{before-units}
-use Rattle.interval.specs.Lent.{Lent, measure-held, figures-of, home-of, row-of}
-use Rattle.interval.proofs.HeldLaws.{measure-read}
+use Rattle.interval.specs.Lent.{Lent, kept-measure, figures-of, home-of, row-of}
 use Rattle.kept.specs.Kept.{kept-answer}
 use Rattle.kept.specs.Range.{kept-fine}
 use Rattle.chain.proofs.ChainLaws.{listed-ext, listed-length, listed-shift}
@@ -101,10 +101,7 @@ module _
       record {
         settings = m .kept (omega arith);
         units = m .units ∙ sym (listed-length 0 many (unit part));
-        measures = λ r i h k.
-            let there = region-there r h in
-            ap measure-held (measures-are d r there i k) ∙ measure-read (the-settings part) (region part r) i (measure-fits head part l₀ m r there i k)
-            ∙ ap (λ (x : Region). measure (the-settings part) x i) (region-is r h);
+        measures = λ r i h k. measures-are d r (region-there r h) i k ∙ ap (λ (x : Region). kept-measure (the-settings part) x i) (region-is r h);
         sums = λ e r p h k. sums-are d r (region-there r h) e p k ∙ ap (λ (u : ℕ). total (λ u. wanted e (deviation u p))
             (good-units (units-in (eqb r) (roster part u)))) units-there;
         figures = λ r i h k. figures-are d r (region-there r h) i k ∙ ap (λ (x : Region). figures-of (the-settings part) x i) (region-is r h);
@@ -115,7 +112,11 @@ module _
 
   -- so it gives the rules' answer to any requirement
   pub chain-answers : (q : Requirement) → kept-answer t l q ≡ answer b q
-  chain-answers = answer-is t l b chain-keeps (all-listed (λ u. u .region < regions) many (unit part) (λ i h. unit-fine i h .region))
+  chain-answers =
+      answer-is t l b chain-keeps (all-listed (λ u. u .region < regions) many (unit part) (λ i h. unit-fine i h .region))
+      (λ r p h k.
+      subst (λ (x : Region). Within measure-limit (measure (the-settings part) x p)) (region-is r h)
+      (measure-fits head part l₀ m r (region-there r h) p k))
 
 -- and it is in range, which the requirements have no part in
 module _

@@ -31,6 +31,7 @@ use Rattle.laws.proofs.PerformanceLaws.{wanted-within}
 use Rattle.laws.proofs.MembersLaws.{measure-in-within, unit-performance-within}
 use Rattle.interval.specs.declared.Tally.{Tally}
 use Rattle.interval.specs.Lent.{Lent, sum-place, figures-each, figures-of, home-of, row-of, six, of-interval}
+use Rattle.interval.proofs.HeldLaws.{measure-read}
 use Rattle.kept.specs.Kept.{figure, in-row}
 use Rattle.chain.proofs.ChainLaws.{of-interval-all}
 use Rattle.chain.specs.Keeps.{Keeps}
@@ -80,7 +81,9 @@ six-fine limit f h (suc (suc (suc (suc (suc (suc i)))))) l = absurd (omega arith
 module _ (t : Tally) (l : Lent) (b : Book) (h : Keeps t l b) (f : BookFits b) where
   -- ---- at a point
   measures-pass : (p : ℕ) → p < points → measures-fine l p ≡ true
-  measures-pass p m = every-all regions _ (λ r i. rw (h .measures r p i m) (le-leb _ measure-limit (measure-in-within b f r i p m .size)))
+  measures-pass p m = every-all regions _ (λ r i.
+      let fits = measure-in-within b f r i p m in
+      rw (h .measures r p i m, measure-read (b .settings) (regionOf b r) p fits) (le-leb _ measure-limit (fits .size)))
 
   sums-pass : (d : Direction) (p : ℕ) → p < points → sums-fine (deviation-limit * t .units) l d p ≡ true
   sums-pass d p m =

@@ -8,19 +8,18 @@ use Rattle.integers.specs.Totals.{total}
 use Rattle.rules.specs.declared.Direction.{Direction}
 use Rattle.rules.specs.Quantities.{points, regions}
 use Rattle.rules.specs.Book.{Unit, Book, regionOf}
-use Rattle.rules.specs.Measure.{measure-in}
 use Rattle.rules.specs.Deviation.{deviation, good-units}
 use Rattle.rules.specs.Performance.{weight-in, wanted, units-of}
 use Rattle.interval.specs.declared.Tally.{Tally}
 use Rattle.interval.specs.Tally.{settings-of, book-end}
-use Rattle.interval.specs.Lent.{Lent, series-start, measure-held, sum-place, figures-each, figures-of, home-of, row-each, row-of}
+use Rattle.interval.specs.Lent.{Lent, series-start, kept-measure, sum-place, figures-each, figures-of, home-of, row-each, row-of}
 
 -- z stands where a roster has no unit
 pub record Keeps (t : Tally) (l : Lent) (b : Book) : Type 0 where
   pub settings : settings-of t ≡ b .settings
   pub units : t .units ≡ length (b .roster)
-  -- of a region: FM, the sums over all its good units, figures
-  pub measures : (r p : ℕ) → r < regions → p < points → measure-held (getD (l .measures) (series-start r + p) (pos 0)) ≡ measure-in b r p
+  -- of a region: measures with their dropped points, the sums over all its good units, figures
+  pub measures : (r p : ℕ) → r < regions → p < points → getD (l .measures) (series-start r + p) (pos 0) ≡ kept-measure (b .settings) (regionOf b r) p
   pub sums : (d : Direction) (r p : ℕ) → r < regions → p < points → getD (l .sums) (sum-place d r p) (pos 0) ≡ total (λ u. wanted d (deviation u p))
       (good-units (units-of b r))
   pub figures : (r i : ℕ) → r < regions → i < figures-each → getD (l .figures) (figures-each * r + i) (pos 0) ≡ figures-of (b .settings) (regionOf b r) i
