@@ -12,8 +12,8 @@ use borrow.Author.Tests.{ltb-true, lt-ltb, leb-true, le-leb, eqb-true, eqb-false
 use Rattle.integers.proofs.Pairs.{v, _⊖_, ring}
 use Rattle.integers.proofs.Bounds.{abs-is}
 use Rattle.integers.proofs.Tests.{leZ-true}
-use Rattle.integers.specs.Sums.{sumℕ, every}
-use Rattle.integers.proofs.Sums.{every-at, every-all, some-term, sumℕ-term}
+use Rattle.integers.specs.Sums.{sumℕ, every, first-wrong}
+use Rattle.integers.proofs.Sums.{FirstWrong, every-at, every-all, first-wrong-means, some-term, sumℕ-term}
 use Rattle.rules.specs.declared.Refusal.the-variants.{TooShort, WrongCount}
 use Rattle.rules.specs.declared.Side.{Side}
 use Rattle.rules.specs.declared.Side.the-variants.{Positive, Negative}
@@ -21,8 +21,8 @@ use Rattle.rules.specs.declared.Verdict.{Verdict}
 use Rattle.rules.specs.declared.Verdict.the-variants.{Possible, WrongMember, WrongSide}
 use Rattle.rules.specs.Quantities.{billion, most-members, weight-limit}
 use Rattle.rules.specs.Refusals.{taken, unless}
-use Rattle.rules.specs.Sheet.{on, signed, near, agrees, right, number-at, right-at, side-total, side-sum, side-right, first-wrong, verdict, sheet-reply}
-use Rattle.laws.proofs.SheetLaws.{FirstWrong, first-wrong-means, right-near}
+use Rattle.rules.specs.Sheet.{on, signed, near, agrees, right, number-at, right-at, side-total, side-sum, side-right, verdict, sheet-reply}
+use Rattle.laws.proofs.SheetLaws.{right-near}
 use Rattle.sheets.specs.Possible.{Agrees, SidePossible, PossibleSheet, Judgeable}
 use Rattle.sheets.proofs.SidesLaws.{no-size, right-agrees, total-is}
 
