@@ -90,7 +90,7 @@ point UnitQuality = 0
 point (UnitReading t) = t
 
 -- a record's refusal names its place in the body, from 1; 11 has none
-unfoldable pub located : ℕ → Refusal → Located
+abbrev pub located : ℕ → Refusal → Located
 located place r = record { refusal = r; place = cond (eqb (number r) 11) 0 place }
 
 -- ---- an answer: what is asked for, or the refusal alone
