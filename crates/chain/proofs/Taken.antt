@@ -8,6 +8,7 @@ use lib.Dec.{eqb, leb, ltb}
 use lib.ListN.{length}
 use borrow.Author.Tests.{leb-true, ltb-true, eqb-true}
 use Rattle.integers.specs.Sums.{both}
+use Rattle.rules.specs.declared.Refusal.{Refusal}
 use Rattle.rules.specs.declared.Located.{Located}
 use Rattle.rules.specs.declared.Refusal.the-variants.{
   EndsEarly,
@@ -132,6 +133,11 @@ module _ {A : Type 0} (next : A → Tally) (t : Tally) where
       let f : r .taking ≡ k.the-variants.Refused (located (next-place t) x) = ap (λ (r : Step). r .taking) e in
       let g : located (next-place t) x ≡ why = cc in
       (ap refused g, ap (λ (r : Step). r .tally) e)
+
+-- what is refused at a place is a refusal that names it
+pub named-at : {A : Type 0} (place : ℕ) (reply : Reply A) {why : Located} → at place reply ≡ refused why → (x : Refusal) × (located place x ≡ why)
+named-at place (taken a) e = let z : _≡_ {A = ℕ} 0 1 = cc in absurd (omega arith)
+named-at place (refused x) e = (x, cc)
 
 -- what is refused at any place leaves what is lent as it was
 pub left-refused : {A L : Type 0} (write : A → L → L) (place : ℕ) (reply : Reply A) (old : L) {why : Located} → at place reply ≡ refused why →

@@ -8,19 +8,20 @@ use native.Mathlib.Decide.{decLt}
 use native.Mathlib.Omega.{arith}
 use lib.Dec.{eqb, ltb}
 use borrow.Author.Tests.{lt-ltb, le-ltb}
+use Rattle.rules.specs.declared.Refusal.{Refusal}
 use Rattle.rules.specs.declared.Located.{Located}
-use Rattle.rules.specs.Refusals.{Reply}
+use Rattle.rules.specs.Refusals.{Reply, located}
 use Rattle.rules.specs.Contents.{Counts, contents-size, requirement-size}
 use Rattle.interval.specs.declared.Tally.{Tally}
 use Rattle.interval.specs.declared.Opened as o
 use Rattle.interval.specs.declared.Taking.{Taking}
 use Rattle.interval.specs.declared.Step.{Step}
-use Rattle.interval.specs.Tally.{before-units, book-end}
+use Rattle.interval.specs.Tally.{next-place, before-units, book-end}
 use Rattle.interval.specs.Lent.{Lent}
 use Rattle.interval.specs.Calls.{stopped-step, stepped, left, settled, counted, unit-counted, settings-reply, frequency-reply, unit-reply, requirement-reply}
 use Rattle.interval.specs.Promises.{FrequencyPromise, UnitPromise, region-kept, unit-kept}
 use Rattle.chain.specs.Taken.{counts-in}
-use Rattle.chain.proofs.Taken.{step-taken, step-refused, settings-passed, frequency-passed, unit-passed, requirement-passed}
+use Rattle.chain.proofs.Taken.{step-taken, step-refused, named-at, settings-passed, frequency-passed, unit-passed, requirement-passed}
 use Rattle.chain.specs.Chain.{
   Taken,
   Refused,
@@ -165,3 +166,16 @@ refused-leaves {c} {p} {n} {t} {l} (for-frequency _ _ w) h =
     (refused-is (λ _. counted 0 t) t (frequency-reply t p l) (w .reply) h, frequency-stays w h .1)
 refused-leaves {c} {p} {n} {t} {l} (for-unit _ _ w) h = (refused-is (unit-counted t) t (unit-reply t p l) (w .reply) h, unit-stays w h .1)
 refused-leaves {c} {p} {n} {t} (for-requirement _ _ w e) h = (refused-is (λ q. counted (q .number + 1) t) t (requirement-reply t p) (w .reply) h, e)
+
+-- and its refusal names the place of the record that was to be taken
+pub refused-names :
+    {c : Counts} {p : List ℕ} {n : ℕ} {t : Tally} {l l′ : Lent} {r : Step} {why : Located} → Call c p n t l r l′ → Refused r why →
+    (x : Refusal) × (located (next-place t) x ≡ why)
+refused-names {c} {p} {n} {t} (for-settings _ w e) h =
+    named-at (next-place t) (settings-reply t p) (step-refused (settled t) t (settings-reply t p) (w .reply) h .0)
+refused-names {c} {p} {n} {t} {l} (for-frequency _ _ w) h =
+    named-at (next-place t) (frequency-reply t p l) (step-refused (λ _. counted 0 t) t (frequency-reply t p l) (w .reply) h .0)
+refused-names {c} {p} {n} {t} {l} (for-unit _ _ w) h =
+    named-at (next-place t) (unit-reply t p l) (step-refused (unit-counted t) t (unit-reply t p l) (w .reply) h .0)
+refused-names {c} {p} {n} {t} (for-requirement _ _ w e) h =
+    named-at (next-place t) (requirement-reply t p) (step-refused (λ q. counted (q .number + 1) t) t (requirement-reply t p) (w .reply) h .0)
