@@ -857,13 +857,13 @@ pub fn all() -> Vec<Worked> {
         },
         Worked {
             name: "byte_behind",
-            shows: "The same book and a byte behind it: refused 4.",
+            shows: "The same book and a byte behind it: refused 4 6 0, the place of the last requirement.",
             book: thirteen_units(),
             behind: &[0],
         },
         Worked {
             name: "number_not_rising",
-            shows: "The same book, its tenth unit with the number of the ninth: refused 9.",
+            shows: "The same book, its tenth unit with the number of the ninth: refused 9 10 0.",
             book: number_not_rising(),
             behind: &[],
         },
