@@ -66,9 +66,9 @@ fn spoil_spare(chance: &mut Chance, record: &mut [u8], quality: usize) {
 }
 
 /// One wrong point: a good one that is out of range, or a bad one that holds a value.
-fn spoil_point(chance: &mut Chance, record: &mut [u8], values: &Values, point: usize) {
+fn spoil_point(chance: &mut Chance, record: &mut [u8], values: &Values, point: usize, good: bool) {
     let mark = 1u8 << (point % 8);
-    let value = if chance.one_in(2) {
+    let value = if good {
         record[values.quality + point / 8] |= mark;
         beyond(chance, values.lowest, values.highest)
     } else {
@@ -87,8 +87,15 @@ fn spoil_points(chance: &mut Chance, record: &mut [u8], values: &Values) {
         let any = chance.place(POINTS);
         let edge = chance.pick(&[0, 1, 7, 8, POINTS - 2, POINTS - 1]);
         let point = if chance.one_in(5) { edge } else { any };
-        spoil_point(chance, record, values, point);
+        let good = chance.one_in(2);
+        spoil_point(chance, record, values, point, good);
     }
+}
+
+/// The point or reading at t of a frequency or unit record wrong, as a good or as a bad one.
+pub fn spoil_t(chance: &mut Chance, kind: Kind, record: &mut [u8], t: usize, good: bool) {
+    let values = if kind == Kind::Frequency { &FREQUENCY_VALUES } else { &UNIT_VALUES };
+    spoil_point(chance, record, values, t - 1, good);
 }
 
 fn spoil_settings(chance: &mut Chance, record: &mut [u8]) {

@@ -249,8 +249,8 @@ impl<W: Write> Script<W> {
         if self.chance.one_in(10) {
             self.call_with_an_interval_off(kind, &honest);
         }
-        match self.chance.place(10) {
-            0 | 1 => {
+        match self.chance.place(13) {
+            0 | 1 | 10..=12 => {
                 let broken = self.broken(made, start, size, turn);
                 let before = self.tally_words();
                 self.call(kind, &broken);

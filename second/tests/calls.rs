@@ -514,6 +514,90 @@ fn a_refusal_changes_nothing_and_each_is_reached() {
     }
 }
 
+/// A call's kind and reply out of its line: number, place and t, of `answer` and `member` the number alone.
+fn kind_and_reply(answer: &str) -> (String, Refusal) {
+    let words: Vec<&str> = answer.split(' ').collect();
+    let number = |place: usize| words[place].parse::<usize>().expect("a number");
+    let of_a_book = !["answer", "member"].contains(&words[0]);
+    let (place, t) = if of_a_book { (number(2), number(3)) } else { (0, 0) };
+    assert_eq!(words[if of_a_book { 4 } else { 2 }], "tally", "{answer}");
+    (words[0].to_string(), Refusal { number: number(1) as u8, place, t })
+}
+
+fn replies(script: &str) -> BTreeSet<(String, Refusal)> {
+    let mut lent = Lent::default();
+    script
+        .lines()
+        .filter_map(|line| script_line(&mut lent, line))
+        .map(|answer| kind_and_reply(&answer))
+        .collect()
+}
+
+/// Each script has each fault of a frequency record and of a unit at five places, and each t twice.
+#[test]
+fn every_script_has_every_t_and_every_place() {
+    for seed in 0..10 {
+        let met = replies(&script(0, seed));
+        for (kind, number) in [("frequency", 74), ("unit", 84)] {
+            let of = |(of, reply): &&(String, Refusal)| of == kind && reply.number == number;
+            let ts: BTreeSet<usize> = met.iter().filter(of).map(|(_, reply)| reply.t).collect();
+            assert_eq!(ts, (1..=POINTS).collect(), "{kind}, seed {seed}");
+        }
+        for place in 1..=5 {
+            let has = |kind: &str, number: u8| {
+                met.iter().any(|(of, reply)| of == kind && reply.number == number && reply.place == place)
+            };
+            assert!(
+                has("frequency", 1) && has("frequency", 71) && has("frequency", 74),
+                "{place}, seed {seed}"
+            );
+            assert!(has("unit", 1) && has("unit", 81) && has("unit", 84), "{place}, seed {seed}");
+            assert!(has("unit", 9) || place == 1, "{place}, seed {seed}");
+        }
+    }
+}
+
+/// In random calls, too, every refusal of a field comes at places other than 1, and with many t; 11 has none.
+#[test]
+fn random_calls_are_refused_at_many_places() {
+    let limits = replies(&script(0, 2026)).len();
+    let met = replies(&script(10_000, 2026));
+    assert!(met.len() > limits + 120, "{limits} of {}", met.len());
+    let of = |kind: &str, number: u8| -> Vec<Refusal> {
+        let wanted = met.iter().filter(|(of, reply)| of == kind && reply.number == number);
+        wanted.map(|(_, reply)| *reply).collect()
+    };
+    for (kind, numbers) in [
+        ("frequency", vec![1, 71, 72, 73, 74, 12]),
+        ("unit", vec![1, 81, 82, 83, 84, 9, 12]),
+        ("requirement", vec![1, 10]),
+    ] {
+        for number in numbers {
+            for place in 2..=5 {
+                assert!(
+                    of(kind, number).iter().any(|reply| reply.place == place),
+                    "{kind} {number} at {place}"
+                );
+            }
+        }
+    }
+    assert!(of("unit", 84).iter().any(|reply| reply.place > 9));
+    assert!(of("requirement", 4).iter().any(|reply| reply.place > 1));
+    assert!(of("settings", 6).iter().chain(&of("settings", 1)).all(|reply| reply.place == 1));
+    let nowhere = |reply: &Refusal| reply.place == 0 && reply.t == 0;
+    assert!(met
+        .iter()
+        .filter(|(_, reply)| [0, 2, 3, 5, 11].contains(&reply.number))
+        .all(|(_, reply)| nowhere(reply)));
+    assert!(met.iter().filter(|(kind, _)| kind == "contents").all(|(_, reply)| nowhere(reply)));
+    assert!(met.iter().all(|(_, reply)| (reply.t > 0) == [74, 84].contains(&reply.number)));
+    // A tally of fewer than eight words says of no record that it is to come.
+    for kind in ["settings", "frequency", "unit", "requirement"] {
+        assert!(of(kind, 12).iter().any(nowhere), "{kind}");
+    }
+    assert!(of("settings", 12).iter().chain(&of("requirement", 12)).all(nowhere));
+}
+
 /// In random calls, too, units and answers meet measures of dropped points, of chains and of no chain.
 #[test]
 fn scripts_have_dropped_points() {
