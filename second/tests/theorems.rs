@@ -161,9 +161,15 @@ fn dropped_points_are_those_of_the_second_program() {
         if name == "b" {
             continue;
         }
-        let view = &region_views(&worked_book(&name.replace('-', "_")))[region.parse::<usize>().expect("a region")];
-        let dropped: Vec<i128> = (1..).zip(view.dropped).filter(|(_, dropped)| *dropped).map(|(t, _)| t).collect();
-        assert_eq!(list_at_the_end(&format!("≡ {}", list.split("[]").next().expect("a list"))), dropped, "{term}");
+        let view =
+            &region_views(&worked_book(&name.replace('-', "_")))[region.parse::<usize>().expect("a region")];
+        let dropped: Vec<i128> =
+            (1..).zip(view.dropped).filter(|(_, dropped)| *dropped).map(|(t, _)| t).collect();
+        assert_eq!(
+            list_at_the_end(&format!("≡ {}", list.split("[]").next().expect("a list"))),
+            dropped,
+            "{term}"
+        );
         seen += 1;
     }
     assert_eq!(seen, 4);
@@ -183,7 +189,11 @@ fn performances_of_table_15_are_those_of_the_second_program() {
             false => performance_over_all(direction, &view.measures, deviations),
         };
         let told: Vec<i128> = series.iter().map(told).collect();
-        assert_eq!(list_at_the_end(statement.split("unfolding").next().expect("a statement")), told, "{name}");
+        assert_eq!(
+            list_at_the_end(statement.split("unfolding").next().expect("a statement")),
+            told,
+            "{name}"
+        );
         seen += 1;
     }
     assert_eq!(seen, 4);
@@ -287,14 +297,14 @@ fn shares_are_refused_so() {
         let weights: Vec<i128> =
             rest[..end].iter().filter(|word| *word != "∷").map(|word| number(word)).collect();
         let room = number(&rest[end + 2]) as usize;
-        let answer = if room < weights.len() { Err(Refusal(12)) } else { share(number(total), &weights) };
+        let answer = if room < weights.len() { Err(Refusal::of(12)) } else { share(number(total), &weights) };
         let same = rest.iter().position(|word| word == "≡").expect("what it is");
         match (&rest[same + 1], answer) {
             (word, Ok(shared)) if word == "taken" => {
                 assert_eq!(number(&rest[same + 2]), shared.unplaced, "{at}")
             }
             (word, Ok(_)) => assert_eq!(number(word), 0, "{at}"),
-            (word, Err(Refusal(refused))) => assert_eq!(number(word), i128::from(refused), "{at}"),
+            (word, Err(refused)) => assert_eq!(number(word), i128::from(refused.number), "{at}"),
         }
         seen += 1;
     }
