@@ -259,8 +259,7 @@ requirements-fit zero place least bs qs e = subst (λ (l : List Requirement). Al
 requirements-fit (suc n) place least bs qs e =
     let first = went-on (at place (requirement-record least (eqb n 0) bs)) _ qs e in
     let rest = went-on (requirement-body n (suc place) (suc (first .0 .number)) (drop requirement-size bs)) _ qs (first .2) in
-    subst (λ (l : List Requirement). All RequirementFits l) (took (rest .2))
-    (
+    subst (λ (l : List Requirement). All RequirementFits l) (took (rest .2)) (
       requirement-fits least (eqb n 0) bs (first .0) (there place _ (first .0) (first .1)),
       requirements-fit n (suc place) (suc (first .0 .number)) (drop requirement-size bs) (rest .0) (rest .1),
     )

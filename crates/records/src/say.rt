@@ -50,10 +50,7 @@ pub(crate) fn end() {
 
 // The number, and t: a lone record has no place.
 pub(crate) fn refused(r: Refusal) {
-    io::write_all(
-        STDOUT_FILENO,
-        &[b'r', b'e', b'f', b'u', b's', b'e', b'd'],
-    );
+    io::write_all(STDOUT_FILENO, &[b'r', b'e', b'f', b'u', b's', b'e', b'd']);
     unsigned(rules::refusal_number(r) as u64);
     unsigned(rules::refusal_point(r) as u64);
     end();
