@@ -130,26 +130,9 @@ pub fn refusal_point(refusal: Refusal) -> u8
     ensures { λ r. ⌜ r ≡ point refusal ⌝ }
 {
     match refusal {
-        Refusal::EndsEarly => 0,
-        Refusal::WrongMark => 0,
-        Refusal::WrongTable => 0,
-        Refusal::BytesFollow => 0,
-        Refusal::WrongCount => 0,
-        Refusal::SettingsField => 0,
-        Refusal::UnitNotRising => 0,
-        Refusal::RequirementField => 0,
-        Refusal::WrongState => 0,
-        Refusal::TooShort => 0,
-        Refusal::AverageTooLow => 0,
-        Refusal::WrongWeek => 0,
-        Refusal::FrequencyHeader => 0,
-        Refusal::FrequencyDefault => 0,
-        Refusal::FrequencyQuality => 0,
         Refusal::FrequencyPoint(t) => t,
-        Refusal::UnitHeader => 0,
-        Refusal::UnitDefault => 0,
-        Refusal::UnitQuality => 0,
         Refusal::UnitReading(t) => t,
+        _ => 0,
     }
 }
 

@@ -1,213 +1,79 @@
--- Each arm knows its variant, and that has the point.
-use mathlib.Core.Path.{sym, ap}
-use Rattle.rules.specs.Refusals.{point}
+-- Two variants hold their point; no other has one.
+use mathlib.Core.Path.{_≡_, refl, sym, ap}
+use mathlib.Core.List.{List, [], _∷_}
+use Prim.Native.Nat.{ℕ}
+use types.Run.{OneOf, miss}
+use denote.Enum.Declared.{tagOf}
 use borrow.Author.Needs.{needs}
+use Rattle.rules.specs.declared.Refusal.{Refusal}
+use Rattle.rules.specs.declared.Refusal.the-variants.{
+  EndsEarly,
+  WrongMark,
+  WrongTable,
+  BytesFollow,
+  WrongCount,
+  SettingsField,
+  UnitNotRising,
+  RequirementField,
+  WrongState,
+  TooShort,
+  AverageTooLow,
+  WrongWeek,
+  FrequencyHeader,
+  FrequencyDefault,
+  FrequencyQuality,
+  FrequencyPoint,
+  UnitHeader,
+  UnitDefault,
+  UnitQuality,
+  UnitReading,
+}
+use Rattle.rules.specs.Refusals.{point}
+use Rattle.rules.proofs.Refusal.{the-type}
 use Rattle.rules.proofs.refusal_point.Statement.{statement}
 use Rattle.rules.proofs.refusal_point.Tie as tie
-use Rattle.rules.proofs.refusal_point.Reads as reads
-use Rattle.rules.proofs.refusal_point.Lts as lts
 
--- src/lib.rt:133:31
-enum-told : tie.Need-enum-told
-enum-told c = search needs
+-- the variants by their place among them
+abbrev others : List ℕ
+others = 0 ∷ 1 ∷ 2 ∷ 3 ∷ 4 ∷ 5 ∷ 6 ∷ 7 ∷ 8 ∷ 9 ∷ 10 ∷ 11 ∷ 12 ∷ 13 ∷ 14 ∷ 16 ∷ 17 ∷ 18 ∷ []
 
--- src/lib.rt:134:31
-enum-told-2 : tie.Need-enum-told-2
-enum-told-2 c = search needs
+no-point : (r : Refusal) → OneOf others (tagOf the-type r) → 0 ≡ point r
+no-point EndsEarly k = refl
+no-point WrongMark k = refl
+no-point WrongTable k = refl
+no-point BytesFollow k = refl
+no-point WrongCount k = refl
+no-point SettingsField k = refl
+no-point UnitNotRising k = refl
+no-point RequirementField k = refl
+no-point WrongState k = refl
+no-point TooShort k = refl
+no-point AverageTooLow k = refl
+no-point WrongWeek k = refl
+no-point FrequencyHeader k = refl
+no-point FrequencyDefault k = refl
+no-point FrequencyQuality k = refl
+no-point (FrequencyPoint t) k = absurd (miss others 15 tt k)
+no-point UnitHeader k = refl
+no-point UnitDefault k = refl
+no-point UnitQuality k = refl
+no-point (UnitReading t) k = absurd (miss others 19 tt k)
 
--- src/lib.rt:135:32
-enum-told-3 : tie.Need-enum-told-3
-enum-told-3 c = search needs
-
--- src/lib.rt:136:33
-enum-told-4 : tie.Need-enum-told-4
-enum-told-4 c = search needs
-
--- src/lib.rt:137:32
-enum-told-5 : tie.Need-enum-told-5
-enum-told-5 c = search needs
-
--- src/lib.rt:138:35
-enum-told-6 : tie.Need-enum-told-6
-enum-told-6 c = search needs
-
--- src/lib.rt:139:35
-enum-told-7 : tie.Need-enum-told-7
-enum-told-7 c = search needs
-
--- src/lib.rt:140:38
-enum-told-8 : tie.Need-enum-told-8
-enum-told-8 c = search needs
-
--- src/lib.rt:141:32
-enum-told-9 : tie.Need-enum-told-9
-enum-told-9 c = search needs
-
--- src/lib.rt:142:30
-enum-told-10 : tie.Need-enum-told-10
-enum-told-10 c = search needs
-
--- src/lib.rt:143:35
-enum-told-11 : tie.Need-enum-told-11
-enum-told-11 c = search needs
-
--- src/lib.rt:144:31
-enum-told-12 : tie.Need-enum-told-12
-enum-told-12 c = search needs
-
--- src/lib.rt:145:37
-enum-told-13 : tie.Need-enum-told-13
-enum-told-13 c = search needs
-
--- src/lib.rt:146:38
-enum-told-14 : tie.Need-enum-told-14
-enum-told-14 c = search needs
-
--- src/lib.rt:147:38
-enum-told-15 : tie.Need-enum-told-15
-enum-told-15 c = search needs
-
--- src/lib.rt:148:33
 enum-known-refusal : tie.Need-enum-known-refusal
 enum-known-refusal c = search needs
 
--- src/lib.rt:149:32
-enum-told-16 : tie.Need-enum-told-16
-enum-told-16 c = search needs
-
--- src/lib.rt:150:33
-enum-told-17 : tie.Need-enum-told-17
-enum-told-17 c = search needs
-
--- src/lib.rt:151:33
-enum-told-18 : tie.Need-enum-told-18
-enum-told-18 c = search needs
-
--- src/lib.rt:152:30
 enum-known-refusal-2 : tie.Need-enum-known-refusal-2
 enum-known-refusal-2 c = search needs
 
--- src/lib.rt:129:1
 returns : tie.Need-returns
-returns c = ap point (sym (c .enum-told .given .1))
+returns c = ap point (sym (c .before .refusal .given .1))
 
--- src/lib.rt:129:1
 returns-2 : tie.Need-returns-2
-returns-2 c = ap point (sym (c .enum-told2 .given .1))
+returns-2 c = ap point (sym (c .before .refusal2 .given .1))
 
--- src/lib.rt:129:1
 returns-3 : tie.Need-returns-3
-returns-3 c = ap point (sym (c .enum-told3 .given .1))
-
--- src/lib.rt:129:1
-returns-4 : tie.Need-returns-4
-returns-4 c = ap point (sym (c .enum-told4 .given .1))
-
--- src/lib.rt:129:1
-returns-5 : tie.Need-returns-5
-returns-5 c = ap point (sym (c .enum-told5 .given .1))
-
--- src/lib.rt:129:1
-returns-6 : tie.Need-returns-6
-returns-6 c = ap point (sym (c .enum-told6 .given .1))
-
--- src/lib.rt:129:1
-returns-7 : tie.Need-returns-7
-returns-7 c = ap point (sym (c .enum-told7 .given .1))
-
--- src/lib.rt:129:1
-returns-8 : tie.Need-returns-8
-returns-8 c = ap point (sym (c .enum-told8 .given .1))
-
--- src/lib.rt:129:1
-returns-9 : tie.Need-returns-9
-returns-9 c = ap point (sym (c .enum-told9 .given .1))
-
--- src/lib.rt:129:1
-returns-10 : tie.Need-returns-10
-returns-10 c = ap point (sym (c .enum-told10 .given .1))
-
--- src/lib.rt:129:1
-returns-11 : tie.Need-returns-11
-returns-11 c = ap point (sym (c .enum-told11 .given .1))
-
--- src/lib.rt:129:1
-returns-12 : tie.Need-returns-12
-returns-12 c = ap point (sym (c .enum-told12 .given .1))
-
--- src/lib.rt:129:1
-returns-13 : tie.Need-returns-13
-returns-13 c = ap point (sym (c .enum-told13 .given .1))
-
--- src/lib.rt:129:1
-returns-14 : tie.Need-returns-14
-returns-14 c = ap point (sym (c .enum-told14 .given .1))
-
--- src/lib.rt:129:1
-returns-15 : tie.Need-returns-15
-returns-15 c = ap point (sym (c .enum-told15 .given .1))
-
--- src/lib.rt:129:1
-returns-16 : tie.Need-returns-16
-returns-16 c = ap point (sym (c .before .refusal .given .1))
-
--- src/lib.rt:129:1
-returns-17 : tie.Need-returns-17
-returns-17 c = ap point (sym (c .enum-told16 .given .1))
-
--- src/lib.rt:129:1
-returns-18 : tie.Need-returns-18
-returns-18 c = ap point (sym (c .enum-told17 .given .1))
-
--- src/lib.rt:129:1
-returns-19 : tie.Need-returns-19
-returns-19 c = ap point (sym (c .enum-told18 .given .1))
-
--- src/lib.rt:129:1
-returns-20 : tie.Need-returns-20
-returns-20 c = ap point (sym (c .before .refusal2 .given .1))
+returns-3 c = no-point (c .before .args .refusal) (c .match .keys3)
 
 pub refusal-point-spec : {M : Type 1} → statement M
 refusal-point-spec =
-    tie.close
-    (tie.spec
-    enum-told
-    enum-told-2
-    enum-told-3
-    enum-told-4
-    enum-told-5
-    enum-told-6
-    enum-told-7
-    enum-told-8
-    enum-told-9
-    enum-told-10
-    enum-told-11
-    enum-told-12
-    enum-told-13
-    enum-told-14
-    enum-told-15
-    enum-known-refusal
-    enum-told-16
-    enum-told-17
-    enum-told-18
-    enum-known-refusal-2
-    returns
-    returns-2
-    returns-3
-    returns-4
-    returns-5
-    returns-6
-    returns-7
-    returns-8
-    returns-9
-    returns-10
-    returns-11
-    returns-12
-    returns-13
-    returns-14
-    returns-15
-    returns-16
-    returns-17
-    returns-18
-    returns-19
-    returns-20)
+    tie.close (tie.spec enum-known-refusal enum-known-refusal-2 returns returns-2 returns-3)
