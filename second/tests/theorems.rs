@@ -315,7 +315,7 @@ fn books_that_end_early_or_late_are_refused_so() {
     let at = early.iter().position(|word| word == "base").expect("the book");
     let (sizes, rest) = list(&early[at + 3..]);
     let expected = refusals(&rest[1..]);
-    assert_eq!((sizes.len(), expected.len()), (12, 12));
+    assert_eq!((sizes.len(), expected.len()), (7, 7));
     for (size, expected) in sizes.into_iter().zip(expected) {
         assert_eq!(told(&changed(size as usize, &[])), expected, "{size}");
     }
