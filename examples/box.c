@@ -1,5 +1,5 @@
-/* box: an interval book on standard input, record by record through the calls of dullavane.h; its listing, or `refused N`, on standard output: the
-   same bytes as `settle`. Written as firmware would be: no heap, every list of a fixed length, nothing but getchar and putchar from outside, which are
+/* box: an interval book on standard input, record by record through the calls of dullavane.h; its listing, or `refused` with number, place
+   and t, on standard output: the same bytes as `settle`. Written as firmware would be: no heap, every list of a fixed length, nothing but getchar and putchar from outside, which are
    declared here so that a compiler with no C library builds this too. A box puts its radio or its serial line in their place. */
 #include "dullavane.h"
 
@@ -29,26 +29,26 @@ static uint64_t take(uint8_t *to, uint64_t n) {
     return i;
 }
 
-static uint32_t take_frequency(void) {
+static uint64_t take_frequency(void) {
     uint64_t n = take(bytes, DULLAVANE_FREQUENCY_SIZE);
     return dullavane_frequency(LENT(tally), bytes, n, LENT(measures), LENT(sums), LENT(figures));
 }
 
-static uint32_t take_unit(void) {
+static uint64_t take_unit(void) {
     uint64_t n = take(bytes, DULLAVANE_UNIT_SIZE);
     return dullavane_unit(LENT(tally), bytes, n, LENT(measures), LENT(sums), LENT(figures), LENT(numbers), LENT(homes), LENT(rows));
 }
 
 /* The last one is handed on with a byte more, if there is one: then bytes follow the book. */
-static uint32_t take_requirement(uint32_t i) {
+static uint64_t take_requirement(uint32_t i) {
     uint64_t n = take(bytes + REQUIREMENT * i, REQUIREMENT + (i + 1 == tally[1]));
     return dullavane_requirement(LENT(tally), bytes + REQUIREMENT * i, n);
 }
 
 /* The whole book, or the first refusal. */
-static uint32_t take_book(void) {
+static uint64_t take_book(void) {
     uint64_t n = take(bytes, DULLAVANE_CONTENTS_SIZE);
-    uint32_t no = dullavane_contents(bytes, n, LENT(tally));
+    uint64_t no = dullavane_contents(bytes, n, LENT(tally));
     if (no) return no;
     n = take(bytes, DULLAVANE_SETTINGS_SIZE);
     no = dullavane_settings(LENT(tally), bytes, n);
@@ -113,7 +113,7 @@ static uint32_t put_answer(const uint8_t *requirement) {
 }
 
 int main(void) {
-    uint32_t no = take_book();
+    uint64_t no = take_book();
     if (!no) {
         put_text("interval ");
         put_natural(tally[7]);
@@ -121,8 +121,10 @@ int main(void) {
     }
     for (uint32_t i = 0; !no && i < tally[1]; i++) no = put_answer(bytes + REQUIREMENT * i);
     if (no) {
-        put_text("refused ");
-        put_natural(no);
+        put_text("refused");
+        put_integer(DULLAVANE_REFUSAL(no));
+        put_integer(DULLAVANE_PLACE(no));
+        put_integer(DULLAVANE_T(no));
         putchar('\n');
     }
     return 0;

@@ -9,8 +9,14 @@
    stands past the numbers named here is neither read nor written. Two lists of one call must not overlap. A pointer is never null, not
    even with length 0, and is aligned to its element's size. Lengths are uint64_t on every processor, also on a 32-bit one.
 
-   A CALL returns 0, or the number of a refusal (below). After a refusal everything lent is as it was, the tally too: the same call can be made
-   again with other bytes, or the book given up.
+   A CALL returns 0, or a refusal (below). After a refusal everything lent is as it was, the tally too: the same call can be made again with other
+   bytes, or the book given up.
+
+   WHERE. The five calls that take a book return 64 bits, by value: 0, or in bits 0 to 31 the refusal's number, in bits 32 to 47 the place of the
+   refused record in its body, from 1 (the settings' is 1, region r's is r + 1), and in bits 48 to 63 the refused point or reading, t = 1 to 75, the first
+   one where there are several. DULLAVANE_REFUSAL, DULLAVANE_PLACE and DULLAVANE_T take them apart. A record's call names the place of the record that was to
+   be taken, also where no byte of it is left; t comes with 74 and 84 alone. No place have 11, what dullavane_contents refuses, and 12 for a tally of fewer
+   than 8 words. What is not there is 0; the other calls take no record of a body and return the number alone, which the same macros read.
 
    THE TALLY says how far a book is: 8 words that dullavane_contents makes and every call that takes a record moves on.
        [0] units announced, 0 to 512             [4] smoothing, 1 to 10,000
@@ -42,8 +48,14 @@
         4  bytes follow the last requirement
         5  a count in the table is over or under its limit
         6  a field of the settings breaks its rule
-        7  a field of a frequency record breaks its rule
-        8  a field of a unit breaks its rule
+       71  a frequency record's header: region, separation, FM before the interval or generation
+       72  a default of a frequency record
+       73  the quality bytes of a frequency record: one of the last five bits is not zero
+       74  a point of a frequency record (t): out of range, or a bad point that does not hold 0
+       81  a unit's header: region, kind, start or end
+       82  a default of a unit
+       83  the quality bytes of a unit: one of the last five bits or of the two bytes after them is not zero
+       84  a reading of a unit (t): out of range, or a bad reading that does not hold 0
         9  a unit's number does not rise
        10  a field of a requirement breaks its rule, or its number does not rise
        11  not this call's turn; or the tally, or a lent number that the call reads, is out of range: none that these calls leave is; or a region's
@@ -51,6 +63,7 @@
        12  a lent list is too short
        14  the average of a week is below the limit of its field in a book
        17  a week of more than 2,016 intervals, or a live performance that no such member can have
+   7, 8 and 13 are nobody's: earlier versions gave 7 and 8 where 71 to 74 and 81 to 84 are told apart now, and no call can meet 13.
    5 is given, too, where who a week's member is, as a number, is over 512, and by dullavane_sheet, which says when.
    A call tests 12 for the tally's 8 words first, since without them there is no tally; then 11 for the tally and its turn, 12 for the lists, 11 for
    lent numbers that it reads, 1, and then the record's fields by their place.
@@ -154,28 +167,34 @@ enum { DULLAVANE_A_RESIDUAL, DULLAVANE_UNIT };
 /* The numbers of a week's answer: how many intervals are live, and the default, which is at most 0. */
 enum { DULLAVANE_COUNT, DULLAVANE_DEFAULT, DULLAVANE_DEFAULT_NUMBERS };
 
+/* A refusal's number, and where it is: the place of its record in its body, and t of its point or reading, each 0 where there is none. */
+#define DULLAVANE_REFUSAL(reply) ((uint32_t)((uint64_t)(reply) & UINT64_C(0xffffffff)))
+#define DULLAVANE_PLACE(reply) ((uint32_t)((uint64_t)(reply) >> 32 & UINT64_C(0xffff)))
+#define DULLAVANE_T(reply) ((uint32_t)((uint64_t)(reply) >> 48))
+
 /* Starts a tally from the table of contents. Whatever the 8 words held is gone, unless it refuses: 12 (no room for 8 words), then 1, 2, 3, 5. */
-uint32_t dullavane_contents(const uint8_t *part, uint64_t part_bytes, uint32_t *tally, uint64_t tally_words);
+uint64_t dullavane_contents(const uint8_t *part, uint64_t part_bytes, uint32_t *tally, uint64_t tally_words);
 
 /* Takes the settings. Refuses 12, 11, 1, 6. */
-uint32_t dullavane_settings(uint32_t *tally, uint64_t tally_words, const uint8_t *part, uint64_t part_bytes);
+uint64_t dullavane_settings(uint32_t *tally, uint64_t tally_words, const uint8_t *part, uint64_t part_bytes);
 
-/* Takes the frequency record of the next region: writes its 75 measures and its 10 figures, and sets its 150 sums to 0. Refuses 12, 11, 12, 1, 7. */
-uint32_t dullavane_frequency(uint32_t *tally, uint64_t tally_words, const uint8_t *part, uint64_t part_bytes,
+/* Takes the frequency record of the next region: writes its 75 measures and its 10 figures, and sets its 150 sums to 0. Refuses 12, 11, 12, 1, then
+   71 (region, separation), 73, 71 (FM before, generation), 72, 74. */
+uint64_t dullavane_frequency(uint32_t *tally, uint64_t tally_words, const uint8_t *part, uint64_t part_bytes,
                              int32_t *measures, uint64_t measures_length, int64_t *sums, uint64_t sums_length,
                              int64_t *figures, uint64_t figures_length);
 
 /* Takes a unit: adds its deviations to its region's sums if no reading is bad, and writes its number, its home and its row. When k units are taken,
    numbers and homes have to be longer than k, and rows at least 8 k + 8. Refuses 12, 11, 12, 11 (figures of another interval; a measure or a sum of the
-   region that the record names is out of range), 1, 8, 9. */
-uint32_t dullavane_unit(uint32_t *tally, uint64_t tally_words, const uint8_t *part, uint64_t part_bytes,
+   region that the record names is out of range), 1, 81, 82, 83, 84, 9. */
+uint64_t dullavane_unit(uint32_t *tally, uint64_t tally_words, const uint8_t *part, uint64_t part_bytes,
                         const int32_t *measures, uint64_t measures_length, int64_t *sums, uint64_t sums_length,
                         const int64_t *figures, uint64_t figures_length, uint16_t *numbers, uint64_t numbers_length,
                         uint8_t *homes, uint64_t homes_length, int64_t *rows, uint64_t rows_length);
 
 /* Takes a requirement. Nothing of it is kept but its number's successor: keep its 24 bytes for dullavane_answer. With the last one the book ends.
    Refuses 12, 11, 1, 10, and with the last one 4. */
-uint32_t dullavane_requirement(uint32_t *tally, uint64_t tally_words, const uint8_t *part, uint64_t part_bytes);
+uint64_t dullavane_requirement(uint32_t *tally, uint64_t tally_words, const uint8_t *part, uint64_t part_bytes);
 
 /* Answers a requirement, from its 24 bytes and what the calls have left in the lists; it may be asked again, and changes nothing but the five columns and
    the reply. Each column has one number for every member, in this order: the units of the requirement's regions as they stand in the book, then one

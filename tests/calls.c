@@ -109,13 +109,16 @@ static u32 part_word(u64 place, u64 bytes) {
 #define SERIES_AND_FIGURES LENT_AS(i32, MEASURES), LENT_AS(i64, SUMS), LENT_AS(i64, FIGURES)
 #define COLUMNS LENT_AS(i64, PERFORMANCES), LENT_AS(i64, FACTORS), LENT_AS(i64, PAYMENTS), LENT_AS(i64, USED), LENT_AS(i64, UNUSED)
 
-/* Prints a call's reply and what its lists hold after it. */
-static void print_call(const char *kind, u32 reply, const int *lent, int count) {
-    printf("%s %u", kind, reply);
+/* Prints a call's reply and what its lists hold after it: of a call that takes a book number, place and t, of the others, which take no record of a body, the
+   number alone. */
+static void print_call(const char *kind, u64 reply, int takes_a_book, const int *lent, int count) {
+    printf("%s %u", kind, DULLAVANE_REFUSAL(reply));
+    if (takes_a_book) printf(" %u %u", DULLAVANE_PLACE(reply), DULLAVANE_T(reply));
     for (int i = 0; i < count; i++) print_list(lent[i]);
     printf("\n");
 }
-#define PRINT(kind, reply, lent) print_call(kind, reply, lent, (int)(sizeof(lent) / sizeof(lent[0])))
+#define PRINT(kind, reply, lent) print_call(kind, reply, 1, lent, (int)(sizeof(lent) / sizeof(lent[0])))
+#define PRINT_NUMBER(kind, reply, lent) print_call(kind, reply, 0, lent, (int)(sizeof(lent) / sizeof(lent[0])))
 
 static void call(void) {
     static const int tally[] = {TALLY}, frequency[] = {TALLY, MEASURES, SUMS, FIGURES};
@@ -132,10 +135,10 @@ static void call(void) {
         PRINT("unit", dullavane_unit(TALLY_AND_PART, SERIES_AND_FIGURES, LENT_AS(u16, NUMBERS), LENT_AS(u8, HOMES), LENT_AS(i64, ROWS)), unit);
     else if (kind == 'r') PRINT("requirement", dullavane_requirement(TALLY_AND_PART), tally);
     else if (kind == 'a')
-        PRINT("answer", dullavane_answer(TALLY_AND_PART, SERIES_AND_FIGURES, LENT_AS(u8, HOMES), LENT_AS(i64, ROWS), COLUMNS, LENT(REPLY)), answer);
+        PRINT_NUMBER("answer", dullavane_answer(TALLY_AND_PART, SERIES_AND_FIGURES, LENT_AS(u8, HOMES), LENT_AS(i64, ROWS), COLUMNS, LENT(REPLY)), answer);
     else if (kind == 'm')
-        PRINT("member", dullavane_member(LENT_AS(u32, TALLY), part_word(0, bytes), part_word(1, bytes), part_word(2, bytes), LENT_AS(i64, FIGURES),
-                                         LENT_AS(u16, NUMBERS), LENT_AS(u8, HOMES), LENT_AS(u32, MEMBER)), member);
+        PRINT_NUMBER("member", dullavane_member(LENT_AS(u32, TALLY), part_word(0, bytes), part_word(1, bytes), part_word(2, bytes), LENT_AS(i64, FIGURES),
+                                                LENT_AS(u16, NUMBERS), LENT_AS(u8, HOMES), LENT_AS(u32, MEMBER)), member);
     else stop("no call");
 }
 

@@ -59,7 +59,8 @@ static line next_line(i64 *room) {
 }
 
 static void say(uint32_t refusal, const u64 *verdict) {
-    if (refusal) printf("refused %u\n", refusal);
+    /* The program says a place and a t with every refusal, which a sheet's own have not; the door replies the number alone. */
+    if (refusal) printf("refused %u 0 0\n", refusal);
     else if (verdict[0] == DULLAVANE_POSSIBLE) printf("possible\n");
     else if (verdict[0] == DULLAVANE_WRONG_MEMBER) printf("wrong member %lu\n", (unsigned long)verdict[1]);
     else if (verdict[0] == DULLAVANE_WRONG_POSITIVE) printf("wrong side positive\n");

@@ -1,9 +1,173 @@
 //! `damage`: SEED and a book to a broken one. Sometimes the result is still a
-//! valid book, which is as good a trial as a refusal.
+//! valid book, which is as good a trial as a refusal. `spoil` puts a fault into one
+//! record, in every field of every kind, so that every refusal comes at many places
+//! and with many t.
 
 use crate::book::*;
 use crate::chance::Chance;
 use crate::quantities::*;
+
+/// A kind of record, as the calls name it.
+#[derive(Clone, Copy, Debug, PartialEq, Eq)]
+pub enum Kind {
+    Settings,
+    Frequency,
+    Unit,
+    Requirement,
+}
+
+impl Kind {
+    pub const ALL: [Kind; 4] = [Kind::Settings, Kind::Frequency, Kind::Unit, Kind::Requirement];
+
+    pub fn name(self) -> &'static str {
+        match self {
+            Kind::Settings => "settings",
+            Kind::Frequency => "frequency",
+            Kind::Unit => "unit",
+            Kind::Requirement => "requirement",
+        }
+    }
+
+    pub fn named(name: &str) -> Option<Kind> {
+        Kind::ALL.into_iter().find(|kind| kind.name() == name)
+    }
+
+    pub fn size(self) -> usize {
+        match self {
+            Kind::Settings => SETTINGS_SIZE,
+            Kind::Frequency => FREQUENCY_SIZE,
+            Kind::Unit => UNIT_SIZE,
+            Kind::Requirement => REQUIREMENT_SIZE,
+        }
+    }
+}
+
+/// Where the quality bytes and the 75 values of a record lie, and the limits of a good value.
+struct Values {
+    quality: usize,
+    values: usize,
+    lowest: i128,
+    highest: i128,
+}
+
+const FREQUENCY_VALUES: Values =
+    Values { quality: 2, values: 68, lowest: FREQUENCY_LOWEST, highest: FREQUENCY_HIGHEST };
+const UNIT_VALUES: Values = Values { quality: 60, values: 72, lowest: -POWER_LIMIT, highest: POWER_LIMIT };
+
+/// A value just past a limit, or far past it.
+fn beyond(chance: &mut Chance, lowest: i128, highest: i128) -> i128 {
+    let far = chance.any_size(1 << 20);
+    chance.pick(&[lowest - 1, highest + 1, lowest - 1 - far, highest + 1 + far])
+}
+
+/// One of the five spare quality bits of a record.
+fn spoil_spare(chance: &mut Chance, record: &mut [u8], quality: usize) {
+    record[quality + 9] |= 1 << (3 + chance.place(5));
+}
+
+/// One wrong point: a good one that is out of range, or a bad one that holds a value.
+fn spoil_point(chance: &mut Chance, record: &mut [u8], values: &Values, point: usize, good: bool) {
+    let mark = 1u8 << (point % 8);
+    let value = if good {
+        record[values.quality + point / 8] |= mark;
+        beyond(chance, values.lowest, values.highest)
+    } else {
+        record[values.quality + point / 8] &= !mark;
+        let within = chance.between(values.lowest, values.highest);
+        chance.pick(&[1, -1, values.lowest, values.highest, within, within])
+    };
+    // A bad 0 is no fault.
+    let value = if value == 0 { 1 } else { value };
+    put(record, values.values + 4 * point, 4, value);
+}
+
+/// One wrong point, any or next to an end or to a quality byte's; or several.
+fn spoil_points(chance: &mut Chance, record: &mut [u8], values: &Values) {
+    for _ in 0..chance.pick(&[1, 1, 1, 1, 1, 1, 1, 2, 3, 20]) {
+        let any = chance.place(POINTS);
+        let edge = chance.pick(&[0, 1, 7, 8, POINTS - 2, POINTS - 1]);
+        let point = if chance.one_in(5) { edge } else { any };
+        let good = chance.one_in(2);
+        spoil_point(chance, record, values, point, good);
+    }
+}
+
+/// The point or reading at t of a frequency or unit record wrong, as a good or as a bad one.
+pub fn spoil_t(chance: &mut Chance, kind: Kind, record: &mut [u8], t: usize, good: bool) {
+    let values = if kind == Kind::Frequency { &FREQUENCY_VALUES } else { &UNIT_VALUES };
+    spoil_point(chance, record, values, t - 1, good);
+}
+
+fn spoil_settings(chance: &mut Chance, record: &mut [u8]) {
+    match chance.place(3) {
+        0 => put(record, 0, 2, chance.pick(&[0, 10_001, 65_535])),
+        1 => put(record, 2, 1, chance.pick(&[76, 255])),
+        _ => put(record, 3, 1, chance.pick(&[101, 255])),
+    }
+}
+
+fn spoil_frequency(chance: &mut Chance, record: &mut [u8]) {
+    match chance.place(18) {
+        0 => record[0] = record[0].wrapping_add(chance.pick(&[1, 255, 128])),
+        1 => record[1] = chance.pick(&[2, 3, 255]),
+        2 | 3 => spoil_spare(chance, record, 2),
+        4 => put(record, 12, 4, beyond(chance, -MEASURE_LIMIT, MEASURE_LIMIT)),
+        5 => put(record, 16, 4, beyond(chance, 0, GENERATION_LIMIT)),
+        6 | 7 => {
+            let value = beyond(chance, RESIDUAL_DEFAULT_LOWEST, 0);
+            put(record, 20 + 8 * chance.place(6), 8, value);
+        }
+        _ => spoil_points(chance, record, &FREQUENCY_VALUES),
+    }
+}
+
+fn spoil_unit(chance: &mut Chance, record: &mut [u8]) {
+    match chance.place(22) {
+        0 => record[2] = chance.pick(&[5, 6, 255]),
+        1 => record[3] = chance.pick(&[2, 3, 255]),
+        2 => put(record, 4, 4, beyond(chance, -POWER_LIMIT, POWER_LIMIT)),
+        3 => put(record, 8, 4, beyond(chance, -POWER_LIMIT, POWER_LIMIT)),
+        4 | 5 => {
+            let value = beyond(chance, UNIT_DEFAULT_LOWEST, 0);
+            put(record, 12 + 8 * chance.place(6), 8, value);
+        }
+        6 | 7 => spoil_spare(chance, record, 60),
+        8 => record[chance.pick(&[70, 71])] = chance.pick(&[1, 128, 255]),
+        // A fault unless it is the first unit.
+        9 | 10 => put(record, 0, 2, 0),
+        _ => spoil_points(chance, record, &UNIT_VALUES),
+    }
+}
+
+fn spoil_requirement(chance: &mut Chance, record: &mut [u8]) {
+    match chance.place(7) {
+        // A fault unless it is the first requirement.
+        0 => put(record, 0, 2, 0),
+        1 => record[2] = chance.pick(&[0, 32, 64, 255]),
+        2 => record[3] = chance.pick(&[2, 3, 255]),
+        3 => put(record, 4, 4, PRICE_LIMIT + 1 + chance.any_size(1 << 20)),
+        4 => put(record, 8, 8, COST_LIMIT + 1 + chance.any_size(1 << 20)),
+        5 => put(record, 16, 4, AMOUNT_LIMIT + 1 + chance.any_size(1 << 20)),
+        _ => put(record, 20, 4, AMOUNT_LIMIT + 1 + chance.any_size(1 << 20)),
+    }
+}
+
+/// A fault in a record that is there in full.
+pub fn spoil(chance: &mut Chance, kind: Kind, record: &mut [u8]) {
+    match kind {
+        Kind::Settings => spoil_settings(chance, record),
+        Kind::Frequency => spoil_frequency(chance, record),
+        Kind::Unit => spoil_unit(chance, record),
+        Kind::Requirement => spoil_requirement(chance, record),
+    }
+}
+
+/// One fault, or two in the same record, whichever of them is tested first.
+pub fn spoil_once_or_twice(chance: &mut Chance, kind: Kind, record: &mut [u8]) {
+    for _ in 0..chance.pick(&[1, 1, 1, 2]) {
+        spoil(chance, kind, record);
+    }
+}
 
 /// Where the records of a book lie.
 struct Layout {
@@ -18,6 +182,16 @@ impl Layout {
 
     fn requirement(&self, place: usize) -> usize {
         UNITS_AT + self.units * UNIT_SIZE + place * REQUIREMENT_SIZE
+    }
+
+    /// Where the record of a kind begins, and how many of them there are.
+    fn body(&self, kind: Kind) -> (usize, usize) {
+        match kind {
+            Kind::Settings => (CONTENTS_SIZE, 1),
+            Kind::Frequency => (FREQUENCIES_AT, REGIONS),
+            Kind::Unit => (UNITS_AT, self.units),
+            Kind::Requirement => (self.requirement(0), self.requirements),
+        }
     }
 
     /// Every place where a record begins or the book ends.
@@ -240,8 +414,32 @@ fn shift_records(chance: &mut Chance, bytes: &mut Vec<u8>, layout: &Layout) {
     }
 }
 
+/// Faults in one record of the book: any, the first, the second, the fifth or the last of its body.
+fn spoil_record(chance: &mut Chance, bytes: &mut [u8], layout: &Layout) {
+    let kinds = [Kind::Frequency, Kind::Frequency, Kind::Unit, Kind::Unit, Kind::Unit, Kind::Requirement];
+    let drawn = chance.pick(&kinds);
+    let kind = if chance.one_in(12) { Kind::Settings } else { drawn };
+    let (body, count) = layout.body(kind);
+    if count == 0 {
+        return;
+    }
+    let (any, last) = (chance.place(count), count - 1);
+    let place = chance.pick(&[any, any, any, 0, 1, 4, last]).min(last);
+    let at = body + kind.size() * place;
+    // A later damage can meet a book that an earlier one has cut.
+    if at + kind.size() <= bytes.len() {
+        spoil_once_or_twice(chance, kind, &mut bytes[at..at + kind.size()]);
+    }
+}
+
+/// Faults in two records, either of which may come first in the book.
+fn spoil_two_records(chance: &mut Chance, bytes: &mut [u8], layout: &Layout) {
+    spoil_record(chance, bytes, layout);
+    spoil_record(chance, bytes, layout);
+}
+
 fn damage_once(chance: &mut Chance, bytes: &mut Vec<u8>, layout: &Layout) {
-    match chance.place(13) {
+    match chance.place(30) {
         0 => flip_bit(chance, bytes, usize::MAX),
         1 => flip_bit(chance, bytes, FREQUENCIES_AT),
         2..=4 => any_field(chance, bytes, layout),
@@ -258,7 +456,9 @@ fn damage_once(chance: &mut Chance, bytes: &mut Vec<u8>, layout: &Layout) {
         9 => disturb_numbers(chance, bytes, UNITS_AT, UNIT_SIZE, layout.units),
         10 => disturb_numbers(chance, bytes, layout.requirement(0), REQUIREMENT_SIZE, layout.requirements),
         11 => disturb_quality(chance, bytes, layout),
-        _ => shift_records(chance, bytes, layout),
+        12 => shift_records(chance, bytes, layout),
+        13..=25 => spoil_record(chance, bytes, layout),
+        _ => spoil_two_records(chance, bytes, layout),
     }
 }
 

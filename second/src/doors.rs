@@ -24,7 +24,7 @@ fn require(holds: bool, number: u8) -> Result<(), Refusal> {
     if holds {
         Ok(())
     } else {
-        Err(Refusal(number))
+        Err(Refusal::of(number))
     }
 }
 
@@ -96,7 +96,7 @@ pub fn packed(week: &RunningWeek) -> [i128; 2] {
 /// The record in so many words, the first two of them its own: 12, then 11.
 fn record(words: &[i128], length: i128) -> Result<RunningWeek, Refusal> {
     require(length >= WEEK_WORDS, 12)?;
-    unpacked(words).ok_or(Refusal(11))
+    unpacked(words).ok_or(Refusal::of(11))
 }
 
 pub fn week_add(
@@ -152,7 +152,7 @@ fn parsed_list(word: &str) -> Option<Lent> {
 fn parted<T>(result: Result<T, Refusal>) -> (u8, Option<T>) {
     match result {
         Ok(answer) => (0, Some(answer)),
-        Err(Refusal(number)) => (number, None),
+        Err(refusal) => (refusal.number, None),
     }
 }
 

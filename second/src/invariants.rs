@@ -230,7 +230,7 @@ fn split_keeps(book: &Book, all: &[Settled], place: usize, part: i128) -> Held {
     hold(adds_up, || format!("split of unit {} moves deviations", book.units[place].number))?;
     let mut drawn = book.clone();
     drawn.units.splice(place..=place, [one, other]);
-    let after = settle_book(&drawn).map_err(|refusal| format!("split book refused {}", refusal.0))?;
+    let after = settle_book(&drawn).map_err(|refusal| format!("split book refused {refusal}"))?;
     for ((requirement, before), after) in book.requirements.iter().zip(all).zip(&after) {
         let old: Vec<i128> = before.lines.iter().map(|line| line.member.payment_performance).collect();
         let mut new: Vec<i128> = after.lines.iter().map(|line| line.member.payment_performance).collect();

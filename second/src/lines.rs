@@ -1,7 +1,7 @@
 //! Lines for `share` and `records`: what the library's own programs are held to, line by line.
 
 use crate::chance::Chance;
-use crate::damage::damage;
+use crate::damage::{damage, spoil_once_or_twice, Kind};
 use crate::make::{make, CLASSES};
 use crate::unequal::{all_alike, billionths_over, enlarged, telling_total};
 use crate::write::to_bytes;
@@ -111,7 +111,8 @@ fn drawn(chance: &mut Chance) -> Vec<i128> {
     (0..n).map(|_| chance.any_size(most.max(1))).collect()
 }
 
-/// The nth record line of a kind: bytes of any kind, or a record of a made book, whole, damaged, cut or with bytes after it.
+/// The nth record line of a kind: bytes of any kind, or a record of a made book, whole, damaged, with a fault or two of its
+/// own, cut or with bytes after it.
 pub fn record(kind: &str, seed: u64, nth: usize) -> String {
     let mut chance = Chance::new(seed.wrapping_add(nth as u64));
     let part = if nth.is_multiple_of(2) { any_bytes(&mut chance) } else { made_part(kind, &mut chance) };
@@ -157,6 +158,9 @@ fn made_part(kind: &str, chance: &mut Chance) -> Vec<u8> {
         "unit" => (1_904 + 372 * chance.place(5), 372),
         _ => (1_904 + 372 * 5, 24),
     };
+    if let (Some(kind), true, true) = (Kind::named(kind), bytes.len() >= start + size, chance.one_in(2)) {
+        spoil_once_or_twice(chance, kind, &mut bytes[start..start + size]);
+    }
     let length = if chance.one_in(4) { chance.between(0, size as i128 + 30) as usize } else { size };
     bytes.into_iter().skip(start).take(length).collect()
 }

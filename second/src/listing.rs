@@ -1,4 +1,4 @@
-//! The listing, or `refused N`: what `settle` prints for a book.
+//! The listing, or `refused N PLACE T`: what `settle` prints for a book.
 
 use std::fmt::Write;
 
@@ -56,6 +56,6 @@ fn listing_or_refusal(bytes: &[u8]) -> Result<String, Refusal> {
 pub fn settle(bytes: &[u8]) -> String {
     match listing_or_refusal(bytes) {
         Ok(listing) => listing,
-        Err(Refusal(number)) => format!("refused {number}\n"),
+        Err(refusal) => format!("refused {refusal}\n"),
     }
 }

@@ -69,7 +69,7 @@ fn requirement_in_numbers(requirement: Requirement) -> String {
 fn last_requirement(bytes: &[u8], before: Option<i128>) -> Result<Requirement, Refusal> {
     let requirement = read_requirement(bytes, before)?;
     if bytes.len() > REQUIREMENT_SIZE {
-        return Err(Refusal(4));
+        return Err(Refusal::of(4));
     }
     Ok(requirement)
 }
@@ -97,10 +97,20 @@ fn read_line(kind: &str, bytes: &[u8], context: &[&str]) -> Option<Result<String
     })
 }
 
-fn answer(result: Option<Result<String, Refusal>>) -> String {
+/// A lone record has no place in a body: number and t, 0 where there is none.
+fn refused_record(refusal: Refusal) -> String {
+    format!("refused {} {}", refusal.number, refusal.t)
+}
+
+/// A share takes no record: the number alone.
+fn refused_share(refusal: Refusal) -> String {
+    format!("refused {}", refusal.number)
+}
+
+fn answer(result: Option<Result<String, Refusal>>, refused: fn(Refusal) -> String) -> String {
     match result {
         Some(Ok(fields)) => fields,
-        Some(Err(Refusal(number))) => format!("refused {number}"),
+        Some(Err(refusal)) => refused(refusal),
         None => "bad line".to_string(),
     }
 }
@@ -111,7 +121,7 @@ pub fn record_line(line: &str) -> String {
         [kind, hex, context @ ..] => hex_bytes(hex).and_then(|bytes| read_line(kind, &bytes, context)),
         _ => None,
     };
-    answer(result)
+    answer(result, refused_record)
 }
 
 pub fn share_line(line: &str) -> String {
@@ -123,5 +133,5 @@ pub fn share_line(line: &str) -> String {
         })),
         _ => None,
     };
-    answer(result)
+    answer(result, refused_share)
 }

@@ -1,7 +1,7 @@
 //! `week`: books one after another, replayed as a recorded week; what it prints of them.
 
 use std::collections::BTreeMap;
-use std::fmt::Write;
+use std::fmt::{self, Write};
 
 use crate::book::{read_first_book, Book, Refusal};
 use crate::members::{region_residual, unit_member, Member};
@@ -15,11 +15,19 @@ pub const REGION_NAMES: [&str; REGIONS] = ["QLD1", "NSW1", "VIC1", "SA1", "TAS1"
 /// It says how far it is each time that so many books are through.
 pub const BOOKS_A_LINE: usize = 100;
 
-/// A refusal, and the place of its book from 1; 0 where no book is to blame.
+/// A refusal, and the place of its book in the week from 1; 0 where no book is to blame.
 #[derive(Clone, Copy, Debug, PartialEq, Eq)]
 pub struct RefusedAt {
-    pub number: u8,
-    pub place: usize,
+    pub refusal: Refusal,
+    pub book: usize,
+}
+
+/// The number, the book's place in the week, the record's place in its body, t.
+impl fmt::Display for RefusedAt {
+    fn fmt(&self, out: &mut fmt::Formatter) -> fmt::Result {
+        let Refusal { number, place, t } = self.refusal;
+        write!(out, "{number} {} {place} {t}", self.book)
+    }
 }
 
 /// A member's record, for raise and for lower.
@@ -66,7 +74,7 @@ impl Records {
             residual.take(|direction| region_residual(direction, book, &views, region));
         }
         if self.units.len() > NUMBERS_LIMIT {
-            return Err(Refusal(5));
+            return Err(Refusal::of(5));
         }
         Ok(())
     }
@@ -91,18 +99,18 @@ fn lines_or_refusal(bytes: &[u8], mut progress: impl FnMut(usize)) -> Result<Str
     let mut rest = bytes;
     let mut books = 0;
     while !rest.is_empty() {
-        let place = books + 1;
-        let at_place = |Refusal(number)| RefusedAt { number, place };
+        let nth = books + 1;
+        let in_book = |refusal| RefusedAt { refusal, book: nth };
         if books == INTERVALS_LIMIT {
-            return Err(at_place(Refusal(17)));
+            return Err(in_book(Refusal::of(17)));
         }
-        let (book, end) = read_first_book(rest).map_err(at_place)?;
-        records.take(&book).map_err(at_place)?;
+        let (book, end) = read_first_book(rest).map_err(in_book)?;
+        records.take(&book).map_err(in_book)?;
         rest = &rest[end..];
-        books = place;
+        books = nth;
         progress(books);
     }
-    records.lines().map_err(|Refusal(number)| RefusedAt { number, place: 0 })
+    records.lines().map_err(|refusal| RefusedAt { refusal, book: 0 })
 }
 
 /// All that `week` prints for these bytes, and all that it says on standard error.
@@ -113,6 +121,6 @@ pub fn replay(bytes: &[u8]) -> (String, String) {
             writeln!(said, "{books} books").unwrap();
         }
     });
-    let printed = told.unwrap_or_else(|RefusedAt { number, place }| format!("refused {number} {place}\n"));
+    let printed = told.unwrap_or_else(|refused| format!("refused {refused}\n"));
     (printed, said)
 }

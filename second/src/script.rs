@@ -11,7 +11,7 @@ use std::io::Write;
 use crate::book::*;
 use crate::boundary::*;
 use crate::chance::Chance;
-use crate::damage::damage;
+use crate::damage::{damage, spoil_once_or_twice, Kind};
 use crate::make::{make, CLASSES};
 use crate::quantities::*;
 use crate::write::to_bytes;
@@ -118,10 +118,11 @@ impl<W: Write> Script<W> {
         writeln!(self.out, "{line}").expect("a script that can be written");
     }
 
+    /// One call, and the number of its reply.
     fn call(&mut self, kind: &str, part: &[u8]) -> u8 {
         writeln!(self.out, "call {kind} {}", hex(part)).expect("a script that can be written");
         self.calls += 1;
-        self.lent.call(kind, part)
+        number_of(self.lent.call(kind, part))
     }
 
     fn put(&mut self, name: &str, place: usize, numbers: &[i128]) {
@@ -248,9 +249,9 @@ impl<W: Write> Script<W> {
         if self.chance.one_in(10) {
             self.call_with_an_interval_off(kind, &honest);
         }
-        match self.chance.place(10) {
-            0 | 1 => {
-                let broken = self.broken(made, start, size);
+        match self.chance.place(13) {
+            0 | 1 | 10..=12 => {
+                let broken = self.broken(made, start, size, turn);
                 let before = self.tally_words();
                 self.call(kind, &broken);
                 self.put("tally", 0, &before);
@@ -275,9 +276,14 @@ impl<W: Write> Script<W> {
         }
     }
 
-    /// The record out of a damaged book, damaged itself unless chance is against it.
-    fn broken(&mut self, made: &Made, start: usize, size: usize) -> Vec<u8> {
+    /// The record with a fault or two in it, or out of a damaged book.
+    fn broken(&mut self, made: &Made, start: usize, size: usize, kind: &str) -> Vec<u8> {
         let whole = part(&made.bytes, start, size);
+        if let (Some(kind), true) = (Kind::named(kind), self.chance.one_in(2)) {
+            let mut record = whole.to_vec();
+            spoil_once_or_twice(&mut self.chance, kind, &mut record);
+            return record;
+        }
         for _ in 0..30 {
             let bytes = damage(self.chance.draw(), &made.bytes);
             let broken = part(&bytes, start, size);
@@ -306,7 +312,7 @@ impl<W: Write> Script<W> {
             // The table of contents begins a new chain, if its bytes are a table.
             let length = self.chance.pick(&[0, 8, CONTENTS_SIZE - 1, CONTENTS_SIZE, CONTENTS_SIZE + 1]);
             let damaged = damage(self.chance.draw(), &made.bytes);
-            let broken = self.broken(made, 0, CONTENTS_SIZE);
+            let broken = self.broken(made, 0, CONTENTS_SIZE, "contents");
             let before = self.tally_words();
             self.call("contents", part(&damaged, 0, length));
             self.call("contents", &broken);

@@ -28,7 +28,7 @@ type Claim = fn(i128, i128) -> (i128, i128);
 fn share_in_order(claim: Claim, total: i128, weights: &[i128]) -> Result<Shared, Refusal> {
     let sum: i128 = weights.iter().sum();
     if total > SHARE_TOTAL_LIMIT || sum > SHARE_WEIGHT_LIMIT {
-        return Err(Refusal(5));
+        return Err(Refusal::of(5));
     }
     if sum == 0 {
         return Ok(Shared { amounts: vec![0; weights.len()], unplaced: total });

@@ -25,7 +25,7 @@ fn require(holds: bool, number: u8) -> Result<(), Refusal> {
     if holds {
         Ok(())
     } else {
-        Err(Refusal(number))
+        Err(Refusal::of(number))
     }
 }
 

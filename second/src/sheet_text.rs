@@ -53,7 +53,7 @@ fn in_words(verdict: Result<Verdict, Refusal>, name: impl Fn(usize) -> String) -
         Ok(Verdict::WrongMember(member)) => format!("wrong member {member}{}\n", name(member)),
         Ok(Verdict::WrongSide(Side::Positive)) => "wrong side positive\n".to_string(),
         Ok(Verdict::WrongSide(Side::Negative)) => "wrong side negative\n".to_string(),
-        Err(Refusal(number)) => format!("refused {number}\n"),
+        Err(refusal) => format!("refused {refusal}\n"),
     }
 }
 
@@ -92,7 +92,7 @@ pub fn of_book(book: &[u8], requirement: i128, text: &[u8]) -> String {
     let members = match members_of(book, requirement) {
         Ok(Some(members)) => members,
         Ok(None) => return format!("no requirement {requirement}\n"),
-        Err(Refusal(number)) => return format!("refused {number}\n"),
+        Err(refusal) => return format!("refused {refusal}\n"),
     };
     let Some(factors) = numbers_of(line_at(text, 0)) else {
         return "text 1\n".to_string();

@@ -5,6 +5,7 @@ use crate::book::{read_book, Book};
 use crate::chance::Chance;
 use crate::damage::damage;
 use crate::make::{make, CLASSES, UNEQUAL};
+use crate::quantities::POWER_LIMIT;
 use crate::sheet::SHEET_LIMIT;
 use crate::sheet_script::{draw_factors, line_of, sheet};
 use crate::sheet_text::{members_of, of_book, of_text, performances_of};
@@ -235,10 +236,10 @@ fn texts() -> Vec<(String, Vec<u8>, &'static str)> {
     add("two-line-feeds", b"\n\n", "possible");
     add("blanks-alone", b" \t \n\t\t \n", "possible");
     add("blanks-alone-without-a-line-feed", b" \n ", "possible");
-    add("no-second-line", b"1\n", "refused 12");
-    add("no-second-line-nor-line-feed", b"1", "refused 12");
-    add("no-second-line-for-0", b"0", "refused 12");
-    add("no-first-line", b"\n1000000000\n", "refused 12");
+    add("no-second-line", b"1\n", "refused 12 0 0");
+    add("no-second-line-nor-line-feed", b"1", "refused 12 0 0");
+    add("no-second-line-for-0", b"0", "refused 12 0 0");
+    add("no-first-line", b"\n1000000000\n", "refused 12 0 0");
     add("no-line-feed-at-the-end", b"1\n1000000000", "possible");
     add("one", b"1\n1000000000\n", "possible");
     add("minus-one", b"-1\n-1000000000\n", "possible");
@@ -248,26 +249,26 @@ fn texts() -> Vec<(String, Vec<u8>, &'static str)> {
     add("zeros", b"0 -0 00 -00\n-000 00 -0 0\n", "possible");
     add("many-zeros", format!("{0}1\n{0}1000000000\n", "0".repeat(400)).as_bytes(), "possible");
     add("many-zeros-and-a-minus", format!("-{0}1\n-{0}1000000000\n", "0".repeat(41)).as_bytes(), "possible");
-    add("an-empty-line-between", b"1\n\n1000000000\n", "refused 12");
+    add("an-empty-line-between", b"1\n\n1000000000\n", "refused 12 0 0");
     add("a-minus-apart", b"- 1\n-1000000000\n", "text 1");
     add("both-lines-wrong", b"x\nx\n", "text 1");
     add("a-wrong-word-without-a-second-line", b"x", "text 1");
     add("a-wrong-word-and-other-lengths", b"1 2 3\nx\n", "text 2");
     add("a-byte-that-is-no-letter", b"1\xff\n1\n", "text 1");
-    add("the-greatest", b"9223372036854775807\n1000000000\n", "refused 5");
-    add("the-least", b"-9223372036854775808\n-1000000000\n", "refused 5");
+    add("the-greatest", b"9223372036854775807\n1000000000\n", "refused 5 0 0");
+    add("the-least", b"-9223372036854775808\n-1000000000\n", "refused 5 0 0");
     add("the-greatest-factor", b"1\n9223372036854775807\n", "wrong member 1");
     add("the-least-factor", b"0 1\n0 -9223372036854775808\n", "wrong member 2");
     add("positive-side", b"1 1 1\n333333333 333333333 333333333\n", "wrong side positive");
     add("negative-side", b"-1 -1 -1\n-333333333 -333333334 -333333334\n", "wrong side negative");
     let long = |words: usize| "0 ".repeat(words);
     add("513", format!("{}\n{}\n", long(513), long(513)).as_bytes(), "possible");
-    add("514", format!("{}\n{}\n", long(514), long(514)).as_bytes(), "refused 5");
-    add("514-performances", format!("{}\n{}\n", long(514), long(513)).as_bytes(), "refused 12");
-    add("514-factors", format!("{}\n{}\n", long(513), long(514)).as_bytes(), "refused 5");
-    add("3000", format!("{}\n{}\n", long(3_000), long(3_000)).as_bytes(), "refused 5");
-    add("3000-performances", format!("{}\n0\n", long(3_000)).as_bytes(), "refused 12");
-    add("3000-factors", format!("\n{}\n", long(3_000)).as_bytes(), "refused 5");
+    add("514", format!("{}\n{}\n", long(514), long(514)).as_bytes(), "refused 5 0 0");
+    add("514-performances", format!("{}\n{}\n", long(514), long(513)).as_bytes(), "refused 12 0 0");
+    add("514-factors", format!("{}\n{}\n", long(513), long(514)).as_bytes(), "refused 5 0 0");
+    add("3000", format!("{}\n{}\n", long(3_000), long(3_000)).as_bytes(), "refused 5 0 0");
+    add("3000-performances", format!("{}\n0\n", long(3_000)).as_bytes(), "refused 12 0 0");
+    add("3000-factors", format!("\n{}\n", long(3_000)).as_bytes(), "refused 5 0 0");
     add("a-wrong-word-past-the-limit", b"9223372036854775807\nx\n", "text 2");
     for (place, word) in NO_NUMBERS.iter().enumerate() {
         add(&format!("no-number-{place}"), format!("{word}\n0\n").as_bytes(), "text 1");
@@ -296,11 +297,11 @@ const TEXTS_OF_THE_LISTING: [(&str, i128, &[u8], &str); 19] = [
     ("first-unit", 1, b"999999999 -300000000 -700000000\n", "wrong member 1 unit 1"),
     ("second-unit", 1, b"1000000000 300000000 -700000000\n", "wrong member 2 unit 2"),
     ("residual", 1, b"1000000000 -300000000 -700000001\n", "wrong member 3 residual"),
-    ("nothing", 1, b"", "refused 12"),
-    ("a-line-feed", 1, b"\n", "refused 12"),
-    ("two-factors", 1, b"1000000000 -300000000\n", "refused 12"),
-    ("four-factors", 1, b"1000000000 -300000000 -700000000 0\n", "refused 12"),
-    ("in-the-second-line", 1, b"\n1000000000 -300000000 -700000000\n", "refused 12"),
+    ("nothing", 1, b"", "refused 12 0 0"),
+    ("a-line-feed", 1, b"\n", "refused 12 0 0"),
+    ("two-factors", 1, b"1000000000 -300000000\n", "refused 12 0 0"),
+    ("four-factors", 1, b"1000000000 -300000000 -700000000 0\n", "refused 12 0 0"),
+    ("in-the-second-line", 1, b"\n1000000000 -300000000 -700000000\n", "refused 12 0 0"),
     ("no-number", 1, b"1000000000 -300000000 x\n", "text 1"),
     ("past-64-bits", 1, b"1000000000 -300000000 9223372036854775808\n", "text 1"),
     ("the-least-factor", 1, b"1000000000 -300000000 -9223372036854775808\n", "wrong member 3 residual"),
@@ -326,13 +327,18 @@ pub fn known_trials() -> Vec<(SheetTrial, String)> {
         of_listing(name, &listing, requirement, text, printed);
     }
     let long = line_of(&[0; SHEET_LIMIT + 1]).into_bytes();
-    of_listing("514", &listing, 1, &long, "refused 5");
-    of_listing("513", &listing, 1, &long[2..], "refused 12");
+    of_listing("514", &listing, 1, &long, "refused 5 0 0");
+    of_listing("513", &listing, 1, &long[2..], "refused 12 0 0");
     let short = &listing[..listing.len() - 1];
-    of_listing("cut", short, 1, b"1000000000 -300000000 -700000000\n", "refused 1");
-    of_listing("open-cut-and-no-number", short, 1, b"x\n", "refused 1");
-    of_listing("cut-and-unknown", short, 9, b"", "refused 1");
-    of_listing("a-byte-behind", &[&listing[..], &[0]].concat(), 1, b"", "refused 4");
-    of_listing("no-bytes", b"", 1, b"", "refused 1");
+    of_listing("cut", short, 1, b"1000000000 -300000000 -700000000\n", "refused 1 1 0");
+    of_listing("open-cut-and-no-number", short, 1, b"x\n", "refused 1 1 0");
+    of_listing("cut-and-unknown", short, 9, b"", "refused 1 1 0");
+    of_listing("a-byte-behind", &[&listing[..], &[0]].concat(), 1, b"", "refused 4 1 0");
+    of_listing("no-bytes", b"", 1, b"", "refused 1 0 0");
+    let mut wrong = listing_book();
+    wrong.units[1].readings[74] = POWER_LIMIT + 1;
+    of_listing("a-reading", &to_bytes(&wrong), 1, b"x\n", "refused 84 2 75");
+    wrong.frequencies[4].frequencies[1] = 0;
+    of_listing("a-point", &to_bytes(&wrong), 9, b"", "refused 74 5 2");
     all
 }

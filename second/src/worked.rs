@@ -674,6 +674,15 @@ fn number_not_rising() -> Book {
     book
 }
 
+/// The same book with two readings of a unit out of range, and one of the next.
+fn readings_out_of_range() -> Book {
+    let mut book = thirteen_units();
+    book.units[10].readings[8] = POWER_LIMIT + 1;
+    book.units[10].readings[74] = -POWER_LIMIT - 1;
+    book.units[11].readings[0] = POWER_LIMIT + 1;
+    book
+}
+
 pub fn all() -> Vec<Worked> {
     vec![
         Worked {
@@ -857,14 +866,21 @@ pub fn all() -> Vec<Worked> {
         },
         Worked {
             name: "byte_behind",
-            shows: "The same book and a byte behind it: refused 4.",
+            shows: "The same book and a byte behind it: refused 4 6 0, the place of the last requirement.",
             book: thirteen_units(),
             behind: &[0],
         },
         Worked {
             name: "number_not_rising",
-            shows: "The same book, its tenth unit with the number of the ninth: refused 9.",
+            shows: "The same book, its tenth unit with the number of the ninth: refused 9 10 0.",
             book: number_not_rising(),
+            behind: &[],
+        },
+        Worked {
+            name: "readings_out_of_range",
+            shows: "The same book, with the readings at t 9 and t 75 of its eleventh unit out of range, and the first one of\n\
+                    its twelfth: refused 84 11 9.",
+            book: readings_out_of_range(),
             behind: &[],
         },
     ]

@@ -13,6 +13,9 @@ use second::quantities::*;
 use second::script::Script;
 use second::write::to_bytes;
 
+/// 11 has no place and no t.
+const REFUSED_11: Step = Err(Refusal { number: 11, place: 0, t: 0 });
+
 fn lent_for(units: usize) -> Lent {
     let mut lent = Lent::default();
     for (name, ..) in NAMES {
@@ -68,9 +71,9 @@ fn a_chain_gives_the_books_answers() {
             let name = format!("{seed} {class}");
             let mut lent = lent_for(roster);
             let mut at = CONTENTS_SIZE;
-            assert_eq!(lent.call("contents", &bytes), 0, "{name}");
+            assert_eq!(lent.call("contents", &bytes), Ok(()), "{name}");
             let mut take = |lent: &mut Lent, kind: &str, size: usize| {
-                assert_eq!(lent.call(kind, &bytes[at..]), 0, "{name} {kind}");
+                assert_eq!(lent.call(kind, &bytes[at..]), Ok(()), "{name} {kind}");
                 at += size;
                 at - size
             };
@@ -84,10 +87,10 @@ fn a_chain_gives_the_books_answers() {
             for settled in &all {
                 let start = take(&mut lent, "requirement", REQUIREMENT_SIZE);
                 let before = lent.clone();
-                assert_eq!(lent.call("answer", &bytes[start..]), 0, "{name}");
+                assert_eq!(lent.call("answer", &bytes[start..]), Ok(()), "{name}");
                 assert_answer(&before, &lent, settled, &name);
             }
-            assert_eq!(lent.call("requirement", &bytes), 11, "{name}");
+            assert_eq!(lent.call("requirement", &bytes), REFUSED_11, "{name}");
         }
     }
 }
@@ -120,7 +123,7 @@ fn book_of(seed: u64, units: usize, interval: i128) -> Book {
 }
 
 /// What a call replies with another tally over these lists, which stay as they are.
-fn reply_with(lent: &Lent, tally: &[i128], kind: &str, part: &[u8]) -> u8 {
+fn reply_with(lent: &Lent, tally: &[i128], kind: &str, part: &[u8]) -> Step {
     let mut lent = lent.clone();
     lent.put("tally", 0, tally);
     lent.call(kind, part)
@@ -137,9 +140,9 @@ fn what_a_chain_leaves() {
     book.units[1].good[74] = false;
     book.units[1].readings[74] = 0;
     let mut lent = lent_for(2);
-    lent.call("contents", &to_bytes(&book));
+    lent.call("contents", &to_bytes(&book)).unwrap();
     for (kind, bytes) in records_of(&book) {
-        assert_eq!(lent.call(kind, &bytes), 0);
+        assert_eq!(lent.call(kind, &bytes), Ok(()));
     }
     let numbers =
         |name: &str, from: usize, count: usize| lent.list(name).numbers[from..from + count].to_vec();
@@ -166,9 +169,9 @@ fn what_a_chain_leaves() {
 fn chain_over(name: &str) -> (Book, Lent) {
     let book = second::worked::all().into_iter().find(|worked| worked.name == name).expect("a book").book;
     let mut lent = lent_for(book.units.len());
-    lent.call("contents", &to_bytes(&book));
+    lent.call("contents", &to_bytes(&book)).unwrap();
     for (kind, bytes) in records_of(&book) {
-        assert_eq!(lent.call(kind, &bytes), 0);
+        assert_eq!(lent.call(kind, &bytes), Ok(()));
     }
     (book, lent)
 }
@@ -208,10 +211,10 @@ fn dropped_points_are_lent_with_their_measure() {
 fn what_a_lent_measure_says() {
     let book = second::worked::listing_book();
     let mut taken = lent_for(2);
-    taken.call("contents", &to_bytes(&book));
+    taken.call("contents", &to_bytes(&book)).unwrap();
     let records = records_of(&book);
     for (kind, bytes) in &records[..6] {
-        assert_eq!(taken.call(kind, bytes), 0);
+        assert_eq!(taken.call(kind, bytes), Ok(()));
     }
     // The number, what it weighs, and whether its FM is above 0.
     let cases = [
@@ -238,28 +241,28 @@ fn what_a_lent_measure_says() {
         lent.put("measures", 0, &[number; POINTS]);
         let reply = lent.call("unit", &records[6].1);
         let Some((weight, raises)) = said else {
-            assert_eq!(reply, 11, "{number}");
+            assert_eq!(reply, REFUSED_11, "{number}");
             // Read alone, at the last point, by the unit and by the answer.
             lent.put("measures", 0, &honest);
             lent.put("measures", POINTS - 1, &[number]);
-            assert_eq!(lent.call("unit", &records[6].1), 11, "{number}");
+            assert_eq!(lent.call("unit", &records[6].1), REFUSED_11, "{number}");
             lent.put("measures", 0, &honest);
             for (kind, bytes) in &records[6..] {
-                assert_eq!(lent.call(kind, bytes), 0);
+                assert_eq!(lent.call(kind, bytes), Ok(()));
             }
             lent.put("measures", SERIES - 1, &[number]);
-            assert_eq!(lent.call("answer", &records[8].1), 11, "{number}");
+            assert_eq!(lent.call("answer", &records[8].1), REFUSED_11, "{number}");
             continue;
         };
-        assert_eq!(reply, 0, "{number}");
+        assert_eq!(reply, Ok(()), "{number}");
         // 7,500 away at each of 75 points.
         let row = [weight.max(0) * 7_500 * 75, weight.min(0) * 7_500 * 75];
         assert_eq!(lent.list("rows").numbers[..2], row, "{number}");
         assert_eq!(lent.list("sums").numbers[..POINTS], [7_500; POINTS], "{number}");
         for (kind, bytes) in &records[7..] {
-            assert_eq!(lent.call(kind, bytes), 0);
+            assert_eq!(lent.call(kind, bytes), Ok(()));
         }
-        assert_eq!(lent.call("answer", &records[8].1), 0, "{number}");
+        assert_eq!(lent.call("answer", &records[8].1), Ok(()), "{number}");
         assert_eq!(lent.list("reply").numbers[1], if raises { 7_500 } else { 0 }, "RCR of {number}");
     }
 }
@@ -270,11 +273,11 @@ fn a_stored_tally_over_the_next_books_lists() {
     for (interval, next_interval) in [(7, 8), (0, 1 << 31), (4_294_967_295, 0), (9, 9)] {
         let (first, next) = (book_of(1, 3, interval), book_of(2, 5, next_interval));
         let mut lent = lent_for(5);
-        lent.call("contents", &to_bytes(&first));
+        lent.call("contents", &to_bytes(&first)).unwrap();
         let mut calls = Vec::new();
         for (kind, bytes) in records_of(&first) {
             calls.push((words_of(&lent), kind, bytes.clone()));
-            assert_eq!(lent.call(kind, &bytes), 0);
+            assert_eq!(lent.call(kind, &bytes), Ok(()));
         }
         // While no unit is taken every sum has to be 0: the first unit's tally is told by the sums already.
         calls.remove(1 + REGIONS);
@@ -282,16 +285,16 @@ fn a_stored_tally_over_the_next_books_lists() {
         let requirement = calls.last().expect("a requirement").2.clone();
         calls.push((ended.clone(), "answer", requirement));
         calls.push((ended, "member", [2u32, 0, 31].map(u32::to_le_bytes).concat()));
-        lent.call("contents", &to_bytes(&next));
+        lent.call("contents", &to_bytes(&next)).unwrap();
         for (records, (next_kind, next_bytes)) in records_of(&next).into_iter().enumerate() {
             for (tally, kind, bytes) in &calls {
                 let reads = ["unit", "answer", "member"].contains(kind);
                 let told = reads && records >= 2 && interval != next_interval;
                 let reply = reply_with(&lent, tally, kind, bytes);
-                let expected = if told { 11 } else { 0 };
+                let expected = if told { REFUSED_11 } else { Ok(()) };
                 assert_eq!(reply, expected, "{kind} after {records} records of {next_interval}");
             }
-            assert_eq!(lent.call(next_kind, &next_bytes), 0);
+            assert_eq!(lent.call(next_kind, &next_bytes), Ok(()));
         }
     }
 }
@@ -301,20 +304,20 @@ fn a_stored_tally_over_the_next_books_lists() {
 fn a_stored_frequency_record_spoils_the_next_book() {
     let (first, next) = (book_of(1, 1, 7), book_of(2, 1, 8));
     let mut lent = lent_for(1);
-    lent.call("contents", &to_bytes(&first));
+    lent.call("contents", &to_bytes(&first)).unwrap();
     let stored = records_of(&first);
-    lent.call("settings", &stored[0].1);
+    lent.call("settings", &stored[0].1).unwrap();
     let tally = words_of(&lent);
-    lent.call("contents", &to_bytes(&next));
+    lent.call("contents", &to_bytes(&next)).unwrap();
     let records = records_of(&next);
     for (kind, bytes) in &records[..6] {
-        assert_eq!(lent.call(kind, bytes), 0);
+        assert_eq!(lent.call(kind, bytes), Ok(()));
     }
     let now = words_of(&lent);
-    assert_eq!(reply_with(&lent, &now, "unit", &records[6].1), 0);
+    assert_eq!(reply_with(&lent, &now, "unit", &records[6].1), Ok(()));
     lent.put("tally", 0, &tally);
-    assert_eq!(lent.call("frequency", &stored[1].1), 0);
-    assert_eq!(reply_with(&lent, &now, "unit", &records[6].1), 11);
+    assert_eq!(lent.call("frequency", &stored[1].1), Ok(()));
+    assert_eq!(reply_with(&lent, &now, "unit", &records[6].1), REFUSED_11);
 }
 
 type Met = BTreeMap<String, BTreeSet<u8>>;
@@ -443,7 +446,7 @@ fn every_limit_of_a_lent_number_is_tried_on_both_sides() {
         }
         assert_met(&met, "unit: a measure off, two bytes", 1);
         assert_met(&met, "unit: a measure off, three bytes", 11);
-        assert_met(&met, "unit: a measure off, no such region", 8);
+        assert_met(&met, "unit: a measure off, no such region", 81);
         assert_met(&met, "answer: a measure off, no bytes", 11);
     }
 }
@@ -498,8 +501,8 @@ fn a_refusal_changes_nothing_and_each_is_reached() {
     let expected = [
         ("contents", vec![0, 1, 2, 3, 5]),
         ("settings", vec![0, 1, 6, 11, 12]),
-        ("frequency", vec![0, 1, 7, 11, 12]),
-        ("unit", vec![0, 1, 8, 9, 11, 12]),
+        ("frequency", vec![0, 1, 71, 72, 73, 74, 11, 12]),
+        ("unit", vec![0, 1, 81, 82, 83, 84, 9, 11, 12]),
         ("requirement", vec![0, 1, 4, 10, 11, 12]),
         ("answer", vec![0, 1, 10, 11, 12]),
         ("member", vec![0, 11, 12]),
@@ -509,6 +512,90 @@ fn a_refusal_changes_nothing_and_each_is_reached() {
             assert!(reached.contains(&format!("{kind} {reply}")), "{kind} {reply} is never reached");
         }
     }
+}
+
+/// A call's kind and reply out of its line: number, place and t, of `answer` and `member` the number alone.
+fn kind_and_reply(answer: &str) -> (String, Refusal) {
+    let words: Vec<&str> = answer.split(' ').collect();
+    let number = |place: usize| words[place].parse::<usize>().expect("a number");
+    let of_a_book = !["answer", "member"].contains(&words[0]);
+    let (place, t) = if of_a_book { (number(2), number(3)) } else { (0, 0) };
+    assert_eq!(words[if of_a_book { 4 } else { 2 }], "tally", "{answer}");
+    (words[0].to_string(), Refusal { number: number(1) as u8, place, t })
+}
+
+fn replies(script: &str) -> BTreeSet<(String, Refusal)> {
+    let mut lent = Lent::default();
+    script
+        .lines()
+        .filter_map(|line| script_line(&mut lent, line))
+        .map(|answer| kind_and_reply(&answer))
+        .collect()
+}
+
+/// Each script has each fault of a frequency record and of a unit at five places, and each t twice.
+#[test]
+fn every_script_has_every_t_and_every_place() {
+    for seed in 0..10 {
+        let met = replies(&script(0, seed));
+        for (kind, number) in [("frequency", 74), ("unit", 84)] {
+            let of = |(of, reply): &&(String, Refusal)| of == kind && reply.number == number;
+            let ts: BTreeSet<usize> = met.iter().filter(of).map(|(_, reply)| reply.t).collect();
+            assert_eq!(ts, (1..=POINTS).collect(), "{kind}, seed {seed}");
+        }
+        for place in 1..=5 {
+            let has = |kind: &str, number: u8| {
+                met.iter().any(|(of, reply)| of == kind && reply.number == number && reply.place == place)
+            };
+            assert!(
+                has("frequency", 1) && has("frequency", 71) && has("frequency", 74),
+                "{place}, seed {seed}"
+            );
+            assert!(has("unit", 1) && has("unit", 81) && has("unit", 84), "{place}, seed {seed}");
+            assert!(has("unit", 9) || place == 1, "{place}, seed {seed}");
+        }
+    }
+}
+
+/// In random calls, too, every refusal of a field comes at places other than 1, and with many t; 11 has none.
+#[test]
+fn random_calls_are_refused_at_many_places() {
+    let limits = replies(&script(0, 2026)).len();
+    let met = replies(&script(10_000, 2026));
+    assert!(met.len() > limits + 120, "{limits} of {}", met.len());
+    let of = |kind: &str, number: u8| -> Vec<Refusal> {
+        let wanted = met.iter().filter(|(of, reply)| of == kind && reply.number == number);
+        wanted.map(|(_, reply)| *reply).collect()
+    };
+    for (kind, numbers) in [
+        ("frequency", vec![1, 71, 72, 73, 74, 12]),
+        ("unit", vec![1, 81, 82, 83, 84, 9, 12]),
+        ("requirement", vec![1, 10]),
+    ] {
+        for number in numbers {
+            for place in 2..=5 {
+                assert!(
+                    of(kind, number).iter().any(|reply| reply.place == place),
+                    "{kind} {number} at {place}"
+                );
+            }
+        }
+    }
+    assert!(of("unit", 84).iter().any(|reply| reply.place > 9));
+    assert!(of("requirement", 4).iter().any(|reply| reply.place > 1));
+    assert!(of("settings", 6).iter().chain(&of("settings", 1)).all(|reply| reply.place == 1));
+    let nowhere = |reply: &Refusal| reply.place == 0 && reply.t == 0;
+    assert!(met
+        .iter()
+        .filter(|(_, reply)| [0, 2, 3, 5, 11].contains(&reply.number))
+        .all(|(_, reply)| nowhere(reply)));
+    assert!(met.iter().filter(|(kind, _)| kind == "contents").all(|(_, reply)| nowhere(reply)));
+    assert!(met.iter().all(|(_, reply)| (reply.t > 0) == [74, 84].contains(&reply.number)));
+    // A tally of fewer than eight words says of no record that it is to come.
+    for kind in ["settings", "frequency", "unit", "requirement"] {
+        assert!(of(kind, 12).iter().any(nowhere), "{kind}");
+    }
+    assert!(of("settings", 12).iter().chain(&of("requirement", 12)).all(nowhere));
 }
 
 /// In random calls, too, units and answers meet measures of dropped points, of chains and of no chain.

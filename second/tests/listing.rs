@@ -31,10 +31,10 @@ fn the_same_book_with_interval_8() {
 
 #[test]
 fn a_refusal_is_printed_alone() {
-    assert_eq!(settle(b""), "refused 1\n");
+    assert_eq!(settle(b""), "refused 1 0 0\n");
     let mut bytes = to_bytes(&listing_book());
     bytes.push(0);
-    assert_eq!(settle(&bytes), "refused 4\n");
+    assert_eq!(settle(&bytes), "refused 4 1 0\n");
 }
 
 /// The bytes of the listing's table of contents, written out by hand from document 01.

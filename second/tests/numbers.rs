@@ -1,4 +1,4 @@
-//! The numbers that the program says no with: which there are, and that 13 is not among them.
+//! The numbers that the program says no with: which there are, and that 7, 8 and 13 are not among them.
 
 use std::collections::BTreeSet;
 use std::fs;
@@ -17,8 +17,8 @@ use second::week_books::trial;
 use second::week_script::write_script;
 use second::write::to_bytes;
 
-/// Without 13, which request R-10 took away and which is never given again.
-const NUMBERS: [u8; 14] = [1, 2, 3, 4, 5, 6, 7, 8, 9, 10, 11, 12, 14, 17];
+/// Without 13, which request R-10 took away, and 7 and 8, which request R-1 split: none of them is given again.
+const NUMBERS: [u8; 20] = [1, 2, 3, 4, 5, 6, 71, 72, 73, 74, 81, 82, 83, 84, 9, 10, 11, 12, 14, 17];
 
 /// The number of a line `refused N ...`.
 fn refused(answer: &str) -> Option<u8> {
@@ -115,19 +115,27 @@ fn calls_of<'a>(text: &'a str, name: &str) -> Vec<&'a str> {
     text.match_indices(&format!("{name}(")).map(within).collect()
 }
 
-/// A refusal is made where its number is written, or by a `require` with its number last (`Refusal(number)` is
-/// the inside of `require`, or takes a refusal apart): so these are all that can be given, met by a test or not.
+/// A refusal is made where its number is written, or by a `require` or `require_points` with its number last
+/// (`Refusal::of(number)` is their inside): so these are all that can be given, met by a test or not. The makers of
+/// trials say by `refused` what is expected, and make none.
 #[test]
 fn no_other_number_stands_in_the_sources() {
     let text = sources(&Path::new(env!("CARGO_MANIFEST_DIR")).join("src"));
     let mut written = BTreeSet::new();
-    for made in calls_of(&text, "Refusal").into_iter().filter(|made| !["pub u8", "number"].contains(made)) {
-        written.insert(made.parse().unwrap_or_else(|_| panic!("Refusal({made})")));
+    for made in calls_of(&text, "Refusal::of").into_iter().filter(|made| *made != "number") {
+        written.insert(made.parse().unwrap_or_else(|_| panic!("Refusal::of({made})")));
     }
-    for required in calls_of(&text, "require").into_iter().filter(|made| *made != "holds: bool, number: u8") {
-        let arguments = required.trim_end().trim_end_matches(',');
-        let number: Option<u8> = arguments.rsplit(',').next().and_then(|last| last.trim().parse().ok());
-        written.insert(number.unwrap_or_else(|| panic!("require({required})")));
+    for name in ["require", "require_points"] {
+        for required in calls_of(&text, name).into_iter().filter(|made| !made.ends_with("number: u8")) {
+            let arguments = required.trim_end().trim_end_matches(',');
+            let number: Option<u8> = arguments.rsplit(',').next().and_then(|last| last.trim().parse().ok());
+            written.insert(number.unwrap_or_else(|| panic!("{name}({required})")));
+        }
     }
+    // The refusal itself, its three ways to be made, and what a trial expects.
+    let literals = text.matches("Refusal {").count();
+    let known = ["struct Refusal {", "impl Refusal {", "for Refusal {", "-> Refusal {", "let Refusal {"];
+    let known: usize = known.iter().map(|form| text.matches(form).count()).sum();
+    assert_eq!(literals - known, 4, "a refusal is made elsewhere");
     assert_eq!(written, BTreeSet::from(NUMBERS));
 }

@@ -1,9 +1,11 @@
-//! Every refusal 1 to 10, and their order.
+//! Every refusal of a book, and their order.
 
 mod common;
 
-use common::{holds, refusal};
-use second::book::UNITS_AT;
+use std::collections::{BTreeMap, BTreeSet};
+
+use common::{at, holds, refused};
+use second::book::{Refusal, UNITS_AT};
 use second::chance::Chance;
 use second::damage::damage;
 use second::listing::settle;
@@ -19,16 +21,18 @@ fn whole() -> Vec<u8> {
 fn of_two_wrong_fields_the_earlier_is_named() {
     let trials = order_trials();
     holds(&trials);
-    for number in 2..=10 {
-        assert!(trials.iter().any(|trial| number == 4 || trial.refusal == Some(number)), "{number}");
-    }
+    let named: BTreeSet<u8> =
+        trials.iter().flat_map(|trial| trial.refusal).map(|refusal| refusal.number).collect();
+    assert_eq!(named, BTreeSet::from([2, 3, 5, 6, 71, 72, 73, 74, 81, 82, 83, 84, 9, 10]));
 }
 
 #[test]
 fn every_cut_is_refusal_1() {
     let bytes = whole();
     for length in 0..bytes.len() {
-        assert_eq!(refusal(&bytes[..length]), Some(1), "cut at {length}");
+        let refusal = refused(&bytes[..length]).expect("a refusal");
+        assert_eq!(refusal.number, 1, "cut at {length}");
+        assert_eq!(Some(refusal), cut_refusal(length), "cut at {length}");
     }
 }
 
@@ -39,37 +43,71 @@ fn cuts_at_borders_and_bytes_that_follow() {
 
 #[test]
 fn a_cut_and_a_wrong_field() {
-    holds(&cut_and_wrong_trials(true));
+    holds(&cut_and_wrong_trials());
 }
 
-/// Each of 8 and 9 in one unit record, the number first by its place.
+/// Each of 81 to 84 and 9 in one unit record, the number first by its place.
 #[test]
-fn every_8_precedes_9() {
+fn the_number_of_a_unit_is_tested_last() {
     let unit = UNITS_AT + 372;
-    for (at, width, value) in [(unit + 2, 1, 5), (unit + 70, 1, 1), (unit + 368, 4, 100_001)] {
+    let faults = [
+        (unit + 2, 1, 5, at(81, 2, 0)),
+        (unit + 12, 8, 1, at(82, 2, 0)),
+        (unit + 70, 1, 1, at(83, 2, 0)),
+        (unit + 368, 4, 100_001, at(84, 2, 75)),
+    ];
+    for (place, width, value, refusal) in faults {
         let mut bytes = whole();
         put(&mut bytes, unit, 2, 1);
-        assert_eq!(refusal(&bytes), Some(9));
-        put(&mut bytes, at, width, value);
-        assert_eq!(refusal(&bytes), Some(8));
+        assert_eq!(refused(&bytes), at(9, 2, 0));
+        put(&mut bytes, place, width, value);
+        assert_eq!(refused(&bytes), refusal);
     }
 }
 
-/// Damaged books reach every refusal from 1 to 10, and none beyond.
-#[test]
-fn damage_reaches_every_refusal() {
-    let mut seen = [0u32; 11];
-    let mut settled = 0;
-    for seed in 0..1_500 {
+const NUMBERS: [u8; 16] = [1, 2, 3, 4, 5, 6, 71, 72, 73, 74, 81, 82, 83, 84, 9, 10];
+
+/// What so many damaged books with few units are refused with.
+fn refusals_of_damage(seeds: u64) -> Vec<Option<Refusal>> {
+    let of = |seed: u64| {
         let (class, _) = CLASSES[seed as usize % CLASSES.len()];
         let bytes = to_bytes(&make(seed, class, Some(seed as usize % 8)).unwrap());
-        match refusal(&damage(seed, &bytes)) {
-            Some(number) => seen[usize::from(number)] += 1,
-            None => settled += 1,
-        }
-    }
-    assert!(seen[1..].iter().all(|&count| count >= 5), "{seen:?}");
+        refused(&damage(seed, &bytes))
+    };
+    (0..seeds).map(of).collect()
+}
+
+/// Damaged books reach every refusal that a book can meet, and none beyond.
+#[test]
+fn damage_reaches_every_refusal() {
+    let all = refusals_of_damage(1_500);
+    let mut seen: BTreeMap<u8, u32> = BTreeMap::new();
+    all.iter().flatten().for_each(|refusal| *seen.entry(refusal.number).or_default() += 1);
+    assert_eq!(seen.keys().copied().collect::<BTreeSet<u8>>(), BTreeSet::from(NUMBERS));
+    assert!(seen.values().all(|&count| count >= 5), "{seen:?}");
+    let settled = all.iter().filter(|refusal| refusal.is_none()).count();
     assert!(settled >= 100, "{settled} still valid");
+}
+
+/// At places other than 1 where a body has more than one record, and with every t.
+#[test]
+fn damage_reaches_every_t_and_many_places() {
+    let all: Vec<Refusal> = refusals_of_damage(8_000).into_iter().flatten().collect();
+    let of = |number: u8| all.iter().filter(move |refusal| refusal.number == number);
+    for number in [1, 4, 71, 72, 73, 74, 81, 82, 83, 84, 9, 10] {
+        let places: BTreeSet<usize> = of(number).map(|refusal| refusal.place).collect();
+        let first = if number == 9 { 2 } else { 1 };
+        assert!((first..=5).all(|place| places.contains(&place)), "{number}: {places:?}");
+    }
+    for number in [74, 84] {
+        let ts: BTreeSet<usize> = of(number).map(|refusal| refusal.t).collect();
+        assert_eq!(ts, (1..=75).collect(), "{number}");
+    }
+    for number in [2, 3, 5] {
+        assert!(of(number).all(|refusal| refusal.place == 0 && refusal.t == 0), "{number}");
+    }
+    assert!(of(6).all(|refusal| refusal.place == 1));
+    assert!(all.iter().all(|refusal| (refusal.t == 0) != [74, 84].contains(&refusal.number)));
 }
 
 /// Bytes that were never a book.

@@ -11,12 +11,12 @@ use second::share::{share, share_earlier_first};
 fn total_and_weight_limits() {
     let most = SHARE_WEIGHT_LIMIT;
     assert!(share(SHARE_TOTAL_LIMIT, &[1]).is_ok());
-    assert_eq!(share(SHARE_TOTAL_LIMIT + 1, &[1]), Err(Refusal(5)));
-    assert_eq!(share(SHARE_TOTAL_LIMIT + 1, &[0]), Err(Refusal(5)), "also without weight");
+    assert_eq!(share(SHARE_TOTAL_LIMIT + 1, &[1]), Err(Refusal::of(5)));
+    assert_eq!(share(SHARE_TOTAL_LIMIT + 1, &[0]), Err(Refusal::of(5)), "also without weight");
     assert!(share(1, &[most]).is_ok());
     assert!(share(1, &[most - 1, 1]).is_ok());
-    assert_eq!(share(1, &[most, 1]), Err(Refusal(5)));
-    assert_eq!(share(0, &[most + 1]), Err(Refusal(5)));
+    assert_eq!(share(1, &[most, 1]), Err(Refusal::of(5)));
+    assert_eq!(share(0, &[most + 1]), Err(Refusal::of(5)));
 }
 
 /// T·weight needs more than 64 bits: these figures were worked out by hand.

@@ -144,40 +144,43 @@ fn the_limit_of_w_on_each_side() {
             judge(&side(performances), &side(factors))
         };
         assert_eq!(at(&[LIMIT], &[FACTOR_ONE]), Ok(Possible));
-        assert_eq!(at(&[LIMIT + 1], &[FACTOR_ONE]), Err(Refusal(5)));
+        assert_eq!(at(&[LIMIT + 1], &[FACTOR_ONE]), Err(Refusal::of(5)));
         assert_eq!(at(&[LIMIT - 1, 1], &[FACTOR_ONE, 0]), Ok(Possible));
         assert_eq!(at(&[LIMIT - 1, 1], &[FACTOR_ONE - 1, 1]), Ok(Possible));
         assert_eq!(
             at(&[LIMIT - 1, 1], &[FACTOR_ONE - 1, 0]),
             Ok(WrongSide(if sign > 0 { Positive } else { Negative }))
         );
-        assert_eq!(at(&[LIMIT, 1], &[FACTOR_ONE, 0]), Err(Refusal(5)));
+        assert_eq!(at(&[LIMIT, 1], &[FACTOR_ONE, 0]), Err(Refusal::of(5)));
         assert_eq!(at(&[LIMIT, -LIMIT], &[FACTOR_ONE, -FACTOR_ONE]), Ok(Possible), "each side by itself");
-        assert_eq!(at(&[LIMIT, -LIMIT, -1], &[FACTOR_ONE, -FACTOR_ONE, 0]), Err(Refusal(5)));
-        assert_eq!(at(&[LIMIT + 1], &[7]), Err(Refusal(5)), "before any member");
+        assert_eq!(at(&[LIMIT, -LIMIT, -1], &[FACTOR_ONE, -FACTOR_ONE, 0]), Err(Refusal::of(5)));
+        assert_eq!(at(&[LIMIT + 1], &[7]), Err(Refusal::of(5)), "before any member");
         // In 64 bits these totals would come round to 0 and to 1.
-        assert_eq!(at(&[1 << 62; 4], &[FACTOR_ONE / 4; 4]), Err(Refusal(5)));
-        assert_eq!(at(&[1 << 62, 1 << 62, 1, 1 << 62, 1 << 62], &[0, 0, FACTOR_ONE, 0, 0]), Err(Refusal(5)));
+        assert_eq!(at(&[1 << 62; 4], &[FACTOR_ONE / 4; 4]), Err(Refusal::of(5)));
+        assert_eq!(
+            at(&[1 << 62, 1 << 62, 1, 1 << 62, 1 << 62], &[0, 0, FACTOR_ONE, 0, 0]),
+            Err(Refusal::of(5))
+        );
     }
-    assert_eq!(judge(&[i64::MIN.into()], &[-FACTOR_ONE]), Err(Refusal(5)));
-    assert_eq!(judge(&[i64::MAX.into()], &[FACTOR_ONE]), Err(Refusal(5)));
-    assert_eq!(judge(&[i64::MIN.into(), i64::MAX.into()], &[0, 0]), Err(Refusal(5)));
+    assert_eq!(judge(&[i64::MIN.into()], &[-FACTOR_ONE]), Err(Refusal::of(5)));
+    assert_eq!(judge(&[i64::MAX.into()], &[FACTOR_ONE]), Err(Refusal::of(5)));
+    assert_eq!(judge(&[i64::MIN.into(), i64::MAX.into()], &[0, 0]), Err(Refusal::of(5)));
 }
 
 #[test]
 fn lengths_and_the_order_of_refusals() {
     let zeros = |length: usize| vec![0; length];
     assert_eq!(judge(&zeros(513), &zeros(513)), Ok(Possible));
-    assert_eq!(judge(&zeros(514), &zeros(514)), Err(Refusal(5)));
-    assert_eq!(judge(&zeros(513), &zeros(514)), Err(Refusal(5)), "5 before 12");
-    assert_eq!(judge(&zeros(514), &zeros(513)), Err(Refusal(12)), "the sheet itself is not too long");
-    assert_eq!(judge(&zeros(0), &zeros(514)), Err(Refusal(5)));
-    assert_eq!(judge(&zeros(514), &zeros(0)), Err(Refusal(12)));
-    assert_eq!(judge(&[1], &[]), Err(Refusal(12)));
-    assert_eq!(judge(&[], &[0]), Err(Refusal(12)));
-    assert_eq!(judge(&[LIMIT + 1], &[]), Err(Refusal(12)), "12 before the limit of W");
-    assert_eq!(judge(&[LIMIT + 1], &[0, 0]), Err(Refusal(12)));
-    assert_eq!(judge(&[0, 1], &[1, FACTOR_ONE, 0]), Err(Refusal(12)), "before any member");
+    assert_eq!(judge(&zeros(514), &zeros(514)), Err(Refusal::of(5)));
+    assert_eq!(judge(&zeros(513), &zeros(514)), Err(Refusal::of(5)), "5 before 12");
+    assert_eq!(judge(&zeros(514), &zeros(513)), Err(Refusal::of(12)), "the sheet itself is not too long");
+    assert_eq!(judge(&zeros(0), &zeros(514)), Err(Refusal::of(5)));
+    assert_eq!(judge(&zeros(514), &zeros(0)), Err(Refusal::of(12)));
+    assert_eq!(judge(&[1], &[]), Err(Refusal::of(12)));
+    assert_eq!(judge(&[], &[0]), Err(Refusal::of(12)));
+    assert_eq!(judge(&[LIMIT + 1], &[]), Err(Refusal::of(12)), "12 before the limit of W");
+    assert_eq!(judge(&[LIMIT + 1], &[0, 0]), Err(Refusal::of(12)));
+    assert_eq!(judge(&[0, 1], &[1, FACTOR_ONE, 0]), Err(Refusal::of(12)), "before any member");
     assert_eq!(SHEET_LIMIT, 513);
 }
 
@@ -241,15 +244,15 @@ fn our_own_factors_are_possible_by_either_rule() {
 /// left; and as many members have one more as the whole parts leave over.
 fn by_whole_parts(performances: &[i128], factors: &[i128]) -> Result<Verdict, Refusal> {
     if factors.len() > 513 {
-        return Err(Refusal(5));
+        return Err(Refusal::of(5));
     }
     if performances.len() != factors.len() {
-        return Err(Refusal(12));
+        return Err(Refusal::of(12));
     }
     let total_of = |sign: i128| performances.iter().map(|&p| (sign * p).max(0)).sum::<i128>();
     let totals = BTreeMap::from([(1, total_of(1)), (-1, total_of(-1))]);
     if totals.values().any(|&total| total > 6_010_000_000_000_000_000) {
-        return Err(Refusal(5));
+        return Err(Refusal::of(5));
     }
     let mut left_over = BTreeMap::from([(1, 1_000_000_000), (-1, 1_000_000_000)]);
     let mut wrong = None;
@@ -425,6 +428,7 @@ fn outcome_of(printed: &str) -> String {
     match words[..] {
         ["wrong", "member", _, ..] => format!("wrong member {}", words.get(3).unwrap_or(&"")),
         ["no", "requirement", _] => "no requirement".to_string(),
+        ["refused", number, _, _] => format!("refused {number}"),
         _ => printed.to_string(),
     }
 }
@@ -440,7 +444,7 @@ fn the_script_has_every_answer() {
     let of = |answer: &str| answers[answer];
     assert!(of("possible\n") > count as usize / 3, "{answers:?}");
     for answer in
-        ["wrong member ", "wrong side positive\n", "wrong side negative\n", "refused 5\n", "refused 12\n"]
+        ["wrong member ", "wrong side positive\n", "wrong side negative\n", "refused 5", "refused 12"]
     {
         assert!(of(answer) > count as usize / 20, "{answer}: {answers:?}");
     }
@@ -488,14 +492,20 @@ fn books_reach_every_answer() {
         "wrong side negative\n",
         "no requirement",
         "text 1\n",
-        "refused 1\n",
-        "refused 4\n",
-        "refused 5\n",
-        "refused 7\n",
-        "refused 8\n",
-        "refused 9\n",
-        "refused 10\n",
-        "refused 12\n",
+        "refused 1",
+        "refused 4",
+        "refused 5",
+        "refused 71",
+        "refused 72",
+        "refused 73",
+        "refused 74",
+        "refused 81",
+        "refused 82",
+        "refused 83",
+        "refused 84",
+        "refused 9",
+        "refused 10",
+        "refused 12",
     ] {
         assert!(answers.get(answer).is_some_and(|&count| count >= 10), "{answer}: {answers:?}");
     }

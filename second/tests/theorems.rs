@@ -6,7 +6,7 @@ mod common;
 use std::fs;
 use std::path::{Path, PathBuf};
 
-use common::refusal;
+use common::refused;
 use second::book::{Book, Refusal, Requirement, Unit, CONTENTS_SIZE};
 use second::cents::{payment_pool, settle_book};
 use second::deviation::unit_deviations;
@@ -107,7 +107,8 @@ fn listings_are_those_of_the_second_program() {
 /// The worked books whose listing is a theorem: all but those on which `settle` alone is run, and the guide's table 15, of which the
 /// theorems say the performances.
 fn stated() -> Vec<&'static str> {
-    const RUN_ALONE: [&str; 4] = ["byte_behind", "number_not_rising", "table_15", "thirteen_units"];
+    const RUN_ALONE: [&str; 5] =
+        ["byte_behind", "number_not_rising", "readings_out_of_range", "table_15", "thirteen_units"];
     worked::all().iter().map(|worked| worked.name).filter(|name| !RUN_ALONE.contains(name)).collect()
 }
 
@@ -161,9 +162,15 @@ fn dropped_points_are_those_of_the_second_program() {
         if name == "b" {
             continue;
         }
-        let view = &region_views(&worked_book(&name.replace('-', "_")))[region.parse::<usize>().expect("a region")];
-        let dropped: Vec<i128> = (1..).zip(view.dropped).filter(|(_, dropped)| *dropped).map(|(t, _)| t).collect();
-        assert_eq!(list_at_the_end(&format!("≡ {}", list.split("[]").next().expect("a list"))), dropped, "{term}");
+        let view =
+            &region_views(&worked_book(&name.replace('-', "_")))[region.parse::<usize>().expect("a region")];
+        let dropped: Vec<i128> =
+            (1..).zip(view.dropped).filter(|(_, dropped)| *dropped).map(|(t, _)| t).collect();
+        assert_eq!(
+            list_at_the_end(&format!("≡ {}", list.split("[]").next().expect("a list"))),
+            dropped,
+            "{term}"
+        );
         seen += 1;
     }
     assert_eq!(seen, 4);
@@ -183,7 +190,11 @@ fn performances_of_table_15_are_those_of_the_second_program() {
             false => performance_over_all(direction, &view.measures, deviations),
         };
         let told: Vec<i128> = series.iter().map(told).collect();
-        assert_eq!(list_at_the_end(statement.split("unfolding").next().expect("a statement")), told, "{name}");
+        assert_eq!(
+            list_at_the_end(statement.split("unfolding").next().expect("a statement")),
+            told,
+            "{name}"
+        );
         seen += 1;
     }
     assert_eq!(seen, 4);
@@ -217,9 +228,43 @@ fn changed(size: usize, changes: &[Change]) -> Vec<u8> {
     bytes
 }
 
-/// The number of the refusal, 0 where the book is taken.
-fn number_of(bytes: &[u8]) -> i128 {
-    refusal(bytes).map_or(0, i128::from)
+/// Number, place and t of the refusal, all 0 where the book is taken.
+type Told = [i128; 3];
+
+fn told(bytes: &[u8]) -> Told {
+    refused(bytes)
+        .map_or([0; 3], |refusal| [i128::from(refusal.number), refusal.place as i128, refusal.t as i128])
+}
+
+/// The words `no 84 2 75`, perhaps in brackets, and the words behind them.
+fn no(all: &[String]) -> (Told, &[String]) {
+    match all {
+        [open, rest @ ..] if open == "(" => {
+            let (told, rest) = no(rest);
+            assert_eq!(rest[0], ")");
+            (told, &rest[1..])
+        }
+        [word, number_told, place, t, rest @ ..] if word == "no" => {
+            ([number(number_told), number(place), number(t)], rest)
+        }
+        _ => panic!("no refusal: {:?}", all.first()),
+    }
+}
+
+/// A list of refusals: `( no 71 4 0 ∷ [] )`, or `( map ( no 74 1 ) ( 1 ∷ 75 ∷ [] ) )`, which gives the t of each.
+fn refusals(all: &[String]) -> Vec<Told> {
+    if let [_, map, _, word, number_told, place, _, ts @ ..] = all {
+        if map == "map" && word == "no" {
+            return list(ts).0.into_iter().map(|t| [number(number_told), number(place), t]).collect();
+        }
+    }
+    let (mut told, mut rest) = (Vec::new(), &all[1..]);
+    while rest[0] != "[]" {
+        let (one, behind) = no(rest);
+        told.push(one);
+        rest = &behind[1..];
+    }
+    told
 }
 
 #[test]
@@ -228,24 +273,57 @@ fn tables_of_changes_are_refused_so() {
     for module in modules("refused") {
         for (name, statement) in declarations(&theorems("refused", &module)) {
             let all = words(&statement);
-            let [kind, _start, size, expected, list @ ..] = &all[..] else { continue };
-            let (size, expected) = match kind.as_str() {
-                "Alone" | "Together" => (number(size) as usize, number(expected)),
-                _ => continue,
-            };
-            let list = changes(list);
-            if kind == "Together" {
-                assert_eq!(number_of(&changed(size, &list)), expected, "{module} {name}");
-                together += 1;
+            let [kind, _start, size, rest @ ..] = &all[..] else { continue };
+            if !["Alone", "Each", "Together"].contains(&kind.as_str()) {
                 continue;
             }
-            for change in list {
-                assert_eq!(number_of(&changed(size, &[change])), expected, "{module} {name} {change:?}");
+            let size = number(size) as usize;
+            let (list, expected) = match kind.as_str() {
+                "Together" => {
+                    let (expected, list) = no(rest);
+                    assert_eq!(told(&changed(size, &changes(list))), expected, "{module} {name}");
+                    together += 1;
+                    continue;
+                }
+                "Alone" => {
+                    let (expected, list) = no(rest);
+                    let list = changes(list);
+                    let same = vec![expected; list.len()];
+                    (list, same)
+                }
+                _ => {
+                    let end = rest.iter().position(|word| word == "[]").expect("the end of the changes");
+                    (changes(rest), refusals(&rest[end + 2..]))
+                }
+            };
+            assert_eq!(list.len(), expected.len(), "{module} {name}");
+            for (change, expected) in list.into_iter().zip(expected) {
+                assert_eq!(told(&changed(size, &[change])), expected, "{module} {name} {change:?}");
                 alone += 1;
             }
         }
     }
-    assert!(alone > 150 && together > 8, "{alone} alone, {together} together");
+    assert!(alone > 160 && together > 22, "{alone} alone, {together} together");
+}
+
+#[test]
+fn books_that_end_early_or_late_are_refused_so() {
+    let text = theorems("refused", "Places");
+    let all: Vec<_> = declarations(&text);
+    let statement = |name: &str| words(&all.iter().find(|(found, _)| found == name).expect("a theorem").1);
+    let early = statement("ends-early");
+    let at = early.iter().position(|word| word == "base").expect("the book");
+    let (sizes, rest) = list(&early[at + 3..]);
+    let expected = refusals(&rest[1..]);
+    assert_eq!((sizes.len(), expected.len()), (7, 7));
+    for (size, expected) in sizes.into_iter().zip(expected) {
+        assert_eq!(told(&changed(size as usize, &[])), expected, "{size}");
+    }
+    let late = statement("bytes-follow");
+    let same = late.iter().position(|word| word == "≡").expect("what it is");
+    let mut bytes = kept("every_field", "book");
+    bytes.push(0);
+    assert_eq!(told(&bytes), no(&late[same + 1..]).0);
 }
 
 /// The table of contents of a book with so many units and requirements.
@@ -263,10 +341,10 @@ fn tables_of_contents_are_refused_so() {
     let all = words(&theorems("refused", "TableFields"));
     let mut seen = 0;
     for at in 0..all.len() {
-        if let [is, open, word, units, requirements, close, same, expected, ..] = &all[at..] {
+        if let [is, open, word, units, requirements, close, same, expected @ ..] = &all[at..] {
             if [is, open, word, close, same].map(String::as_str) == ["refusal", "(", "table", ")", "≡"] {
                 let bytes = table(number(units) as usize, number(requirements) as usize);
-                assert_eq!(number_of(&bytes), number(expected), "{units} {requirements}");
+                assert_eq!(told(&bytes), no(expected).0, "{units} {requirements}");
                 seen += 1;
             }
         }
@@ -287,14 +365,14 @@ fn shares_are_refused_so() {
         let weights: Vec<i128> =
             rest[..end].iter().filter(|word| *word != "∷").map(|word| number(word)).collect();
         let room = number(&rest[end + 2]) as usize;
-        let answer = if room < weights.len() { Err(Refusal(12)) } else { share(number(total), &weights) };
+        let answer = if room < weights.len() { Err(Refusal::of(12)) } else { share(number(total), &weights) };
         let same = rest.iter().position(|word| word == "≡").expect("what it is");
         match (&rest[same + 1], answer) {
             (word, Ok(shared)) if word == "taken" => {
                 assert_eq!(number(&rest[same + 2]), shared.unplaced, "{at}")
             }
             (word, Ok(_)) => assert_eq!(number(word), 0, "{at}"),
-            (word, Err(Refusal(refused))) => assert_eq!(number(word), i128::from(refused), "{at}"),
+            (word, Err(refused)) => assert_eq!(number(word), i128::from(refused.number), "{at}"),
         }
         seen += 1;
     }
@@ -369,7 +447,9 @@ fn third_numbers_are_refused_so() {
     let all = words(&theorems("refused", "ThirdNumbers"));
     let mut seen = 0;
     for at in 0..all.len() {
-        let [body, _count, _least, _, concat, _, map, _kind, rest @ ..] = &all[at..] else { continue };
+        let [body, _count, _place, _least, _, concat, _, map, _kind, rest @ ..] = &all[at..] else {
+            continue;
+        };
         if !body.ends_with("-body") || concat != "concat" || map != "map" {
             continue;
         }
@@ -383,7 +463,7 @@ fn third_numbers_are_refused_so() {
             book.requirements = numbers.map(|number| base_requirement(number, 1, Direction::Raise)).collect();
         }
         let same = rest.iter().position(|word| word == "≡").expect("what it is");
-        assert_eq!(number_of(&to_bytes(&book)), number(&rest[same + 1]), "{at}");
+        assert_eq!(told(&to_bytes(&book)), no(&rest[same + 1..]).0, "{at}");
         seen += 1;
     }
     assert_eq!(seen, 4);
@@ -420,10 +500,10 @@ fn refused_books_are_refused_so() {
     let all = words(text.split("pub record RefusedBooks").nth(1).expect("the record"));
     let mut seen = 0;
     for at in 0..all.len() {
-        if all[at..].len() > 3 && all[at] == "number-of" && all[at + 1] == "(" && all[at + 2] == "book" {
+        if all[at..].len() > 3 && all[at] == "told" && all[at + 1] == "(" && all[at + 2] == "book" {
             let (bytes, rest) = term(&all[at + 3..]);
             assert_eq!((rest[0].as_str(), rest[1].as_str()), (")", "≡"), "{}", all[at - 2]);
-            assert_eq!(number_of(&bytes), number(&rest[2]), "{}", all[at - 2]);
+            assert_eq!(told(&bytes), no(&rest[2..]).0, "{}", all[at - 2]);
             seen += 1;
         }
     }

@@ -4,7 +4,7 @@
 use std::collections::BTreeSet;
 use std::fs;
 
-use second::book::{read_book, Refusal};
+use second::book::{read_book, Refusal, UNITS_AT};
 use second::cents::settle_book;
 use second::chance::Chance;
 use second::doors::Doors;
@@ -57,8 +57,8 @@ fn the_nearest_of_the_average_over_the_live_ones() {
 fn totals_that_pass_64_bits() {
     let limit = RESIDUAL_PERFORMANCE_LIMIT;
     assert_eq!(limit, 2_880_000_000_000_000_000);
-    assert_eq!(week_of(Residual, &[-limit; INTERVALS_LIMIT]), Err(Refusal(14)));
-    assert_eq!(week_of(Group(2), &[-2 * PERFORMANCE_LIMIT; INTERVALS_LIMIT]), Err(Refusal(14)));
+    assert_eq!(week_of(Residual, &[-limit; INTERVALS_LIMIT]), Err(Refusal::of(14)));
+    assert_eq!(week_of(Group(2), &[-2 * PERFORMANCE_LIMIT; INTERVALS_LIMIT]), Err(Refusal::of(14)));
     assert_eq!(week_of(Unit, &[-PERFORMANCE_LIMIT; INTERVALS_LIMIT]), answer(2_016, UNIT_DEFAULT_LOWEST));
     assert_eq!(week_of(Residual, &[limit; INTERVALS_LIMIT]), answer(2_016, 0));
     // 35 at the limit among 2,016 are exactly the lowest default.
@@ -69,7 +69,7 @@ fn totals_that_pass_64_bits() {
     week[35] = -1_007;
     assert_eq!(week_of(Residual, &week), answer(2_016, RESIDUAL_DEFAULT_LOWEST));
     week[35] = -1_008;
-    assert_eq!(week_of(Residual, &week), Err(Refusal(14)), "judged on the rounded average");
+    assert_eq!(week_of(Residual, &week), Err(Refusal::of(14)), "judged on the rounded average");
 }
 
 #[test]
@@ -82,13 +82,13 @@ fn limits_of_a_live_performance() {
     ] {
         assert_eq!(week_of(whose, &[limit]), answer(1, 0));
         for beyond in [limit + 1, -limit - 1, i64::MIN.into(), i64::MAX.into()] {
-            assert_eq!(week_of(whose, &[beyond]), Err(Refusal(17)));
+            assert_eq!(week_of(whose, &[beyond]), Err(Refusal::of(17)));
         }
-        assert_eq!(week_of(whose, &[0; INTERVALS_LIMIT + 1]), Err(Refusal(17)));
-        assert_eq!(member_week(whose, &[None; INTERVALS_LIMIT + 1]), Err(Refusal(17)));
+        assert_eq!(week_of(whose, &[0; INTERVALS_LIMIT + 1]), Err(Refusal::of(17)));
+        assert_eq!(member_week(whose, &[None; INTERVALS_LIMIT + 1]), Err(Refusal::of(17)));
     }
     assert_eq!(week_of(Unit, &[-PERFORMANCE_LIMIT]), answer(1, UNIT_DEFAULT_LOWEST));
-    assert_eq!(week_of(Group(2), &[-PERFORMANCE_LIMIT - 1]), Err(Refusal(14)));
+    assert_eq!(week_of(Group(2), &[-PERFORMANCE_LIMIT - 1]), Err(Refusal::of(14)));
     assert_eq!(
         week_of(Group(2), &[-PERFORMANCE_LIMIT - 1, 1 - PERFORMANCE_LIMIT]),
         answer(2, UNIT_DEFAULT_LOWEST)
@@ -100,8 +100,8 @@ fn a_roster_tests_17_for_all_before_14_for_any() {
     let under = (Group(2), all_live(&[-2 * PERFORMANCE_LIMIT]));
     let beyond = (Unit, all_live(&[PERFORMANCE_LIMIT + 1]));
     let fine = (Residual, all_live(&[-1, -2]));
-    assert_eq!(roster_week(&[under.clone(), beyond]), Err(Refusal(17)));
-    assert_eq!(roster_week(&[fine.clone(), under]), Err(Refusal(14)));
+    assert_eq!(roster_week(&[under.clone(), beyond]), Err(Refusal::of(17)));
+    assert_eq!(roster_week(&[fine.clone(), under]), Err(Refusal::of(14)));
     assert_eq!(roster_week(&[fine.clone(), fine]), Ok(vec![answer(2, -2).unwrap(); 2]));
     assert_eq!(roster_week(&[]), Ok(vec![]));
 }
@@ -112,8 +112,8 @@ fn who_the_member_is() {
         [0, 1, 2, 512].map(Whose::from_number),
         [Ok(Residual), Ok(Unit), Ok(Group(2)), Ok(Group(512))]
     );
-    assert_eq!(Whose::from_number(513), Err(Refusal(5)));
-    assert_eq!(Whose::from_number(65_535), Err(Refusal(5)));
+    assert_eq!(Whose::from_number(513), Err(Refusal::of(5)));
+    assert_eq!(Whose::from_number(65_535), Err(Refusal::of(5)));
 }
 
 /// After any list of intervals the record reads what the list form gives; it is one that is left.
@@ -138,7 +138,10 @@ fn the_running_week_reads_what_the_list_gives() {
         assert_eq!(running.seen, length as i128);
         assert_eq!(running.read(number), member_week(whose, &week));
         let more = running.add(number, None).map(|week| week.seen);
-        assert_eq!(more, if length == INTERVALS_LIMIT { Err(Refusal(17)) } else { Ok(length as i128 + 1) });
+        assert_eq!(
+            more,
+            if length == INTERVALS_LIMIT { Err(Refusal::of(17)) } else { Ok(length as i128 + 1) }
+        );
     }
 }
 
@@ -164,10 +167,10 @@ fn records_that_a_run_leaves_and_none_leaves() {
         record(5, 1, 2, 0),
         record(5, 1, 0, last + 1),
     ] {
-        assert_eq!(wrong.read(1), Err(Refusal(11)), "{wrong:?}");
-        assert_eq!(wrong.add(513, None), Err(Refusal(11)), "{wrong:?}, 11 before 5");
+        assert_eq!(wrong.read(1), Err(Refusal::of(11)), "{wrong:?}");
+        assert_eq!(wrong.add(513, None), Err(Refusal::of(11)), "{wrong:?}, 11 before 5");
     }
-    assert_eq!(record(2_016, 0, 0, 0).add(513, None), Err(Refusal(5)), "5 before 17");
+    assert_eq!(record(2_016, 0, 0, 0).add(513, None), Err(Refusal::of(5)), "5 before 17");
 }
 
 #[test]
@@ -227,21 +230,32 @@ fn books_one_after_another() {
     let (printed, said) = replay(&book.repeat(INTERVALS_LIMIT));
     assert_eq!((printed, said.lines().count(), said.lines().last()), (lines(2_016), 20, Some("2000 books")));
     let longer = [book.repeat(INTERVALS_LIMIT), vec![0]].concat();
-    assert_eq!(replay(&longer).0, "refused 17 2017\n");
+    assert_eq!(replay(&longer).0, "refused 17 2017 0 0\n");
 }
 
 #[test]
 fn a_refused_book_ends_it() {
     let book = to_bytes(&listing_book());
     let refused = |bytes: &[u8]| replay(bytes).0;
-    assert_eq!(refused(&book[..55]), "refused 1 1\n");
-    assert_eq!(refused(&[&book[..], &book[..55]].concat()), "refused 1 2\n");
-    assert_eq!(refused(&[&book[..], &[0; 55]].concat()), "refused 1 2\n", "not 4, and 1 before 2");
-    assert_eq!(refused(&[&book[..], &[0; 56]].concat()), "refused 2 2\n");
-    assert_eq!(refused(&[&book[..], &book[..book.len() - 1]].concat()), "refused 1 2\n");
+    assert_eq!(refused(&book[..55]), "refused 1 1 0 0\n");
+    assert_eq!(refused(&[&book[..], &book[..55]].concat()), "refused 1 2 0 0\n");
+    assert_eq!(refused(&[&book[..], &[0; 55]].concat()), "refused 1 2 0 0\n", "not 4, and 1 before 2");
+    assert_eq!(refused(&[&book[..], &[0; 56]].concat()), "refused 2 2 0 0\n");
+    assert_eq!(refused(&[&book[..], &book[..book.len() - 1]].concat()), "refused 1 2 1 0\n");
+    assert_eq!(refused(&[&book[..], &book[..56]].concat()), "refused 1 2 1 0\n", "no byte of the settings");
+    assert_eq!(
+        refused(&[&book[..], &book[..UNITS_AT + 372]].concat()),
+        "refused 1 2 2 0\n",
+        "none of unit 2"
+    );
     let mut wrong = listing_book();
     wrong.units[0].region = 5;
-    assert_eq!(refused(&[&book[..], &to_bytes(&wrong), &book[..]].concat()), "refused 8 2\n");
+    assert_eq!(refused(&[&book[..], &to_bytes(&wrong), &book[..]].concat()), "refused 81 2 1 0\n");
+    let mut wrong = listing_book();
+    wrong.units[1].readings[74] = 100_001;
+    assert_eq!(refused(&[&book[..], &book, &to_bytes(&wrong), &book].concat()), "refused 84 3 2 75\n");
+    wrong.frequencies[4].frequencies[8] = 0;
+    assert_eq!(refused(&[&to_bytes(&wrong)[..], &book].concat()), "refused 74 1 5 9\n");
 }
 
 #[test]
@@ -254,12 +268,12 @@ fn different_numbers_of_a_week() {
     };
     let (first, same, more) = (to_bytes(&idle(0..512)), to_bytes(&idle(100..400)), to_bytes(&idle(512..513)));
     assert_eq!(replay(&[&first[..], &same].concat()).0.lines().count(), 517);
-    assert_eq!(replay(&[&first[..], &same, &more, &same].concat()).0, "refused 5 3\n");
+    assert_eq!(replay(&[&first[..], &same, &more, &same].concat()).0, "refused 5 3 0 0\n");
     let mut wrong = idle(512..513);
     wrong.requirements[0].price = PRICE_LIMIT + 1;
     let refused = replay(&[&first[..], &to_bytes(&wrong)].concat()).0;
-    assert_eq!(refused, "refused 10 2\n", "that book's own refusals come first");
-    assert_eq!(replay(&[&first[..], &more[..more.len() - 1]].concat()).0, "refused 1 2\n");
+    assert_eq!(refused, "refused 10 2 1 0\n", "that book's own refusals come first");
+    assert_eq!(replay(&[&first[..], &more[..more.len() - 1]].concat()).0, "refused 1 2 1 0\n");
 }
 
 #[test]
@@ -297,7 +311,7 @@ residual VIC1 raise 0 0 lower 1 0
 residual SA1 raise 0 0 lower 0 0
 residual TAS1 raise 0 0 lower 0 0
 ";
-    for (run, printed) in stored().iter().zip([lines, "refused 9 2\n"]) {
+    for (run, printed) in stored().iter().zip([lines, "refused 9 2 2 0\n"]) {
         assert_eq!(replay(&run.bytes).0, printed, "{}", run.name);
         let path = |ending: &str| format!("{}/stored/{}.{ending}", env!("CARGO_MANIFEST_DIR"), run.name);
         assert!(fs::read(path("stdin")).unwrap() == run.bytes, "{}", run.name);
@@ -347,7 +361,8 @@ fn weeks_of_books_reach_every_outcome() {
             reached.insert("limit".to_string());
         }
     }
-    let numbers = [1, 2, 3, 5, 6, 7, 8, 9, 10, 14, 17].map(|number| format!("refused {number}"));
+    let numbers = [1, 2, 3, 5, 6, 71, 72, 73, 74, 81, 82, 83, 84, 9, 10, 14, 17]
+        .map(|number| format!("refused {number}"));
     for outcome in numbers.iter().map(String::as_str).chain(["lines", "limit"]) {
         assert!(reached.contains(outcome), "{outcome}");
     }

@@ -1,5 +1,5 @@
 -- Opens every definition that a theorem by computing goes through: such a theorem says `unfolding computing` and is proved by `refl`.
-use Rattle.integers.specs.Sums.{sum, sumℕ, every, largest}
+use Rattle.integers.specs.Sums.{sum, sumℕ, every, first-wrong, largest}
 use Rattle.integers.specs.Totals.{total, totalℕ, those, numbered}
 use Rattle.rules.specs.Bytes.{little, listed}
 use Rattle.rules.specs.Contents.{contents}
@@ -23,7 +23,7 @@ use Rattle.rules.specs.Listing.{joined, answer-lines, listing, settle}
 use Rattle.books.specs.Writing.{bytes, concat, bits, regions-bytes, book-bytes}
 
 unfoldable pub computing : Unit {0}
-unfolding sum sumℕ every largest total totalℕ those numbered little listed contents settings region-in frequency-record unit-in unit-record requirement-in
+unfolding sum sumℕ every first-wrong largest total totalℕ those numbered little listed contents settings region-in frequency-record unit-in unit-record requirement-in
     requirement-record frequency-body unit-body requirement-body book measure-after dropped-at reliable reliable-in deviation good weight performance
     unit-performance residual-performance some-good-or-none unit-member residual-member members left-over gets-one amount unplaced share-reply
     weighed-measure response all-reliable rcr lines-of answered answer text digits words joined answer-lines listing settle bytes concat bits

@@ -101,10 +101,10 @@ requirement-again least last bs q e =
 
 -- in a body, z standing where there is no requirement
 read-in-body :
-    (n : ℕ) (bs : List ℕ) (qs : List Requirement) → requirement-body n 0 bs ≡ taken qs → (i : ℕ) (z : Requirement) → i < length qs →
+    (n : ℕ) (bs : List ℕ) (qs : List Requirement) → requirement-body n 1 0 bs ≡ taken qs → (i : ℕ) (z : Requirement) → i < length qs →
     requirement-record 0 false (drop (requirement-size * i) bs) ≡ taken (getD qs i z)
 read-in-body n bs qs e i z h =
-    let each = requirements-each n 0 bs qs e in
+    let each = requirements-each n 1 0 bs qs e in
     let here : i < n = omega (arith, ap length (each .0) ∙ listed-length 0 n record-of) in
     let value : getD qs i z ≡ record-of i = ap (λ (l : List Requirement). getD l i z) (each .0) ∙ listed-from-zero n record-of i z here in
     requirement-again _ _ _ _ (each .1 i here) ∙ ap taken (sym value)

@@ -157,7 +157,7 @@ module _ (bs : List ℕ) (b : Book) (e : book bs ≡ taken b) where
 
   roster-same : b .roster ≡ listed 0 many-units (unit (part-of bs))
   roster-same =
-      units-each many-units 0 (drop unit-start bs) (b .roster) (w .roster) .0
+      units-each many-units 1 0 (drop unit-start bs) (b .roster) (w .roster) .0
       ∙ listed-ext 0 many-units _ _ (λ j h. ap unit-in (sym (unit-place bs (before-units + j) j refl (omega arith))))
 
   pub book-records : b ≡ book-of many-units (part-of bs) (b .requirements)
@@ -173,5 +173,5 @@ module _ (bs : List ℕ) (b : Book) (e : book bs ≡ taken b) where
   pub requirements-many : length (b .requirements) ≡ counts-in bs .requirements
   requirements-many =
       let body = drop (requirement-start many-units) bs in
-      ap length (requirements-each (counts-in bs .requirements) 0 body (b .requirements) (w .requirements) .0)
+      ap length (requirements-each (counts-in bs .requirements) 1 0 body (b .requirements) (w .requirements) .0)
       ∙ listed-length 0 (counts-in bs .requirements) (λ i. requirement-in (drop (requirement-size * i) body))

@@ -13,8 +13,8 @@ use borrow.Author.Tests.{lt-ltb, le-ltb, eq-eqb, ne-eqb, eqb-true, eqb-false}
 use Rattle.integers.proofs.Sums.{none-below}
 use Rattle.rules.specs.Quantities.{regions}
 use Rattle.rules.specs.Bytes.{number-at, listed}
-use Rattle.rules.specs.declared.Refusal.{Refusal}
-use Rattle.rules.specs.Refusals.{Reply, taken, refused, _>>=_}
+use Rattle.rules.specs.declared.Located.{Located}
+use Rattle.rules.specs.Refusals.{Reply, LocatedReply, taken, refused, at, _>>=_}
 use Rattle.rules.specs.Book.{Region, Unit, Requirement, Book}
 use Rattle.rules.specs.Contents.{
   Counts,
@@ -33,7 +33,7 @@ use Rattle.rules.specs.FrequencyRecord.{region-in, frequency-record}
 use Rattle.rules.specs.UnitRecord.{unit-in, unit-record}
 use Rattle.rules.specs.RequirementRecord.{requirement-in, requirement-record}
 use Rattle.rules.specs.WholeBook.{frequency-body, unit-body, requirement-body, book}
-use Rattle.laws.proofs.LimitsLaws.{took, went-on}
+use Rattle.laws.proofs.LimitsLaws.{there, took, went-on}
 use Rattle.interval.specs.Tally.{before-units}
 use Rattle.chain.proofs.ChainLaws.{or-true, listed-shift}
 use Rattle.chain.specs.Taken.{counts-in}
@@ -109,13 +109,13 @@ module _ (bs : List ℕ) where
   part-bytes bytes m i = rw (getD-drop (record-start (counts-in bs .units) m) bs i 0) (bytes _)
 
 module _ {A : Type 0} where
-  body-same : (n : ℕ) (f g : ℕ → Reply A) → ((i : ℕ) → f i ≡ g i) → body n f ≡ body n g
+  body-same : (n : ℕ) (f g : ℕ → LocatedReply A) → ((i : ℕ) → f i ≡ g i) → body n f ≡ body n g
   unfolding body
   body-same zero f g h = refl
   body-same (suc n) f g h = ap₂ joined (h 0) (body-same n _ _ (λ i. h (suc i)))
 
   -- a body that was taken; v is what a record is where it is taken
-  body-each : (v : ℕ → A) (n : ℕ) (f : ℕ → Reply A) (xs : List A) → ((i : ℕ) (a : A) → f i ≡ taken a → v i ≡ a) → body n f ≡ taken xs →
+  body-each : (v : ℕ → A) (n : ℕ) (f : ℕ → LocatedReply A) (xs : List A) → ((i : ℕ) (a : A) → f i ≡ taken a → v i ≡ a) → body n f ≡ taken xs →
       (xs ≡ listed 0 n v) × ((i : ℕ) → i < n → f i ≡ taken (v i))
   unfolding body listed
   body-each v zero f xs is e = (sym (took e), λ i h. none-below i h)
@@ -125,15 +125,15 @@ module _ {A : Type 0} where
       let later = body-each (λ i. v (suc i)) n (λ i. f (suc i)) (rest .0) (λ i. is (suc i)) (rest .1) in
       let here = is 0 (first .0) (first .1) in (
         sym (took (rest .2)) ∙ ap₂ (λ (y : A) (ys : List A). y ∷ ys) (sym here) (later .0 ∙ sym (listed-shift 0 n v)),
-        at (first .1 ∙ ap taken (sym here)) (later .1),
+        each (first .1 ∙ ap taken (sym here)) (later .1),
       )
     where
-      at : f 0 ≡ taken (v 0) → ((i : ℕ) → i < n → f (suc i) ≡ taken (v (suc i))) → (i : ℕ) → i < suc n → f i ≡ taken (v i)
-      at now later zero h = now
-      at now later (suc i) h = later i (omega arith)
+      each : f 0 ≡ taken (v 0) → ((i : ℕ) → i < n → f (suc i) ≡ taken (v (suc i))) → (i : ℕ) → i < suc n → f i ≡ taken (v i)
+      each now later zero h = now
+      each now later (suc i) h = later i (omega arith)
 
   -- a body whose records are taken is taken
-  pub body-all : (v : ℕ → A) (n : ℕ) (f : ℕ → Reply A) → ((i : ℕ) → i < n → f i ≡ taken (v i)) → body n f ≡ taken (listed 0 n v)
+  pub body-all : (v : ℕ → A) (n : ℕ) (f : ℕ → LocatedReply A) → ((i : ℕ) → i < n → f i ≡ taken (v i)) → body n f ≡ taken (listed 0 n v)
   unfolding body listed
   body-all v zero f h = refl
   body-all v (suc n) f h =
@@ -141,30 +141,32 @@ module _ {A : Type 0} where
       ∙ ap (λ (xs : List A). taken (v 0 ∷ xs)) (sym (listed-shift 0 n v))
 
   -- a body is refused as the first record in it that is
-  pub body-stops : (v : ℕ → A) (n k : ℕ) (f : ℕ → Reply A) (why : Refusal) → k < n → ((i : ℕ) → i < k → f i ≡ taken (v i)) → f k ≡ refused why →
+  pub body-stops : (v : ℕ → A) (n k : ℕ) (f : ℕ → LocatedReply A) (why : Located) → k < n → ((i : ℕ) → i < k → f i ≡ taken (v i)) → f k ≡ refused why →
       body n f ≡ refused why
   unfolding body
   body-stops v zero k f why l h e = none-below k l
-  body-stops v (suc n) zero f why l h e = ap (λ (x : Reply A). joined x (body n (λ i. f (suc i)))) e
+  body-stops v (suc n) zero f why l h e = ap (λ (x : LocatedReply A). joined x (body n (λ i. f (suc i)))) e
   body-stops v (suc n) (suc k) f why l h e =
       ap₂ joined (h 0 (omega arith)) (body-stops (λ i. v (suc i)) n k (λ i. f (suc i)) why (omega arith) (λ i m. h (suc i) (omega arith)) e)
 
 -- ---- the three bodies are such
+next : (k i : ℕ) → suc k + i ≡ k + suc i
+next k i = omega arith
+
 drop-step : (size i : ℕ) (bs : List ℕ) → drop (size * i) (drop size bs) ≡ drop (size * suc i) bs
 drop-step size i bs = drop-drop (size * i) size bs ∙ ap (λ (k : ℕ). drop k bs) (more size i)
   where
     more : (size i : ℕ) → size + size * i ≡ size * suc i
     more size i = omega arith
 
-pub frequency-body-is : (n r : ℕ) (bs : List ℕ) → frequency-body n r bs ≡ body n (λ i. frequency-record (r + i) (drop (frequency-size * i) bs))
+pub frequency-body-is : (n r : ℕ) (bs : List ℕ) → frequency-body n r bs ≡
+    body n (λ i. at (suc (r + i)) (frequency-record (r + i) (drop (frequency-size * i) bs)))
 unfolding frequency-body body
 frequency-body-is zero r bs = refl
 frequency-body-is (suc n) r bs =
-    ap₂ joined (ap (λ (k : ℕ). frequency-record k bs) (sym (add-zero r)))
-    (frequency-body-is n (suc r) (drop frequency-size bs) ∙ body-same n _ _ (λ i. ap₂ frequency-record (next r i) (drop-step frequency-size i bs)))
-  where
-    next : (r i : ℕ) → suc r + i ≡ r + suc i
-    next r i = omega arith
+    ap₂ joined (ap (λ (k : ℕ). at (suc k) (frequency-record k bs)) (sym (add-zero r)))
+    (frequency-body-is n (suc r) (drop frequency-size bs)
+    ∙ body-same n _ _ (λ i. ap₂ (λ (k : ℕ) (b : List ℕ). at (suc k) (frequency-record k b)) (next r i) (drop-step frequency-size i bs)))
 
 least-step : (size least : ℕ) (bs : List ℕ) (number : ℕ) → number ≡ number-at 2 0 bs → (i : ℕ) →
     least-from size (suc number) (drop size bs) i ≡ least-from size least bs (suc i)
@@ -175,43 +177,50 @@ least-step size least bs number e zero = ap suc e ∙ ap (λ (k : ℕ). suc (num
     none size = omega arith
 least-step size least bs number e (suc i) = ap (λ (b : List ℕ). suc (number-at 2 0 b)) (drop-step size i bs)
 
-pub unit-body-is : (n least : ℕ) (bs : List ℕ) → unit-body n least bs ≡ body n (λ i. unit-record (least-from unit-size least bs i) (drop (unit-size * i) bs))
+pub unit-body-is : (n place least : ℕ) (bs : List ℕ) → unit-body n place least bs ≡
+    body n (λ i. at (place + i) (unit-record (least-from unit-size least bs i) (drop (unit-size * i) bs)))
 unfolding unit-body body least-from
-unit-body-is zero least bs = refl
-unit-body-is (suc n) least bs = go (λ number. unit-body-is n (suc number) (drop unit-size bs)) (unit-record least bs) refl
+unit-body-is zero place least bs = refl
+unit-body-is (suc n) place least bs =
+    go (λ number. unit-body-is n (suc place) (suc number) (drop unit-size bs)) (unit-record least bs) refl
+    ∙ ap (λ (k : ℕ). joined (at k (unit-record least bs)) others) (sym (add-zero place))
   where
-    others : Reply (List Unit)
-    others = body n (λ i. unit-record (least-from unit-size least bs (suc i)) (drop (unit-size * suc i) bs))
+    others : LocatedReply (List Unit)
+    others = body n (λ i. at (place + suc i) (unit-record (least-from unit-size least bs (suc i)) (drop (unit-size * suc i) bs)))
 
-    go : ((number : ℕ) → unit-body n (suc number) (drop unit-size bs) ≡ body n
-        (λ i. unit-record (least-from unit-size (suc number) (drop unit-size bs) i) (drop (unit-size * i) (drop unit-size bs)))) → (x : Reply Unit) →
-        unit-record least bs ≡ x → (x >>= (λ u. joined (taken u) (unit-body n (suc (u .number)) (drop unit-size bs)))) ≡ joined x others
+    go : ((number : ℕ) → unit-body n (suc place) (suc number) (drop unit-size bs) ≡ body n
+        (λ i. at (suc place + i) (unit-record (least-from unit-size (suc number) (drop unit-size bs) i) (drop (unit-size * i) (drop unit-size bs))))) →
+        (x : Reply Unit) → unit-record least bs ≡ x →
+        (at place x >>= (λ u. joined (taken u) (unit-body n (suc place) (suc (u .number)) (drop unit-size bs)))) ≡ joined (at place x) others
     go rest (refused why) e = refl
     go rest (taken u) e =
         let number : u .number ≡ number-at 2 0 bs = ap (λ (u : Unit). u .number) (sym (unit-is least bs u e)) ∙ unit-number bs in
-        ap (joined (taken u)) (rest (u .number) ∙ body-same n _ _ (λ i. ap₂ unit-record (least-step unit-size least bs (u .number) number i)
-        (drop-step unit-size i bs)))
+        ap (joined (taken u)) (rest (u .number) ∙ body-same n _ _ (λ i. ap₂ (λ (k : ℕ) (x : Reply Unit). at k x) (next place i)
+        (ap₂ unit-record (least-step unit-size least bs (u .number) number i) (drop-step unit-size i bs))))
 
-pub requirement-body-is : (n least : ℕ) (bs : List ℕ) → requirement-body n least bs ≡
-    body n (λ i. requirement-record (least-from requirement-size least bs i) (eqb (n - suc i) 0) (drop (requirement-size * i) bs))
+pub requirement-body-is : (n place least : ℕ) (bs : List ℕ) → requirement-body n place least bs ≡
+    body n (λ i. at (place + i) (requirement-record (least-from requirement-size least bs i) (eqb (n - suc i) 0) (drop (requirement-size * i) bs)))
 unfolding requirement-body body least-from
-requirement-body-is zero least bs = refl
-requirement-body-is (suc n) least bs =
+requirement-body-is zero place least bs = refl
+requirement-body-is (suc n) place least bs =
     let less : n ≡ suc n - 1 = omega arith in
-    go (λ number. requirement-body-is n (suc number) (drop requirement-size bs)) (requirement-record least (eqb n 0) bs) refl
-    ∙ ap (λ (k : ℕ). joined (requirement-record least (eqb k 0) bs) others) less
+    go (λ number. requirement-body-is n (suc place) (suc number) (drop requirement-size bs)) (requirement-record least (eqb n 0) bs) refl
+    ∙ ap₂ (λ (k p : ℕ). joined (at p (requirement-record least (eqb k 0) bs)) others) less (sym (add-zero place))
   where
-    others : Reply (List Requirement)
-    others = body n (λ i. requirement-record (least-from requirement-size least bs (suc i)) (eqb (suc n - suc (suc i)) 0) (drop (requirement-size * suc i) bs))
+    others : LocatedReply (List Requirement)
+    others =
+        body n (λ i. at (place + suc i) (requirement-record (least-from requirement-size least bs (suc i)) (eqb (suc n - suc (suc i)) 0)
+        (drop (requirement-size * suc i) bs)))
 
-    go : ((number : ℕ) → requirement-body n (suc number) (drop requirement-size bs) ≡
-        body n (λ i. requirement-record (least-from requirement-size (suc number) (drop requirement-size bs) i) (eqb (n - suc i) 0)
-        (drop (requirement-size * i) (drop requirement-size bs)))) → (x : Reply Requirement) → requirement-record least (eqb n 0) bs ≡ x →
-        (x >>= (λ q. joined (taken q) (requirement-body n (suc (q .number)) (drop requirement-size bs)))) ≡ joined x others
+    go : ((number : ℕ) → requirement-body n (suc place) (suc number) (drop requirement-size bs) ≡
+        body n (λ i. at (suc place + i) (requirement-record (least-from requirement-size (suc number) (drop requirement-size bs) i) (eqb (n - suc i) 0)
+        (drop (requirement-size * i) (drop requirement-size bs))))) → (x : Reply Requirement) → requirement-record least (eqb n 0) bs ≡ x →
+        (at place x >>= (λ q. joined (taken q) (requirement-body n (suc place) (suc (q .number)) (drop requirement-size bs)))) ≡ joined (at place x) others
     go rest (refused why) e = refl
     go rest (taken q) e =
         let number : q .number ≡ number-at 2 0 bs = ap (λ (q : Requirement). q .number) (sym (requirement-is least (eqb n 0) bs q e)) ∙ requirement-number bs in
-        ap (joined (taken q)) (rest (q .number) ∙ body-same n _ _ (λ i. later (q .number) number i))
+        ap (joined (taken q)) (rest (q .number)
+        ∙ body-same n _ _ (λ i. ap₂ (λ (k : ℕ) (x : Reply Requirement). at k x) (next place i) (later (q .number) number i)))
       where
         later : (number : ℕ) → number ≡ number-at 2 0 bs → (i : ℕ) → requirement-record (least-from requirement-size (suc number) (drop requirement-size bs) i)
             (eqb (n - suc i) 0) (drop (requirement-size * i) (drop requirement-size bs)) ≡ requirement-record (least-from requirement-size least bs (suc i))
@@ -224,42 +233,48 @@ requirement-body-is (suc n) least bs =
 pub frequencies-each : (n r : ℕ) (bs : List ℕ) (rs : List Region) → frequency-body n r bs ≡ taken rs →
     (rs ≡ listed 0 n (λ i. region-in (drop (frequency-size * i) bs))) × ((i : ℕ) → i < n →
     frequency-record (r + i) (drop (frequency-size * i) bs) ≡ taken (region-in (drop (frequency-size * i) bs)))
-frequencies-each n r bs rs e = body-each (λ i. region-in (drop (frequency-size * i) bs)) n _ rs (λ i. region-is (r + i) (drop (frequency-size * i) bs))
-    (sym (frequency-body-is n r bs) ∙ e)
+frequencies-each n r bs rs e =
+    let each = body-each (λ i. region-in (drop (frequency-size * i) bs)) n _ rs
+    (λ i a f. region-is (r + i) (drop (frequency-size * i) bs) a (there (suc (r + i)) _ a f)) (sym (frequency-body-is n r bs) ∙ e) in
+    (each .0, λ i h. there (suc (r + i)) _ _ (each .1 i h))
 
-pub units-each : (n least : ℕ) (bs : List ℕ) (us : List Unit) → unit-body n least bs ≡ taken us →
+pub units-each : (n place least : ℕ) (bs : List ℕ) (us : List Unit) → unit-body n place least bs ≡ taken us →
     (us ≡ listed 0 n (λ i. unit-in (drop (unit-size * i) bs))) × ((i : ℕ) → i < n →
     unit-record (least-from unit-size least bs i) (drop (unit-size * i) bs) ≡ taken (unit-in (drop (unit-size * i) bs)))
-units-each n least bs us e = body-each (λ i. unit-in (drop (unit-size * i) bs)) n _ us
-    (λ i. unit-is (least-from unit-size least bs i) (drop (unit-size * i) bs)) (sym (unit-body-is n least bs) ∙ e)
+units-each n place least bs us e =
+    let each = body-each (λ i. unit-in (drop (unit-size * i) bs)) n _ us
+    (λ i a f. unit-is (least-from unit-size least bs i) (drop (unit-size * i) bs) a (there (place + i) _ a f)) (sym (unit-body-is n place least bs) ∙ e) in
+    (each .0, λ i h. there (place + i) _ _ (each .1 i h))
 
-pub requirements-each : (n least : ℕ) (bs : List ℕ) (qs : List Requirement) → requirement-body n least bs ≡ taken qs →
+pub requirements-each : (n place least : ℕ) (bs : List ℕ) (qs : List Requirement) → requirement-body n place least bs ≡ taken qs →
     (qs ≡ listed 0 n (λ i. requirement-in (drop (requirement-size * i) bs))) ×
     ((i : ℕ) → i < n → requirement-record (least-from requirement-size least bs i) (eqb (n - suc i) 0) (drop (requirement-size * i) bs) ≡
     taken (requirement-in (drop (requirement-size * i) bs)))
-requirements-each n least bs qs e =
-    body-each (λ i. requirement-in (drop (requirement-size * i) bs)) n _ qs
-    (λ i. requirement-is (least-from requirement-size least bs i) (eqb (n - suc i) 0) (drop (requirement-size * i) bs))
-    (sym (requirement-body-is n least bs) ∙ e)
+requirements-each n place least bs qs e =
+    let each = body-each (λ i. requirement-in (drop (requirement-size * i) bs)) n _ qs
+    (λ i a f. requirement-is (least-from requirement-size least bs i) (eqb (n - suc i) 0) (drop (requirement-size * i) bs) a (there (place + i) _ a f))
+    (sym (requirement-body-is n place least bs) ∙ e) in
+    (each .0, λ i h. there (place + i) _ _ (each .1 i h))
 
 pub book-read : (bs : List ℕ) (b : Book) → book bs ≡ taken b → Read bs b
 unfolding book
 book-read bs b e =
-    let counts = went-on (contents bs) _ b e in
-    let s = went-on (settings (drop contents-size bs)) _ b (counts .2) in
+    let counts = went-on (at 0 (contents bs)) _ b e in
+    let s = went-on (at 1 (settings (drop contents-size bs))) _ b (counts .2) in
     let rs = went-on (frequency-body regions 0 (drop frequency-start bs)) _ b (s .2) in
-    let us = went-on (unit-body (counts .0 .units) 0 (drop unit-start bs)) _ b (rs .2) in
-    let qs = went-on (requirement-body (counts .0 .requirements) 0 (drop (requirement-start (counts .0 .units)) bs)) _ b (us .2) in
-    let is = contents-is bs (counts .0) (counts .1) .0 in
+    let us = went-on (unit-body (counts .0 .units) 1 0 (drop unit-start bs)) _ b (rs .2) in
+    let qs = went-on (requirement-body (counts .0 .requirements) 1 0 (drop (requirement-start (counts .0 .units)) bs)) _ b (us .2) in
+    let table = there 0 _ (counts .0) (counts .1) in
+    let is = contents-is bs (counts .0) table .0 in
     let units : counts-in bs .units ≡ counts .0 .units = ap (λ (c : Counts). c .units) is in
     let requirements : counts-in bs .requirements ≡ counts .0 .requirements = ap (λ (c : Counts). c .requirements) is in
     subst (Read bs) (took (qs .2))
     (record {
-      table = counts .1 ∙ ap taken (sym is);
-      settings = s .1;
+      table = table ∙ ap taken (sym is);
+      settings = there 1 _ (s .0) (s .1);
       regions = rs .1;
-      roster = ap (λ (k : ℕ). unit-body k 0 (drop unit-start bs)) units ∙ us .1;
-      requirements = ap₂ (λ (k u : ℕ). requirement-body k 0 (drop (requirement-start u) bs)) requirements units ∙ qs .1;
+      roster = ap (λ (k : ℕ). unit-body k 1 0 (drop unit-start bs)) units ∙ us .1;
+      requirements = ap₂ (λ (k u : ℕ). requirement-body k 1 0 (drop (requirement-start u) bs)) requirements units ∙ qs .1;
     })
 
 same-test : (a b c d : ℕ) → (a ≡ b → c ≡ d) → (c ≡ d → a ≡ b) → eqb a b ≡ eqb c d

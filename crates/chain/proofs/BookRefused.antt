@@ -1,15 +1,16 @@
 -- THE BOOK TAKEN OR REFUSED: where the format takes a book, the calls take every record of it, whatever was refused in between. Where it refuses the book,
--- they meet that refusal and no other: the table of contents is refused with its number, or all records before some record are taken and this one is refused.
-use mathlib.Core.Path.{_≡_, refl, sym, _∙_, ap, subst}
+-- they meet that refusal and no other, number, place and t: the table of contents is refused with its number, or all records before some record are taken and this one is refused.
+use mathlib.Core.Path.{_≡_, refl, sym, _∙_, ap, ap₂, subst}
 use mathlib.Core.List.{List}
 use Prim.Native.Nat.{ℕ, suc, _+_, _*_, _-_, _≤_, _<_}
 use native.Mathlib.Omega.{arith}
 use lib.Dec.{eqb}
 use lib.ListN.{getD, drop}
 use Rattle.rules.specs.declared.Refusal.{Refusal}
+use Rattle.rules.specs.declared.Located.{Located}
 use Rattle.rules.specs.Quantities.{regions}
 use Rattle.rules.specs.Bytes.{listed}
-use Rattle.rules.specs.Refusals.{Reply, taken, refused, _>>=_}
+use Rattle.rules.specs.Refusals.{ReplyOf, Reply, LocatedReply, taken, refused, located, at, _>>=_}
 use Rattle.rules.specs.Book.{Settings, Region, Unit, Requirement, Book}
 use Rattle.rules.specs.Contents.{Counts, contents, contents-size, frequency-start, frequency-size, unit-start, unit-size, requirement-start, requirement-size}
 use Rattle.rules.specs.SettingsRecord.{settings, settings-in}
@@ -19,7 +20,8 @@ use Rattle.rules.specs.RequirementRecord.{requirement-in, requirement-record}
 use Rattle.rules.specs.WholeBook.{frequency-body, unit-body, requirement-body, book}
 use Rattle.interval.specs.declared.Tally.{Tally}
 use Rattle.interval.specs.declared.Opened as o
-use Rattle.interval.specs.Tally.{before-units}
+use Rattle.interval.specs.Tally.{before-units, record-place, next-place}
+use Rattle.interval.proofs.TallyLaws.{settings-placed, frequency-placed, unit-placed, requirement-placed}
 use Rattle.interval.specs.declared.Step.{Step}
 use Rattle.interval.specs.Lent.{Lent}
 use Rattle.interval.specs.Calls.{opened, settled, counted, unit-counted, settings-reply, frequency-reply, unit-reply, requirement-reply}
@@ -52,7 +54,7 @@ use Rattle.chain.specs.BookWay.{records-in, Hands, Takes, Meets, at-cont
 use Rattle.chain.proofs.BookWay.{hands-counts, hands-chain, hands-call, way-takes, walk}
 
 -- ---- a book by its bodies
-abbrev assembled : Reply Settings → Reply (List Region) → Reply (List Unit) → Reply (List Requirement) → Reply Book
+abbrev assembled : LocatedReply Settings → LocatedReply (List Region) → LocatedReply (List Unit) → LocatedReply (List Requirement) → LocatedReply Book
 assembled settings-body regions-body roster-body requirements-body = do
   s ← settings-body
   rs ← regions-body
@@ -76,8 +78,8 @@ module _ (bs : List ℕ) where
   book-is :
       contents bs ≡ taken (counts-in bs) →
       book bs ≡
-      assembled (settings settings-bytes) (frequency-body regions 0 (drop frequency-start bs)) (unit-body (counts-in bs .units) 0 (drop unit-start bs))
-      (requirement-body (counts-in bs .requirements) 0 (drop (requirement-start (counts-in bs .units)) bs))
+      assembled (at 1 (settings settings-bytes)) (frequency-body regions 0 (drop frequency-start bs))
+      (unit-body (counts-in bs .units) 1 0 (drop unit-start bs)) (requirement-body (counts-in bs .requirements) 1 0 (drop (requirement-start (counts-in bs .units)) bs))
   unfolding book
   book-is table = rw table
 
@@ -124,12 +126,15 @@ module _ (bs : List ℕ) (l₀ : Lent) {n : ℕ} {t : Tally} {l : Lent} (d : Cha
 
   frequencies-there : before-units ≤ n → frequency-body regions 0 (drop frequency-start bs) ≡ taken (book-in bs .regions)
   unfolding book-in
-  frequencies-there m = frequency-body-is regions 0 _ ∙ body-all (λ i. region-in (frequency-bytes bs i)) regions _ (λ i h. frequency-there i (omega arith) h)
+  frequencies-there m =
+      frequency-body-is regions 0 _
+      ∙ body-all (λ i. region-in (frequency-bytes bs i)) regions _ (λ i h. ap (at (suc (0 + i))) (frequency-there i (omega arith) h))
 
-  units-there : before-units + counts-in bs .units ≤ n → unit-body (counts-in bs .units) 0 (drop unit-start bs) ≡ taken (book-in bs .roster)
+  units-there : before-units + counts-in bs .units ≤ n → unit-body (counts-in bs .units) 1 0 (drop unit-start bs) ≡ taken (book-in bs .roster)
   unfolding book-in
   units-there m =
-      unit-body-is (counts-in bs .units) 0 _ ∙ body-all (λ i. unit-in (unit-bytes bs i)) (counts-in bs .units) _ (λ i h. unit-there i (omega arith) h)
+      unit-body-is (counts-in bs .units) 1 0 _
+      ∙ body-all (λ i. unit-in (unit-bytes bs i)) (counts-in bs .units) _ (λ i h. ap (at (1 + i)) (unit-there i (omega arith) h))
 
   -- at the end of the book the format has taken it
   pub book-ended : n ≡ records-in bs → book bs ≡ taken (book-in bs)
@@ -137,55 +142,70 @@ module _ (bs : List ℕ) (l₀ : Lent) {n : ℕ} {t : Tally} {l : Lent} (d : Cha
   book-ended e =
       let many = counts-in bs .requirements in
       let requirements-there =
-      requirement-body-is many 0 _ ∙ body-all (λ i. requirement-in (requirement-bytes bs i)) many _ (λ i h. requirement-there i (omega arith) h) in
+      requirement-body-is many 1 0 _
+      ∙ body-all (λ i. requirement-in (requirement-bytes bs i)) many _ (λ i h. ap (at (1 + i)) (requirement-there i (omega arith) h)) in
       book-is bs (w .table) ∙ rw (settings-there (omega arith), frequencies-there (omega arith), units-there (omega arith), requirements-there)
 
-  -- where the next call refuses, the format has refused the book with the same number
+  -- the record that comes next, at its place
+  placed-here : (place : ℕ) {A : Type 0} {x y : Reply A} {why : Located} → record-place (counts-in bs .units) n ≡ place → y ≡ x →
+      at (next-place t) x ≡ refused why → at place y ≡ refused why
+  placed-here place {A} e f g =
+      ap₂ (λ (k : ℕ) (z : Reply A). at k z) (sym (ap₂ record-place (w .units) (w .records) ∙ e)) f ∙ g
+
+  -- where the next call refuses, the format has refused the book with the same number, place and t
   record-refused :
-      {r : Step} {l′ : Lent} {why : Refusal} → Long l₀ (counts-in bs .units) → ((i : ℕ) → getD bs i 0 < 256) →
+      {r : Step} {l′ : Lent} {why : Located} → Long l₀ (counts-in bs .units) → ((i : ℕ) → getD bs i 0 < 256) →
       Call (counts-in bs) (part-of bs n) n t l r l′ → Refused r why → book bs ≡ refused why
   record-refused {why = why} long bytes (for-settings z p _) e =
       let answer = step-refused (settled t) t (settings-reply t (part-of bs n)) (p .reply) e .0 in
       let judged = settings-judged d (λ m i _. part-bytes bs bytes m i) z (part-of bs n) in
-      let here : settings (settings-bytes bs) ≡ refused why = ap settings (sym (ap (part-of bs) z ∙ settings-part bs)) ∙ sym judged ∙ answer in
+      let here = placed-here 1 (settings-placed (counts-in bs .units) n z)
+      (ap settings (sym (ap (part-of bs) z ∙ settings-part bs)) ∙ sym judged) answer in
       book-is bs (w .table) ∙ rw here
   record-refused {why = why} long bytes (for-frequency first last c) e =
+      let i = n - 1 in
       let answer = step-refused (λ _. counted 0 t) t (frequency-reply t (part-of bs n) l) (c .reply) e .0 in
       let judged = frequency-judged d (λ m i _. part-bytes bs bytes m i) first last long (part-of bs n) in
-      let here = sym (frequency-at bs n (n - 1) (omega arith) (omega arith)) ∙ sym judged ∙ answer in
+      let here = placed-here (suc (0 + i)) (frequency-placed (counts-in bs .units) n (0 + i) (omega arith) (omega arith))
+      (sym (frequency-at bs n i (omega arith) (omega arith)) ∙ sym judged) answer in
       let stops =
       frequency-body-is regions 0 _
-      ∙ body-stops (λ i. region-in (frequency-bytes bs i)) regions (n - 1) _ why (omega arith) (λ i h. frequency-there i (omega arith) (omega arith)) here in
+      ∙ body-stops (λ i. region-in (frequency-bytes bs i)) regions i _ why (omega arith)
+      (λ i h. ap (at (suc (0 + i))) (frequency-there i (omega arith) (omega arith))) here in
       book-is bs (w .table) ∙ rw (settings-there (omega arith), stops)
   record-refused {why = why} long bytes (for-unit first last c) e =
       let many = counts-in bs .units in
+      let i = n - before-units in
       let answer = step-refused (unit-counted t) t (unit-reply t (part-of bs n) l) (c .reply) e .0 in
       let judged = unit-judged d (λ m i _. part-bytes bs bytes m i) first last long (part-of bs n) in
-      let here = sym (unit-at bs n (n - before-units) (omega arith) (omega arith)) ∙ sym judged ∙ answer in
+      let here = placed-here (1 + i) (unit-placed many n i (omega arith) (omega arith))
+      (sym (unit-at bs n i (omega arith) (omega arith)) ∙ sym judged) answer in
       let stops =
-      unit-body-is many 0 _
-      ∙ body-stops (λ i. unit-in (unit-bytes bs i)) many (n - before-units) _ why (omega arith) (λ i h. unit-there i (omega arith) (omega arith)) here in
+      unit-body-is many 1 0 _
+      ∙ body-stops (λ i. unit-in (unit-bytes bs i)) many i _ why (omega arith) (λ i h. ap (at (1 + i)) (unit-there i (omega arith) (omega arith))) here in
       book-is bs (w .table) ∙ rw (settings-there (omega arith), frequencies-there first, stops)
   record-refused {why = why} long bytes (for-requirement first last p _) e =
       let j = n - (before-units + counts-in bs .units) in
       let many = counts-in bs .requirements in
       let answer = step-refused (λ q. counted (q .number + 1) t) t (requirement-reply t (part-of bs n)) (p .reply) e .0 in
       let judged = requirement-judged d (λ m i _. part-bytes bs bytes m i) first last (part-of bs n) in
-      let here = sym (requirement-at bs n j (omega arith) (omega arith)) ∙ sym judged ∙ answer in
+      let here = placed-here (1 + j) (requirement-placed (counts-in bs .units) n j (omega arith))
+      (sym (requirement-at bs n j (omega arith) (omega arith)) ∙ sym judged) answer in
       let stops =
-      requirement-body-is many 0 _
-      ∙ body-stops (λ i. requirement-in (requirement-bytes bs i)) many j _ why (omega arith) (λ i h. requirement-there i (omega arith) (omega arith)) here in
+      requirement-body-is many 1 0 _
+      ∙ body-stops (λ i. requirement-in (requirement-bytes bs i)) many j _ why (omega arith)
+      (λ i h. ap (at (1 + i)) (requirement-there i (omega arith) (omega arith))) here in
       book-is bs (w .table) ∙ rw (settings-there (omega arith), frequencies-there (omega arith), units-there first, stops)
 
-contents-refused : (bs : List ℕ) (why : Refusal) → contents bs ≡ refused why → book bs ≡ refused why
+contents-refused : (bs : List ℕ) (x : Refusal) → contents bs ≡ refused x → book bs ≡ refused (located 0 x)
 unfolding book
-contents-refused bs why e = rw e
+contents-refused bs x e = rw e
 
 opened-refused : {why : Refusal} (reply : Reply Counts) → o.the-variants.Refused why ≡ opened reply → reply ≡ refused why
 opened-refused (taken c) e = let z : _≡_ {A = ℕ} 0 1 = cc in absurd (omega arith)
 opened-refused (refused x) e = cc
 
-pub not-both : {A B : Type 0} {x : Reply A} {a : A} {why : Refusal} → x ≡ taken a → x ≡ refused why → B
+pub not-both : {R A B : Type 0} {x : ReplyOf R A} {a : A} {why : R} → x ≡ taken a → x ≡ refused why → B
 not-both e f = let z : _≡_ {A = ℕ} 0 1 = cc in absurd (omega arith)
 
 -- ---- of a caller who hands on the bytes of a book, and lends lists that are long long for the units of a table of contents that is taken
@@ -194,24 +214,25 @@ module _
     (long : contents bs ≡ taken (counts-in bs) → Long l₀ (counts-in bs .units)) (bytes : (i : ℕ) → getD bs i 0 < 256) where
   -- whatever was refused before, the refusal of the call for the next record is the format's
   pub refused-here :
-      {n : ℕ} {t : Tally} {l l′ : Lent} {r : Step} {why : Refusal} → Chain head part l₀ n t l → n < records-in head →
+      {n : ℕ} {t : Tally} {l l′ : Lent} {r : Step} {why : Located} → Chain head part l₀ n t l → n < records-in head →
       Call (counts-in head) (part n) n t l r l′ → Refused r why → book bs ≡ refused why
   refused-here d h c e =
       let d′ = hands-chain hands d in
       record-refused bs l₀ d′ (long (chain d′ .table)) bytes (hands-call hands d h c) e
 
-  pub refused-book : {why : Refusal} → Meets head part l₀ why → book bs ≡ refused why
-  refused-book {why} (at-contents p) = contents-refused bs why (opened-refused (contents bs) (contents-alike (hands .contents) (omega arith) p .reply))
+  pub refused-book : {why : Located} → Meets head part l₀ why → book bs ≡ refused why
+  refused-book (at-contents {x} p e) =
+      contents-refused bs x (opened-refused (contents bs) (contents-alike (hands .contents) (omega arith) p .reply)) ∙ ap refused e
   refused-book (at-record {m} s) =
       let at = s .before .there in
       let call = any-call (counts-in head) (part m) m (at .0) (at .1) (s .inside) in
       refused-here (at .2) (s .inside) (call .2) (ap (λ (r : Step). r .taking) (s .refuses (at .2) (call .2) .0))
 
   -- and the calls meet the format's refusal
-  pub book-refused : {why : Refusal} → book bs ≡ refused why → Meets head part l₀ why
+  pub book-refused : {why : Located} → book bs ≡ refused why → Meets head part l₀ why
   book-refused {why} e = go (walk head part l₀ (records-in head) (omega arith))
     where
-      same : {x : Refusal} → book bs ≡ refused x → x ≡ why
+      same : {x : Located} → book bs ≡ refused x → x ≡ why
       same f = cc
 
       go : Walked head part l₀ (records-in head) → Meets head part l₀ why

@@ -6,7 +6,7 @@ use native.Mathlib.Decide.{decLt}
 use native.Mathlib.Omega.{arith}
 use lib.ListN.{getD, take}
 use Rattle.integers.proofs.Sums.{none-below}
-use Rattle.rules.specs.declared.Refusal.{Refusal}
+use Rattle.rules.specs.declared.Located.{Located}
 use Rattle.rules.specs.Refusals.{Reply, taken, refused}
 use Rattle.rules.specs.Contents.{Counts, contents, contents-size}
 use Rattle.interval.specs.declared.Tally.{Tally}
@@ -15,7 +15,7 @@ use Rattle.interval.specs.declared.Taking as k
 use Rattle.interval.specs.declared.Taking.{Taking}
 use Rattle.interval.specs.declared.Step.{Step}
 use Rattle.interval.specs.Lent.{Lent}
-use Rattle.interval.specs.Calls.{opened, refused-step, stepped, settled, counted, unit-counted}
+use Rattle.interval.specs.Calls.{opened, stopped-step, stepped, settled, counted, unit-counted}
 use Rattle.chain.specs.Taken.{counts-in}
 use Rattle.chain.specs.Chain.{Taken, Refused, Chain, RecordTaken}
 use Rattle.chain.proofs.ChainTheorem.{chain}
@@ -78,7 +78,7 @@ module _ {bs head : List ℕ} {part : ℕ → List ℕ} (hands : Hands bs head p
   hands-call {l₀} {n} {t} {l} {l′} {r} d h c =
       subst (λ (c : Counts). Call c (part-of bs n) n t l r l′) hands-counts (call-alike d (hands .records n h) c)
 
-taken-or-refused : {A : Type 0} (r : Step) {why : Refusal} → Taken r → Refused r why → A
+taken-or-refused : {A : Type 0} (r : Step) {why : Located} → Taken r → Refused r why → A
 taken-or-refused r e f = let z : _≡_ {A = ℕ} 0 1 = cc in absurd (omega arith)
 
 module _ (head : List ℕ) (part : ℕ → List ℕ) (l₀ : Lent) where
@@ -109,7 +109,7 @@ module _ (head : List ℕ) (part : ℕ → List ℕ) (l₀ : Lent) where
 
   start : (reply : Reply Counts) → contents head ≡ reply → (Walked head part l₀) 0
   start (taken c) e = arrived (opens (record { reply = sym (ap opened e) }))
-  start (refused why) e = stopped (at-contents (record { reply = sym (ap opened e) }))
+  start (refused x) e = stopped (at-contents (record { reply = sym (ap opened e) }) refl)
 
   next :
       {n : ℕ} {t : Tally} {l l′ : Lent} {r : Step} → n < records-in head → Way head part l₀ n t l → Call (counts-in head) (part n) n t l r l′ →
@@ -117,11 +117,11 @@ module _ (head : List ℕ) (part : ℕ → List ℕ) (l₀ : Lent) where
   next {n} {t} {l} {l′} {r} b w c = go (r .taking) refl
     where
       again :
-          {why : Refusal} → Refused r why → {t : Tally} {l l′ : Lent} {s : Step} → Chain head part l₀ n t l →
-          Call (counts-in head) (part n) n t l s l′ → (s ≡ refused-step t why) × (l′ ≡ l)
+          {why : Located} → Refused r why → {t : Tally} {l l′ : Lent} {s : Step} → Chain head part l₀ n t l →
+          Call (counts-in head) (part n) n t l s l′ → (s ≡ stopped-step t why) × (l′ ≡ l)
       again e d c′ = refused-leaves c′ (ap (λ (r : Step). r .taking) (same-answer d (way-chain head part l₀ w) c′ c) ∙ e)
 
-      furthest : {why : Refusal} → Refused r why → {k : ℕ} {t : Tally} {l : Lent} → Chain head part l₀ k t l → k ≤ n
+      furthest : {why : Located} → Refused r why → {k : ℕ} {t : Tally} {l : Lent} → Chain head part l₀ k t l → k ≤ n
       furthest e {k} d = at (decLt n k)
         where
           at : Dec (n < k) → k ≤ n

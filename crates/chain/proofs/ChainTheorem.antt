@@ -12,7 +12,7 @@ use borrow.Author.Tests.{lt-ltb, le-ltb, ne-eqb}
 use Rattle.integers.specs.Bounds.{Within}
 use Rattle.integers.proofs.Sums.{none-below}
 use Rattle.integers.proofs.Fills.{filled-none}
-use Rattle.rules.specs.declared.Refusal.{Refusal}
+use Rattle.rules.specs.declared.Located.{Located}
 use Rattle.rules.specs.Quantities.{points, regions, measure-limit}
 use Rattle.rules.specs.Bytes.{number-at}
 use Rattle.rules.specs.Refusals.{Reply, taken, refused}
@@ -27,7 +27,7 @@ use Rattle.laws.proofs.MeasureLaws.{measure-within}
 use Rattle.interval.specs.declared.Tally.{Tally}
 use Rattle.interval.specs.declared.Opened as o
 use Rattle.interval.specs.declared.Step.{Step}
-use Rattle.interval.specs.Tally.{settings-of, before-units, book-end, next-region, units-taken}
+use Rattle.interval.specs.Tally.{next-place, settings-of, before-units, book-end, next-region, units-taken}
 use Rattle.interval.specs.Lent.{Lent}
 use Rattle.interval.specs.Calls.{fresh, opened, left, settled, counted, unit-counted, settings-reply, frequency-reply, unit-reply, requirement-reply}
 use Rattle.interval.specs.Promises.{ContentsPromise, SettingsPromise, FrequencyPromise, UnitPromise, RequirementPromise, region-kept, unit-kept}
@@ -41,6 +41,7 @@ use Rattle.chain.proofs.Taken.{
   requirement-is,
   step-taken,
   step-refused,
+  left-refused,
   settings-passed,
   frequency-passed,
   unit-passed,
@@ -71,16 +72,16 @@ use Rattle.chain.specs.Chain.{
 use Rattle.chain.proofs.ChainSteps.{was-long, region-leaves, unit-leaves}
 
 -- ---- refused calls leave everything as it came
-pub frequency-stays : {t : Tally} {p : List ℕ} {l l′ : Lent} {r : Step} {why : Refusal} → FrequencyPromise t p l r l′ → Refused r why →
+pub frequency-stays : {t : Tally} {p : List ℕ} {l l′ : Lent} {r : Step} {why : Located} → FrequencyPromise t p l r l′ → Refused r why →
     (r .tally ≡ t) × (l′ ≡ l)
 frequency-stays {t} {p} {l} c h =
     let w = step-refused _ t (frequency-reply t p l) (c .reply) h in
-    (w .1, c .lent ∙ ap (λ (x : Reply Region). left (region-kept t) x l) (w .0))
+    (w .1, c .lent ∙ left-refused (region-kept t) (next-place t) (frequency-reply t p l) l (w .0))
 
-pub unit-stays : {t : Tally} {p : List ℕ} {l l′ : Lent} {r : Step} {why : Refusal} → UnitPromise t p l r l′ → Refused r why → (r .tally ≡ t) × (l′ ≡ l)
+pub unit-stays : {t : Tally} {p : List ℕ} {l l′ : Lent} {r : Step} {why : Located} → UnitPromise t p l r l′ → Refused r why → (r .tally ≡ t) × (l′ ≡ l)
 unit-stays {t} {p} {l} c h =
     let w = step-refused _ t (unit-reply t p l) (c .reply) h in
-    (w .1, c .lent ∙ ap (λ (x : Reply Unit). left (unit-kept t) x l) (w .0))
+    (w .1, c .lent ∙ left-refused (unit-kept t) (next-place t) (unit-reply t p l) l (w .0))
 
 -- ---- both kinds of record have their number in front
 pub unit-number : (bs : List ℕ) → unit-in bs .number ≡ number-at 2 0 bs

@@ -9,6 +9,7 @@ use lib.ListN.{length}
 use borrow.Author.Tests.{leb-true, ltb-true, eqb-true}
 use Rattle.integers.specs.Sums.{both}
 use Rattle.rules.specs.declared.Refusal.{Refusal}
+use Rattle.rules.specs.declared.Located.{Located}
 use Rattle.rules.specs.declared.Refusal.the-variants.{
   EndsEarly,
   WrongMark,
@@ -16,8 +17,6 @@ use Rattle.rules.specs.declared.Refusal.the-variants.{
   WrongCount,
   BytesFollow,
   SettingsField,
-  FrequencyField,
-  UnitField,
   UnitNotRising,
   RequirementField,
   WrongState,
@@ -34,7 +33,7 @@ use Rattle.rules.specs.Quantities.{
   residual-default-limit,
 }
 use Rattle.rules.specs.Bytes.{number-at}
-use Rattle.rules.specs.Refusals.{Reply, taken, refused}
+use Rattle.rules.specs.Refusals.{Reply, taken, refused, located, at}
 use Rattle.rules.specs.Book.{Settings, Region, Unit, Requirement}
 use Rattle.rules.specs.Contents.{Counts, contents, contents-size, mark, entry, items, settings-size, frequency-size, unit-size, requirement-size}
 use Rattle.rules.specs.SettingsRecord.{settings, settings-in, settings-fine}
@@ -46,9 +45,9 @@ use Rattle.laws.proofs.LimitsLaws.{passed, took}
 use Rattle.interval.specs.declared.Tally.{Tally}
 use Rattle.interval.specs.declared.Taking as k
 use Rattle.interval.specs.declared.Step.{Step}
-use Rattle.interval.specs.Tally.{in-range, settings-turn, frequency-turn, unit-turn, requirement-turn, units-taken, before-units, units-end, book-end}
+use Rattle.interval.specs.Tally.{next-place, in-range, settings-turn, frequency-turn, unit-turn, requirement-turn, units-taken, before-units, units-end, book-end}
 use Rattle.interval.specs.Lent.{Lent, regions-long, of-interval, named-region, series-in-range}
-use Rattle.interval.specs.Calls.{stepped, settings-reply, frequency-reply, unit-long, unit-reply, requirement-reply}
+use Rattle.interval.specs.Calls.{left, stepped, settings-reply, frequency-reply, unit-long, unit-reply, requirement-reply}
 use Rattle.chain.proofs.Long.{passes-regions, passes-long}
 use Rattle.chain.specs.Taken.{CountsFit, FrequencyTaken, UnitTaken, counts-in}
 
@@ -86,11 +85,11 @@ pub region-is : (position : ℕ) (bs : List ℕ) (r : Region) → frequency-reco
 unfolding frequency-record
 region-is position bs r e =
     let whole = passed (leb frequency-size (length bs)) EndsEarly _ r e in
-    let header = passed (eqb (number-at 1 0 bs) position && leb (number-at 1 1 bs) 1) FrequencyField _ r (whole .1) in
-    let quality = passed (spare-bits-zero 2 bs) FrequencyField _ r (header .1) in
-    let numbers = passed (sized measure-limit (region-in bs .before) && leb (region-in bs .generation) amount-limit) FrequencyField _ r (quality .1) in
-    let defaults = passed (defaults-fine residual-default-limit (region-in bs .defaults)) FrequencyField _ r (numbers .1) in
-    let values = passed (frequencies-fine (region-in bs)) FrequencyField _ r (defaults .1) in
+    let header = passed (eqb (number-at 1 0 bs) position && leb (number-at 1 1 bs) 1) _ _ r (whole .1) in
+    let quality = passed (spare-bits-zero 2 bs) _ _ r (header .1) in
+    let numbers = passed (sized measure-limit (region-in bs .before) && leb (region-in bs .generation) amount-limit) _ _ r (quality .1) in
+    let defaults = passed (defaults-fine residual-default-limit (region-in bs .defaults)) _ _ r (numbers .1) in
+    let values = passed (frequencies-fine (region-in bs)) _ _ r (defaults .1) in
     took (values .1)
 
 pub unit-is : (least : ℕ) (bs : List ℕ) (u : Unit) → unit-record least bs ≡ taken u → unit-in bs ≡ u
@@ -98,10 +97,10 @@ unfolding unit-record
 unit-is least bs u e =
     let whole = passed (leb unit-size (length bs)) EndsEarly _ u e in
     let header = passed (ltb (unit-in bs .region) regions && leb (number-at 1 3 bs) 1 && sized power-limit (unit-in bs .start)
-    && sized power-limit (unit-in bs .end)) UnitField _ u (whole .1) in
-    let defaults = passed (defaults-fine unit-default-limit (unit-in bs .defaults)) UnitField _ u (header .1) in
-    let quality = passed (spare-bits-zero 60 bs && eqb (number-at 2 70 bs) 0) UnitField _ u (defaults .1) in
-    let values = passed (readings-fine (unit-in bs)) UnitField _ u (quality .1) in
+    && sized power-limit (unit-in bs .end)) _ _ u (whole .1) in
+    let defaults = passed (defaults-fine unit-default-limit (unit-in bs .defaults)) _ _ u (header .1) in
+    let quality = passed (spare-bits-zero 60 bs && eqb (number-at 2 70 bs) 0) _ _ u (defaults .1) in
+    let values = passed (readings-fine (unit-in bs)) _ _ u (quality .1) in
     let rises = passed (leb least (unit-in bs .number)) UnitNotRising _ u (values .1) in
     took (rises .1)
 
@@ -120,20 +119,31 @@ module _ {A : Type 0} (next : A → Tally) (t : Tally) where
       (a : A) × (reply ≡ taken a) × (r .tally ≡ next a)
   step-taken (taken a) e h = (a, refl, ap (λ (r : Step). r .tally) e)
   step-taken (refused why) {r} e h =
-      let f : r .taking ≡ k.the-variants.Refused why = ap (λ (r : Step). r .taking) e in
+      let f : r .taking ≡ k.the-variants.Refused (located (next-place t) why) = ap (λ (r : Step). r .taking) e in
       let z : _≡_ {A = ℕ} 0 1 = cc in
       absurd (omega arith)
 
-  pub step-refused : (reply : Reply A) {r : Step} {why : Refusal} → r ≡ stepped next reply t → r .taking ≡ k.the-variants.Refused why →
-      (reply ≡ refused why) × (r .tally ≡ t)
+  pub step-refused : (reply : Reply A) {r : Step} {why : Located} → r ≡ stepped next reply t → r .taking ≡ k.the-variants.Refused why →
+      (at (next-place t) reply ≡ refused why) × (r .tally ≡ t)
   step-refused (taken a) {r} e h =
       let f : r .taking ≡ k.the-variants.Taken = ap (λ (r : Step). r .taking) e in
       let z : _≡_ {A = ℕ} 0 1 = cc in
       absurd (omega arith)
   step-refused (refused x) {r} {why} e h =
-      let f : r .taking ≡ k.the-variants.Refused x = ap (λ (r : Step). r .taking) e in
-      let g : x ≡ why = cc in
+      let f : r .taking ≡ k.the-variants.Refused (located (next-place t) x) = ap (λ (r : Step). r .taking) e in
+      let g : located (next-place t) x ≡ why = cc in
       (ap refused g, ap (λ (r : Step). r .tally) e)
+
+-- what is refused at a place is a refusal that names it
+pub named-at : {A : Type 0} (place : ℕ) (reply : Reply A) {why : Located} → at place reply ≡ refused why → (x : Refusal) × (located place x ≡ why)
+named-at place (taken a) e = let z : _≡_ {A = ℕ} 0 1 = cc in absurd (omega arith)
+named-at place (refused x) e = (x, cc)
+
+-- what is refused at any place leaves what is lent as it was
+pub left-refused : {A L : Type 0} (write : A → L → L) (place : ℕ) (reply : Reply A) (old : L) {why : Located} → at place reply ≡ refused why →
+    left write reply old ≡ old
+left-refused write place (taken a) old e = let z : _≡_ {A = ℕ} 0 1 = cc in absurd (omega arith)
+left-refused write place (refused r) old e = refl
 
 -- ---- the tests of each call
 pub settings-passed : (t : Tally) (p : List ℕ) (s : Settings) → settings-reply t p ≡ taken s → (t .records ≡ 0) × (settings p ≡ taken s)

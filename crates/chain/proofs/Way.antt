@@ -9,17 +9,19 @@ use native.Mathlib.Omega.{arith}
 use lib.Dec.{eqb, ltb}
 use borrow.Author.Tests.{lt-ltb, le-ltb}
 use Rattle.rules.specs.declared.Refusal.{Refusal}
-use Rattle.rules.specs.Refusals.{Reply}
+use Rattle.rules.specs.declared.Located.{Located}
+use Rattle.rules.specs.Refusals.{Reply, located}
 use Rattle.rules.specs.Contents.{Counts, contents-size, requirement-size}
 use Rattle.interval.specs.declared.Tally.{Tally}
 use Rattle.interval.specs.declared.Opened as o
+use Rattle.interval.specs.declared.Taking.{Taking}
 use Rattle.interval.specs.declared.Step.{Step}
-use Rattle.interval.specs.Tally.{before-units, book-end}
+use Rattle.interval.specs.Tally.{next-place, before-units, book-end}
 use Rattle.interval.specs.Lent.{Lent}
-use Rattle.interval.specs.Calls.{refused-step, stepped, left, settled, counted, unit-counted, settings-reply, frequency-reply, unit-reply, requirement-reply}
+use Rattle.interval.specs.Calls.{stopped-step, stepped, left, settled, counted, unit-counted, settings-reply, frequency-reply, unit-reply, requirement-reply}
 use Rattle.interval.specs.Promises.{FrequencyPromise, UnitPromise, region-kept, unit-kept}
 use Rattle.chain.specs.Taken.{counts-in}
-use Rattle.chain.proofs.Taken.{step-taken, step-refused, settings-passed, frequency-passed, unit-passed, requirement-passed}
+use Rattle.chain.proofs.Taken.{step-taken, step-refused, named-at, settings-passed, frequency-passed, unit-passed, requirement-passed}
 use Rattle.chain.specs.Chain.{
   Taken,
   Refused,
@@ -153,14 +155,27 @@ any-call c p n t l h = go (decLt n 1) (decLt n before-units) (decLt n (before-un
 
 -- a call that refuses leaves all as it came
 refused-is :
-    {A : Type 0} (next : A → Tally) (t : Tally) (reply : Reply A) {r : Step} {why : Refusal} → r ≡ stepped next reply t → Refused r why → r ≡ refused-step t why
-refused-is next t reply e h = e ∙ ap (λ (x : Reply _). stepped next x t) (step-refused next t reply e h .0)
+    {A : Type 0} (next : A → Tally) (t : Tally) (reply : Reply A) {r : Step} {why : Located} → r ≡ stepped next reply t → Refused r why → r ≡ stopped-step t why
+refused-is next t reply e h = ap₂ (λ (t : Tally) (k : Taking). record { tally = t; taking = k }) (step-refused next t reply e h .1) h
 
 pub refused-leaves :
-    {c : Counts} {p : List ℕ} {n : ℕ} {t : Tally} {l l′ : Lent} {r : Step} {why : Refusal} → Call c p n t l r l′ → Refused r why →
-    (r ≡ refused-step t why) × (l′ ≡ l)
+    {c : Counts} {p : List ℕ} {n : ℕ} {t : Tally} {l l′ : Lent} {r : Step} {why : Located} → Call c p n t l r l′ → Refused r why →
+    (r ≡ stopped-step t why) × (l′ ≡ l)
 refused-leaves {c} {p} {n} {t} (for-settings _ w e) h = (refused-is (settled t) t (settings-reply t p) (w .reply) h, e)
 refused-leaves {c} {p} {n} {t} {l} (for-frequency _ _ w) h =
     (refused-is (λ _. counted 0 t) t (frequency-reply t p l) (w .reply) h, frequency-stays w h .1)
 refused-leaves {c} {p} {n} {t} {l} (for-unit _ _ w) h = (refused-is (unit-counted t) t (unit-reply t p l) (w .reply) h, unit-stays w h .1)
 refused-leaves {c} {p} {n} {t} (for-requirement _ _ w e) h = (refused-is (λ q. counted (q .number + 1) t) t (requirement-reply t p) (w .reply) h, e)
+
+-- and its refusal names the place of the record that was to be taken
+pub refused-names :
+    {c : Counts} {p : List ℕ} {n : ℕ} {t : Tally} {l l′ : Lent} {r : Step} {why : Located} → Call c p n t l r l′ → Refused r why →
+    (x : Refusal) × (located (next-place t) x ≡ why)
+refused-names {c} {p} {n} {t} (for-settings _ w e) h =
+    named-at (next-place t) (settings-reply t p) (step-refused (settled t) t (settings-reply t p) (w .reply) h .0)
+refused-names {c} {p} {n} {t} {l} (for-frequency _ _ w) h =
+    named-at (next-place t) (frequency-reply t p l) (step-refused (λ _. counted 0 t) t (frequency-reply t p l) (w .reply) h .0)
+refused-names {c} {p} {n} {t} {l} (for-unit _ _ w) h =
+    named-at (next-place t) (unit-reply t p l) (step-refused (unit-counted t) t (unit-reply t p l) (w .reply) h .0)
+refused-names {c} {p} {n} {t} (for-requirement _ _ w e) h =
+    named-at (next-place t) (requirement-reply t p) (step-refused (λ q. counted (q .number + 1) t) t (requirement-reply t p) (w .reply) h .0)

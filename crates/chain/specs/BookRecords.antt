@@ -7,7 +7,7 @@ use lib.Dec.{ltb}
 use lib.ListN.{drop}
 use Rattle.rules.specs.Quantities.{regions}
 use Rattle.rules.specs.Bytes.{number-at}
-use Rattle.rules.specs.Refusals.{Reply, taken, _>>=_}
+use Rattle.rules.specs.Refusals.{LocatedReply, taken, _>>=_}
 use Rattle.rules.specs.Book.{Book}
 use Rattle.rules.specs.Contents.{
   contents,
@@ -39,13 +39,13 @@ unfoldable pub part-of : List ℕ → ℕ → List ℕ
 part-of bs m = drop (record-start (counts-in bs .units) m) bs
 
 -- ---- a body of n records, one behind the other: all of them, or the first refusal
-abbrev pub joined : {A : Type 0} → Reply A → Reply (List A) → Reply (List A)
+abbrev pub joined : {A : Type 0} → LocatedReply A → LocatedReply (List A) → LocatedReply (List A)
 joined record-reply others = do
   first ← record-reply
   rest ← others
   taken (first ∷ rest)
 
-unfoldable pub body : {A : Type 0} → ℕ → (ℕ → Reply A) → Reply (List A)
+unfoldable pub body : {A : Type 0} → ℕ → (ℕ → LocatedReply A) → LocatedReply (List A)
 body zero f = taken []
 body (suc n) f = joined (f 0) (body n (λ i. f (suc i)))
 
@@ -59,5 +59,5 @@ pub record Read (bs : List ℕ) (b : Book) : Type 0 where
   pub table : contents bs ≡ taken (counts-in bs)
   pub settings : settings (drop contents-size bs) ≡ taken (b .settings)
   pub regions : frequency-body regions 0 (drop frequency-start bs) ≡ taken (b .regions)
-  pub roster : unit-body (counts-in bs .units) 0 (drop unit-start bs) ≡ taken (b .roster)
-  pub requirements : requirement-body (counts-in bs .requirements) 0 (drop (requirement-start (counts-in bs .units)) bs) ≡ taken (b .requirements)
+  pub roster : unit-body (counts-in bs .units) 1 0 (drop unit-start bs) ≡ taken (b .roster)
+  pub requirements : requirement-body (counts-in bs .requirements) 1 0 (drop (requirement-start (counts-in bs .units)) bs) ≡ taken (b .requirements)

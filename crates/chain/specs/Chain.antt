@@ -9,7 +9,7 @@ use lib.Dec.{eqb, ltb}
 use lib.IntN.{ℤ}
 use Rattle.integers.specs.Sums.{sum, when}
 use Rattle.integers.specs.Fills.{filled}
-use Rattle.rules.specs.declared.Refusal.{Refusal}
+use Rattle.rules.specs.declared.Located.{Located}
 use Rattle.rules.specs.Quantities.{points, regions}
 use Rattle.rules.specs.Bytes.{number-at, listed}
 use Rattle.rules.specs.Refusals.{taken}
@@ -35,7 +35,7 @@ use Rattle.chain.specs.Taken.{counts-in}
 abbrev pub Taken : Step → Type 0
 Taken r = r .taking ≡ k.the-variants.Taken
 
-abbrev pub Refused : Step → Refusal → Type 0
+abbrev pub Refused : Step → Located → Type 0
 Refused r why = r .taking ≡ k.the-variants.Refused why
 
 pub data Chain (head : List ℕ) (part : ℕ → List ℕ) (l₀ : Lent) : ℕ → Tally → Lent → Type 0 where
@@ -48,13 +48,13 @@ pub data Chain (head : List ℕ) (part : ℕ → List ℕ) (l₀ : Lent) : ℕ �
       Chain head part l₀ (suc n) (r .tally) l′
   took-requirement : {n : ℕ} {t : Tally} {l : Lent} {r : Step} → Chain head part l₀ n t l → RequirementPromise t (part n) r → Taken r →
       Chain head part l₀ (suc n) (r .tally) l
-  refused-settings : {n : ℕ} {t : Tally} {l : Lent} {r : Step} {p : List ℕ} {why : Refusal} → Chain head part l₀ n t l → SettingsPromise t p r → Refused r why →
+  refused-settings : {n : ℕ} {t : Tally} {l : Lent} {r : Step} {p : List ℕ} {why : Located} → Chain head part l₀ n t l → SettingsPromise t p r → Refused r why →
       Chain head part l₀ n (r .tally) l
-  refused-frequency : {n : ℕ} {t : Tally} {l l′ : Lent} {r : Step} {p : List ℕ} {why : Refusal} → Chain head part l₀ n t l → FrequencyPromise t p l r l′ →
+  refused-frequency : {n : ℕ} {t : Tally} {l l′ : Lent} {r : Step} {p : List ℕ} {why : Located} → Chain head part l₀ n t l → FrequencyPromise t p l r l′ →
       Refused r why → Chain head part l₀ n (r .tally) l′
-  refused-unit : {n : ℕ} {t : Tally} {l l′ : Lent} {r : Step} {p : List ℕ} {why : Refusal} → Chain head part l₀ n t l → UnitPromise t p l r l′ → Refused r why →
+  refused-unit : {n : ℕ} {t : Tally} {l l′ : Lent} {r : Step} {p : List ℕ} {why : Located} → Chain head part l₀ n t l → UnitPromise t p l r l′ → Refused r why →
       Chain head part l₀ n (r .tally) l′
-  refused-requirement : {n : ℕ} {t : Tally} {l : Lent} {r : Step} {p : List ℕ} {why : Refusal} → Chain head part l₀ n t l → RequirementPromise t p r →
+  refused-requirement : {n : ℕ} {t : Tally} {l : Lent} {r : Step} {p : List ℕ} {why : Located} → Chain head part l₀ n t l → RequirementPromise t p r →
       Refused r why → Chain head part l₀ n (r .tally) l
 
 -- ---- how many regions and units are among the first n records

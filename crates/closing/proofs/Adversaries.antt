@@ -16,7 +16,7 @@ use Rattle.integers.proofs.Totals.{total-++, those-++}
 use Rattle.rules.specs.declared.Direction.{Direction}
 use Rattle.rules.specs.declared.Direction.the-variants.{Raise}
 use Rattle.rules.specs.declared.Kind.the-variants.{Generation}
-use Rattle.rules.specs.declared.Refusal.{Refusal}
+use Rattle.rules.specs.declared.Located.{Located}
 use Rattle.rules.specs.Quantities.{points}
 use Rattle.rules.specs.Bytes.{listed}
 use Rattle.rules.specs.Book.{Unit, Book}
@@ -35,7 +35,7 @@ use Rattle.closing.proofs.PaperCloses.{generator-parts}
 use Rattle.closing.specs.Adversaries.{Calculator, Closes, InBlocks, Residual, paper-bytes, rounded}
 
 -- refuses everything: breaks demand 2 at the paper's listing
-pub refuses-everything : (c : Calculator) → ((bs : List ℕ) → (r : Refusal) × (c bs ≡ refused-line r)) → c (paper-bytes 7) ≡ settle (paper-bytes 7) → ⊥
+pub refuses-everything : (c : Calculator) → ((bs : List ℕ) → (r : Located) × (c bs ≡ refused-line r)) → c (paper-bytes 7) ≡ settle (paper-bytes 7) → ⊥
 unfolding text words
 refuses-everything c refuses right =
     let k = refuses (paper-bytes 7) in

@@ -1,14 +1,15 @@
 -- DEMAND 1: 'A book of arbitrary bytes, or a call at the wrong time, gets an answer or a numbered refusal. No entry relies on its caller's checks. A refusal
 -- hands the tally back as it came and writes nothing.' No function that a firmware calls has a condition on what it is handed, so each answers, whatever the
 -- tally, the bytes and the lists are; here stands that its promise allows one answer alone, and what this is. First what is asked for, then the theorems.
-use mathlib.Core.Path.{_≡_, refl}
+use mathlib.Core.Path.{_≡_, refl, sym, _∙_, ap}
 use mathlib.Core.List.{List}
 use mathlib.Core.Logic.{_⊎_, inl, inr}
 use Prim.Native.Nat.{ℕ, _+_, _<_}
 use native.Mathlib.Omega.{arith}
 use lib.ListN.{getD}
 use Rattle.rules.specs.declared.Refusal.{Refusal}
-use Rattle.rules.specs.Refusals.{Reply, taken, refused, number}
+use Rattle.rules.specs.declared.Located.{Located}
+use Rattle.rules.specs.Refusals.{Reply, LocatedReply, taken, refused, located}
 use Rattle.rules.specs.Book.{Requirement, Book}
 use Rattle.rules.specs.Contents.{Counts, contents}
 use Rattle.rules.specs.WholeBook.{book}
@@ -17,13 +18,13 @@ use Rattle.interval.specs.declared.Taking as k
 use Rattle.interval.specs.declared.Taking.{Taking}
 use Rattle.interval.specs.declared.Step.{Step}
 use Rattle.interval.specs.Lent.{Lent}
-use Rattle.interval.specs.Calls.{stepped, left, settled, counted, settings-reply, requirement-reply}
+use Rattle.interval.specs.Calls.{stopped-step, stepped, left, settled, counted, settings-reply, requirement-reply}
 use Rattle.interval.specs.Promises.{SettingsPromise, RequirementPromise}
 use Rattle.chain.specs.Taken.{counts-in}
 use Rattle.chain.specs.Long.{Long}
 use Rattle.chain.specs.Chain.{Taken}
 use Rattle.chain.specs.Way.{Call}
-use Rattle.chain.proofs.Way.{call-only, refused-leaves, any-frequency, any-unit}
+use Rattle.chain.proofs.Way.{call-only, refused-leaves, refused-names, any-frequency, any-unit}
 use Rattle.chain.specs.BookWay.{Hands}
 use Rattle.chain.proofs.BookRefused.{book-refused, book-way}
 use Rattle.chain.proofs.Mixed.{mixed-told}
@@ -32,7 +33,7 @@ use Rattle.answer.specs.declared.Answered.the-variants.{Refused}
 use Rattle.kept.specs.Kept.{kept-answer}
 use Rattle.answer.specs.Promises.{Columns, AnswerPromise, answer-reply, shown, replied, with-lines}
 use Rattle.answer.proofs.Promises.{answer-only}
-use Rattle.dullavane.specs.Words.{held, taking-number, told, words-after}
+use Rattle.dullavane.specs.Words.{held, said, taking-said, told, words-after}
 use Rattle.dullavane.specs.Called.{Called}
 use Rattle.demands.specs.WordsChain.{
   Turn,
@@ -48,7 +49,7 @@ use Rattle.demands.specs.WordsChain.{
   unit-called,
   requirement-called,
 }
-use Rattle.laws.proofs.RefusalLaws.{refusal-numbered}
+use Rattle.dullavane.proofs.WordsLaws.{said-some, unheld-said}
 use Rattle.demands.specs.WordsCalls.{StepCall, settings-step, frequency-step, unit-step, requirement-step}
 use Rattle.demands.proofs.WordsCalls.{due-call, refused-call}
 use Rattle.demands.specs.OtherBook.{ToldApart}
@@ -80,7 +81,10 @@ module _ (turn : Turn) {t : Tally} {p : List ℕ} {l : Lent} {r : Step} {l′ : 
     where
       go : (x : Taking) → r .taking ≡ x → Outcome t l r l′
       go k.the-variants.Taken h = takes h
-      go (k.the-variants.Refused why) h = let same = refused-leaves (due-call (is-due turn) c) h in refuses why (same .0) (same .1)
+      go (k.the-variants.Refused why) h =
+          let same = refused-leaves (due-call (is-due turn) c) h in
+          let named = refused-names (due-call (is-due turn) c) h in
+          refuses (named .0) (same .0 ∙ ap (stopped-step t) (sym (named .1))) (same .1)
 
   one-of : OneAnswer turn t p l
   one-of =
@@ -108,38 +112,38 @@ module _ {t : Tally} {p : List ℕ} {l : Lent} {old : Columns} where
   pub one-answer : {r r′ : Answered} {new new′ : Columns} → AnswerPromise t p l old r new → AnswerPromise t p l old r′ new′ → (r ≡ r′) × (new ≡ new′)
   one-answer c d = answer-only t p l old c d
 
--- a step's number is 0 or a refusal's, and so is that of words which hold no tally
+-- what a step is told as is 0 or a refusal, and so is what words are told as which hold no tally
 numbered :
-    (Call : Tally → Step → Type 0) (Kept : Type 0) (ws ws′ : List ℕ) {r : ℕ} (y : Reply Tally) → Called told words-after Call Kept y ws r ws′ →
-    (r ≡ 0) ⊎ ((why : Refusal) × (r ≡ number why))
+    (Call : Tally → Step → Type 0) (Kept : Type 0) (ws ws′ : List ℕ) {r : ℕ} (y : Reply Tally) → held ws ≡ y → Called told words-after Call Kept y ws r ws′ →
+    (r ≡ 0) ⊎ ((why : Located) × (r ≡ said why))
 unfolding Called
-numbered Call Kept ws ws′ (taken t) c = go (c .step .taking) (c .reply)
+numbered Call Kept ws ws′ (taken t) h c = go (c .step .taking) (c .reply)
   where
-    go : {r : ℕ} (x : Taking) → r ≡ taking-number x → (r ≡ 0) ⊎ ((why : Refusal) × (r ≡ number why))
+    go : {r : ℕ} (x : Taking) → r ≡ taking-said x → (r ≡ 0) ⊎ ((why : Located) × (r ≡ said why))
     go k.the-variants.Taken e = inl e
     go (k.the-variants.Refused why) e = inr (why, e)
-numbered Call Kept ws ws′ (refused why) c = inr (why, c .reply)
+numbered Call Kept ws ws′ (refused x) h c = inr (located 0 x, c .reply ∙ unheld-said ws x h)
 
 module _ {p ws : List ℕ} {l : Lent} {r : ℕ} {ws′ : List ℕ} {l′ : Lent} where
   pub every-words-call : {turn : Turn} → WordsCall p ws l r ws′ l′ turn → WordsOutcome ws l r ws′ l′
   every-words-call c = go (number-of c)
     where
-      number-of : {turn : Turn} → WordsCall p ws l r ws′ l′ turn → (r ≡ 0) ⊎ ((why : Refusal) × (r ≡ number why))
-      number-of (settings-called c _) = numbered _ _ ws ws′ (held ws) (c .answer)
-      number-of (frequency-called c) = numbered _ _ ws ws′ (held ws) (c .answer)
-      number-of (unit-called c) = numbered _ _ ws ws′ (held ws) (c .answer)
-      number-of (requirement-called c _) = numbered _ _ ws ws′ (held ws) (c .answer)
+      number-of : {turn : Turn} → WordsCall p ws l r ws′ l′ turn → (r ≡ 0) ⊎ ((why : Located) × (r ≡ said why))
+      number-of (settings-called c _) = numbered _ _ ws ws′ (held ws) refl (c .answer)
+      number-of (frequency-called c) = numbered _ _ ws ws′ (held ws) refl (c .answer)
+      number-of (unit-called c) = numbered _ _ ws ws′ (held ws) refl (c .answer)
+      number-of (requirement-called c _) = numbered _ _ ws ws′ (held ws) refl (c .answer)
 
-      go : (r ≡ 0) ⊎ ((why : Refusal) × (r ≡ number why)) → WordsOutcome ws l r ws′ l′
+      go : (r ≡ 0) ⊎ ((why : Located) × (r ≡ said why)) → WordsOutcome ws l r ws′ l′
       go (inl e) = takes e
-      go (inr (why, e)) = let same = refused-call c (omega (arith, e, refusal-numbered why)) in refuses why e (same .0) (same .1)
+      go (inr (why, e)) = let same = refused-call c (omega (arith, e, said-some why)) in refuses why e (same .0) (same .1)
 
 pub every-book :
     {bs head : List ℕ} {part : ℕ → List ℕ} (l₀ : Lent) → Hands bs head part →
     (contents bs ≡ taken (counts-in bs) → Long l₀ (counts-in bs .units)) → ((i : ℕ) → getD bs i 0 < 256) → BookOutcome bs head part l₀
 every-book {bs} {head} {part} l₀ hands lists-long bytes = go (book bs) refl
   where
-    go : (x : Reply Book) → book bs ≡ x → BookOutcome bs head part l₀
+    go : (x : LocatedReply Book) → book bs ≡ x → BookOutcome bs head part l₀
     go (taken b) e = takes b e (book-way l₀ hands lists-long bytes b e)
     go (refused why) e = refuses why e (book-refused l₀ hands lists-long bytes e)
 

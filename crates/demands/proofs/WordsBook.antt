@@ -1,13 +1,13 @@
 -- DEMAND 2 OVER WORDS: once a chain of C calls has all units in, dullavane_answer and dullavane_member give the rules' answer about the book that was taken, to
--- the cent, with names and standings. Of a book that the format takes the C calls take every record; of one that it refuses they meet its number.
+-- the cent, with names and standings. Of a book that the format takes the C calls take every record; of one that it refuses they meet its refusal, number, place and t.
 use mathlib.Core.Path.{_≡_, refl, sym, _∙_, ap}
 use mathlib.Core.List.{List}
 use Prim.Native.Nat.{ℕ, _+_, _≤_, _<_}
 use native.Mathlib.Omega.{arith}
 use lib.ListN.{length, getD}
 use borrow.Author.Tests.{le-leb}
-use Rattle.rules.specs.declared.Refusal.{Refusal}
-use Rattle.rules.specs.Refusals.{Reply, taken, refused, number}
+use Rattle.rules.specs.declared.Located.{Located}
+use Rattle.rules.specs.Refusals.{Reply, taken, refused, located, at}
 use Rattle.rules.specs.Book.{Requirement, Book}
 use Rattle.rules.specs.Contents.{Counts, contents}
 use Rattle.rules.specs.WholeBook.{book}
@@ -28,7 +28,7 @@ use Rattle.chain.specs.BookChain.{book-of}
 use Rattle.chain.proofs.Spelled.{book-means, spelled-hands, chain-book}
 use Rattle.chain.proofs.Answerable.{chain-answerable, units-answerable, ended-answerable, requirement-read}
 use Rattle.answer.specs.BookAnswered.{Asks}
-use Rattle.dullavane.specs.Words.{tally-words, with-words, reply-number, taking-number, words-after}
+use Rattle.dullavane.specs.Words.{tally-words, with-words, said, reply-said, taking-said, words-after}
 use Rattle.dullavane.specs.Promises.{ContentsCalled}
 use Rattle.dullavane.proofs.Promises.{contents-opened}
 use Rattle.demands.specs.WordsChain.{Turn, Due, WordsCall, WordsChain}
@@ -49,23 +49,23 @@ module _ {head : List ℕ} {part : ℕ → List ℕ} {l₀ : Lent} {ws₀ : List
       each h d due c =
           let x = words-chain d in
           let s = call-steps (x .held) c in
-          s .reply ∙ ap taking-number (w .each h (x .chain) (due-call due (s .call)))
+          s .reply ∙ ap taking-said (w .each h (x .chain) (due-call due (s .call)))
 
-  words-stops : {why : Refusal} {m : ℕ} → Stops head part l₀ why m → WordsStops head part l₀ ws₀ why m
+  words-stops : {why : Located} {m : ℕ} → Stops head part l₀ why m → WordsStops head part l₀ ws₀ why m
   words-stops {why} {m} w =
       record { inside = w .inside; before = words-takes (w .before); refuses = refuses; furthest = λ d. w .furthest (words-chain d .chain) }
     where
       refuses :
           {r : ℕ} {ws ws′ : List ℕ} {l l′ : Lent} {turn : Turn} → WordsChain head part l₀ ws₀ m ws l → Due (counts-in head) m turn →
-          WordsCall (part m) ws l r ws′ l′ turn → (r ≡ number why) × (ws′ ≡ ws) × (l′ ≡ l)
+          WordsCall (part m) ws l r ws′ l′ turn → (r ≡ said why) × (ws′ ≡ ws) × (l′ ≡ l)
       refuses {ws = ws} d due c =
           let x = words-chain d in
           let s = call-steps (x .held) c in
           let e = w .refuses (x .chain) (due-call due (s .call)) in
-          (s .reply ∙ ap (λ (s : Step). taking-number (s .taking)) (e .0), s .words ∙ ap (λ (s : Step). words-after s ws) (e .0), e .1)
+          (s .reply ∙ ap (λ (s : Step). taking-said (s .taking)) (e .0), s .words ∙ ap (λ (s : Step). words-after s ws) (e .0), e .1)
 
-  words-meets : {why : Refusal} → Meets head part l₀ why → WordsMeets head part l₀ ws₀ why
-  words-meets {why} (below.at-contents p) = at-contents (contents-opened head ws₀ long (o.the-variants.Refused why) (p .reply) refl refl)
+  words-meets : {why : Located} → Meets head part l₀ why → WordsMeets head part l₀ ws₀ why
+  words-meets (below.at-contents {x} p e) = at-contents (contents-opened head ws₀ long (o.the-variants.Refused x) (p .reply) (sym (ap said e)) refl)
   words-meets (below.at-record s) = at-record (words-stops s)
 
 -- ---- on any chain the C call for the next record returns 0 where the format takes the record, whatever was tried in its place before and refused
@@ -76,7 +76,7 @@ pub next-taken :
 next-taken {head} {part} {l₀} d lists-long bytes w due c =
     let x = words-chain d in
     let s = call-steps (x .held) c in
-    s .reply ∙ ap taking-number (below-laws.next-taken head part l₀ (x .chain) lists-long bytes w (due-call due (s .call)))
+    s .reply ∙ ap taking-said (below-laws.next-taken head part l₀ (x .chain) lists-long bytes w (due-call due (s .call)))
 
 -- ---- OF WHATEVER WAS HANDED IN: the book is the one that the parts spell which were taken, whatever was refused in between
 module _ {head : List ℕ} {part : ℕ → List ℕ} {l₀ : Lent} {ws₀ : List ℕ} where
@@ -130,23 +130,24 @@ module _
           WordsAnswers b (words-chain d .tally) ws l
       answers {ws = ws} d all = let x = words-chain d in answerable-answered ws (units-answerable hands b e (x .chain) all bytes) (x .held)
 
-  -- ---- of one that it refuses they meet its number, and whatever number they meet, the format refuses the book with it
-  pub words-refused : {why : Refusal} → book bs ≡ refused why → WordsMeets head part l₀ ws₀ why
+  -- ---- of one that it refuses they meet its refusal, and whatever refusal they meet, the format refuses the book with it
+  pub words-refused : {why : Located} → book bs ≡ refused why → WordsMeets head part l₀ ws₀ why
   words-refused e = words-meets long (book-refused l₀ hands lists-long bytes e)
 
   pub refused-contents-words :
-      {r : ℕ} {ws : List ℕ} → ContentsCalled head ws₀ r ws → 0 < r → (why : Refusal) × (r ≡ number why) × (book bs ≡ refused why)
+      {r : ℕ} {ws : List ℕ} → ContentsCalled head ws₀ r ws → 0 < r → (why : Located) × (r ≡ said why) × (book bs ≡ refused why)
   refused-contents-words {r} c h = go (contents head) refl (rw (le-leb tally-words (length ws₀) long) at (c .reply))
     where
-      go : (y : Reply Counts) → contents head ≡ y → r ≡ reply-number y → (why : Refusal) × (r ≡ number why) × (book bs ≡ refused why)
+      go : (y : Reply Counts) → contents head ≡ y → r ≡ reply-said (at 0 y) → (why : Located) × (r ≡ said why) × (book bs ≡ refused why)
       go (taken c) e f = absurd (omega arith)
-      go (refused why) e f = (why, f, refused-book l₀ hands lists-long bytes (below.at-contents (record { reply = ap opened (sym e) })))
+      go (refused x) e f =
+          (located 0 x, f, refused-book l₀ hands lists-long bytes (below.at-contents (record { reply = ap opened (sym e) }) refl))
 
   pub refused-words :
       {n r : ℕ} {ws ws′ : List ℕ} {l l′ : Lent} {turn : Turn} → WordsChain head part l₀ ws₀ n ws l → n < records-in head → Due (counts-in head) n turn →
-      WordsCall (part n) ws l r ws′ l′ turn → 0 < r → (why : Refusal) × (r ≡ number why) × (book bs ≡ refused why)
+      WordsCall (part n) ws l r ws′ l′ turn → 0 < r → (why : Located) × (r ≡ said why) × (book bs ≡ refused why)
   refused-words d inside due c h =
       let x = words-chain d in
       let s = call-steps (x .held) c in
       let no = told-refused (s .step) (omega (arith, s .reply)) in
-      (no .0, s .reply ∙ ap taking-number (no .1), refused-here l₀ hands lists-long bytes (x .chain) inside (due-call due (s .call)) (no .1))
+      (no .0, s .reply ∙ ap taking-said (no .1), refused-here l₀ hands lists-long bytes (x .chain) inside (due-call due (s .call)) (no .1))

@@ -3,7 +3,7 @@
 use mathlib.Core.Path.{_≡_, ap}
 use mathlib.Core.List.{List}
 use Prim.Native.Nat.{ℕ, _+_, _<_}
-use Rattle.rules.specs.declared.Refusal.{Refusal}
+use Rattle.rules.specs.declared.Located.{Located}
 use Rattle.rules.specs.Refusals.{taken}
 use Rattle.rules.specs.Contents.{Counts}
 use Rattle.interval.specs.declared.Tally.{Tally}
@@ -26,7 +26,7 @@ use Rattle.demands.specs.WordsCalls.{StepCall, frequency-step, requireme
 -- a refused step leaves the words, and what else is lent if the call below does
 module _ (Call : Tally → Step → Type 0) (Kept Same : Type 0) {ws ws′ : List ℕ} {r : ℕ} where
   refused-step :
-      ((t : Tally) (s : Step) (why : Refusal) → Call t s → Refused s why → Same) →
+      ((t : Tally) (s : Step) (why : Located) → Call t s → Refused s why → Same) →
       (Kept → Same) →
       Called told words-after Call Kept (held ws) ws r ws′ →
       0 < r →
@@ -64,7 +64,7 @@ module _ {p : List ℕ} {t : Tally} {l : Lent} {s : Step} {l′ : Lent} {ws : Li
 
 -- a refused step hands the tally back as it came
 pub refused-stays :
-    {p : List ℕ} {t : Tally} {l : Lent} {s : Step} {l′ : Lent} {turn : Turn} {why : Refusal} → StepCall p t l s l′ turn → Refused s why → s .tally ≡ t
+    {p : List ℕ} {t : Tally} {l : Lent} {s : Step} {l′ : Lent} {turn : Turn} {why : Located} → StepCall p t l s l′ turn → Refused s why → s .tally ≡ t
 refused-stays {p} {t} (settings-step c e) h = step-refused (settled t) t (settings-reply t p) (c .reply) h .1
 refused-stays (frequency-step c) h = frequency-stays c h .0
 refused-stays (unit-step c) h = unit-stays c h .0

@@ -5,34 +5,33 @@ use Prim.Native.Nat.{ℕ, _<_}
 use native.Mathlib.Omega.{arith}
 use lib.ListN.{length}
 use borrow.Author.Tests.{le-leb, lt-ltb}
-use Rattle.rules.specs.declared.Refusal.{Refusal}
+use Rattle.rules.specs.declared.Located.{Located}
 use Rattle.rules.specs.declared.Reason.the-variants.{UnreliableRegion, BadUnit, NoGoodUnit}
 use Rattle.rules.specs.declared.Standing.{Standing}
 use Rattle.rules.specs.declared.Standing.the-variants.{Live, Default}
 use Rattle.rules.specs.Refusals.{Reply, taken, refused}
-use Rattle.laws.proofs.RefusalLaws.{refusal-numbered}
 use Rattle.interval.specs.declared.Tally.{Tally}
 use Rattle.interval.specs.declared.Taking as k
 use Rattle.interval.specs.declared.Taking.{Taking}
 use Rattle.interval.specs.declared.Step.{Step}
-use Rattle.dullavane.specs.Words.{tally-words, with-words, held, Narrow, taking-number, told}
-use Rattle.dullavane.proofs.WordsLaws.{held-by, narrow-but}
+use Rattle.dullavane.specs.Words.{tally-words, with-words, held, Narrow, taking-said, told}
+use Rattle.dullavane.proofs.WordsLaws.{held-by, narrow-but, said-some}
 use Rattle.dullavane.specs.Called.{Stepped, Called}
 use Rattle.dullavane.specs.Asked.{standing-number}
 use Rattle.demands.specs.WordsLaws.{standing-of}
 
--- ---- no refusal has the number 0, so 0 is told of a record taken alone
+-- ---- no refusal is told as 0, so 0 is told of a record taken alone
 pub told-taken : (s : Step) → told s ≡ 0 → s .taking ≡ k.the-variants.Taken
 told-taken s e = go (s .taking) e
   where
-    go : (x : Taking) → taking-number x ≡ 0 → x ≡ k.the-variants.Taken
+    go : (x : Taking) → taking-said x ≡ 0 → x ≡ k.the-variants.Taken
     go k.the-variants.Taken e = refl
-    go (k.the-variants.Refused why) e = absurd (omega (arith, refusal-numbered why))
+    go (k.the-variants.Refused why) e = absurd (omega (arith, said-some why))
 
-pub told-refused : (s : Step) → 0 < told s → (why : Refusal) × (s .taking ≡ k.the-variants.Refused why)
+pub told-refused : (s : Step) → 0 < told s → (why : Located) × (s .taking ≡ k.the-variants.Refused why)
 told-refused s h = go (s .taking) h
   where
-    go : (x : Taking) → 0 < taking-number x → (why : Refusal) × (x ≡ k.the-variants.Refused why)
+    go : (x : Taking) → 0 < taking-said x → (why : Located) × (x ≡ k.the-variants.Refused why)
     go k.the-variants.Taken h = absurd (omega arith)
     go (k.the-variants.Refused why) h = (why, refl)
 

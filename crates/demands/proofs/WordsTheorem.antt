@@ -8,10 +8,10 @@ use native.Mathlib.Omega.{arith}
 use lib.Dec.{leb}
 use lib.ListN.{length}
 use borrow.Author.Tests.{leb-true}
-use Rattle.rules.specs.declared.Refusal.{Refusal}
+use Rattle.rules.specs.declared.Located.{Located}
 use Rattle.rules.specs.declared.Refusal.the-variants.{TooShort}
 use Rattle.rules.specs.Quantities.{points}
-use Rattle.rules.specs.Refusals.{Reply, taken, refused, unless}
+use Rattle.rules.specs.Refusals.{Reply, taken, refused, located, at, unless}
 use Rattle.rules.specs.Book.{Settings}
 use Rattle.rules.specs.Contents.{Counts, contents}
 use Rattle.laws.proofs.LimitsLaws.{settings-fit}
@@ -28,12 +28,12 @@ use Rattle.chain.proofs.Taken.{contents-is}
 use Rattle.chain.specs.Chain as below
 use Rattle.chain.specs.Chain.{Taken, Refused, Chain, Means, the-settings}
 use Rattle.chain.proofs.ChainTheorem.{chain}
-use Rattle.dullavane.specs.Words.{tally-words, with-words, held, Narrow, reply-number, taking-number, told, words-left, words-after}
+use Rattle.dullavane.specs.Words.{tally-words, with-words, held, Narrow, reply-said, taking-said, told, words-left, words-after}
 use Rattle.dullavane.specs.Called.{Stepped}
 use Rattle.dullavane.specs.Promises.{contents-reply, ContentsCalled}
 use Rattle.dullavane.proofs.Promises.{contents-opened}
 use Rattle.demands.specs.WordsChain.{Turn, WordsCall, WordsChain, begun, took, refused-record, refused-contents}
-use Rattle.laws.proofs.RefusalLaws.{refusal-numbered}
+use Rattle.dullavane.proofs.WordsLaws.{said-some}
 use Rattle.demands.proofs.WordsLaws.{told-taken, words-hold}
 use Rattle.demands.specs.WordsCalls.{StepCall, settings-step, frequency-step, unit-step, requirement-step}
 use Rattle.demands.proofs.WordsCalls.{refused-call, call-steps, step-calls, refused-stays}
@@ -81,16 +81,16 @@ contents-taken : {head ws ws′ : List ℕ} → ContentsCalled head ws 0 ws′ �
 contents-taken {head} {ws} {ws′} c = go (leb tally-words (length ws)) (contents head) refl refl (c .reply) (c .tally)
   where
     go :
-        (x : Bool) (y : Reply Counts) → leb tally-words (length ws) ≡ x → contents head ≡ y → 0 ≡ reply-number (unless x TooShort y) →
+        (x : Bool) (y : Reply Counts) → leb tally-words (length ws) ≡ x → contents head ≡ y → 0 ≡ reply-said (at 0 (unless x TooShort y)) →
         ws′ ≡ left (λ c. with-words (fresh c)) (unless x TooShort y) ws → Opens head ws ws′
     go true (taken c) l h e f = record { tally = fresh c; promise = record { reply = ap opened (sym h) }; words = f; long = leb-true _ _ l }
-    go true (refused why) l h e f = absurd (omega (arith, refusal-numbered why))
+    go true (refused why) l h e f = absurd (omega (arith, said-some (located 0 why)))
     go false y l h e f = absurd (omega arith)
 
 contents-kept : {p ws ws′ : List ℕ} {r : ℕ} → ContentsCalled p ws r ws′ → 0 < r → ws′ ≡ ws
 contents-kept {p} {ws} {ws′} {r} c h = go (contents-reply p ws) (c .reply) (c .tally)
   where
-    go : (y : Reply Counts) → r ≡ reply-number y → ws′ ≡ left (λ c. with-words (fresh c)) y ws → ws′ ≡ ws
+    go : (y : Reply Counts) → r ≡ reply-said (at 0 y) → ws′ ≡ left (λ c. with-words (fresh c)) y ws → ws′ ≡ ws
     go (taken c) e f = absurd (omega arith)
     go (refused why) e f = f
 
@@ -158,14 +158,14 @@ module _ (head : List ℕ) (part : ℕ → List ℕ) (l₀ : Lent) (ws₀ : List
       Chain head part l₀ n t l → StepCall (part n) t l s l′ turn → Taken s → With n t l → With (suc n) (s .tally) l′
   goes-on {t = t} {s = s} d step h so-far =
       let words = ap (λ (k : Taking). words-left k (s .tally) (with-words t ws₀)) h in
-      took so-far (step-calls (chain-held d ws₀) step (sym (ap taking-number h), sym words))
+      took so-far (step-calls (chain-held d ws₀) step (sym (ap taking-said h), sym words))
 
   stays :
-      {n : ℕ} {t : Tally} {l l′ : Lent} {s : Step} {turn : Turn} {p : List ℕ} {why : Refusal} →
+      {n : ℕ} {t : Tally} {l l′ : Lent} {s : Step} {turn : Turn} {p : List ℕ} {why : Located} →
       Chain head part l₀ n t l → StepCall p t l s l′ turn → Refused s why → With n t l → With n (s .tally) l′
   stays {t = t} {s = s} {why = why} d step h so-far =
       let words = ap (λ (k : Taking). words-left k (s .tally) (with-words t ws₀)) h in
-      rw (refused-stays step h) (refused-record so-far (step-calls (chain-held d ws₀) step (sym (ap taking-number h), sym words)) (refusal-numbered why))
+      rw (refused-stays step h) (refused-record so-far (step-calls (chain-held d ws₀) step (sym (ap taking-said h), sym words)) (said-some why))
 
   pub chain-words : {n : ℕ} {t : Tally} {l : Lent} → Chain head part l₀ n t l → WordsChain head part l₀ ws₀ n (with-words t ws₀) l
   chain-words (below.begun {t} p) = begun (contents-opened head ws₀ long (o.the-variants.Taken t) (p .reply) refl refl)

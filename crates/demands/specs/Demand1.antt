@@ -3,7 +3,8 @@ use mathlib.Core.Path.{_≡_}
 use mathlib.Core.List.{List}
 use Prim.Native.Nat.{ℕ}
 use Rattle.rules.specs.declared.Refusal.{Refusal}
-use Rattle.rules.specs.Refusals.{taken, refused, number}
+use Rattle.rules.specs.declared.Located.{Located}
+use Rattle.rules.specs.Refusals.{taken, refused}
 use Rattle.rules.specs.Book.{Book}
 use Rattle.rules.specs.WholeBook.{book}
 use Rattle.interval.specs.declared.Tally.{Tally}
@@ -16,11 +17,12 @@ use Rattle.answer.specs.declared.Answer.{Answer}
 use Rattle.answer.specs.declared.Answered.{Answered}
 use Rattle.answer.specs.declared.Answered.the-variants.{Given, Refused}
 use Rattle.answer.specs.Promises.{Columns}
+use Rattle.dullavane.specs.Words.{said}
 use Rattle.demands.specs.WordsChain.{Turn}
 use Rattle.demands.specs.WordsCalls.{StepCall}
 
 -- ---- a call that takes a record, with any tally t, any bytes p and any lists l: 'an answer or a numbered refusal'. The record is taken, or the refusal stands
--- beside the tally as it came, and no list is written
+-- beside the tally as it came, with its number, the place of the record that was to be taken, and t, and no list is written
 pub data Outcome (t : Tally) (l : Lent) (r : Step) (l′ : Lent) : Type 0 where
   takes : Taken r → Outcome t l r l′
   refuses : (why : Refusal) → r ≡ refused-step t why → l′ ≡ l → Outcome t l r l′
@@ -38,13 +40,13 @@ pub data AnswerOutcome (old : Columns) (r : Answered) (new : Columns) : Type 0 w
   gives : (a : Answer) → r ≡ Given a → AnswerOutcome old r new
   refuses : (why : Refusal) → r ≡ Refused why → new ≡ old → AnswerOutcome old r new
 
--- ---- a call from C on any words: 0, or the number of a refusal, and then words and lists are as they came
+-- ---- a call from C on any words: 0, or a refusal with number, place and t, and then words and lists are as they came
 pub data WordsOutcome (ws : List ℕ) (l : Lent) (r : ℕ) (ws′ : List ℕ) (l′ : Lent) : Type 0 where
   takes : r ≡ 0 → WordsOutcome ws l r ws′ l′
-  refuses : (why : Refusal) → r ≡ number why → ws′ ≡ ws → l′ ≡ l → WordsOutcome ws l r ws′ l′
+  refuses : (why : Located) → r ≡ said why → ws′ ≡ ws → l′ ≡ l → WordsOutcome ws l r ws′ l′
 
 -- ---- 'a book of arbitrary bytes': handed on whole or cut, with whatever refused calls in between, the calls take it to its end where the format takes it, and
 -- meet the refusal of the format where it does not
 pub data BookOutcome (bs head : List ℕ) (part : ℕ → List ℕ) (l₀ : Lent) : Type 0 where
   takes : (b : Book) → book bs ≡ taken b → Takes head part l₀ (records-in head) → BookOutcome bs head part l₀
-  refuses : (why : Refusal) → book bs ≡ refused why → Meets head part l₀ why → BookOutcome bs head part l₀
+  refuses : (why : Located) → book bs ≡ refused why → Meets head part l₀ why → BookOutcome bs head part l₀

@@ -2,8 +2,8 @@
 use mathlib.Core.Path.{_≡_}
 use mathlib.Core.List.{List}
 use Prim.Native.Nat.{ℕ, _≤_, _<_}
-use Rattle.rules.specs.declared.Refusal.{Refusal}
-use Rattle.rules.specs.Refusals.{taken, number}
+use Rattle.rules.specs.declared.Located.{Located}
+use Rattle.rules.specs.Refusals.{taken}
 use Rattle.rules.specs.Book.{Book}
 use Rattle.rules.specs.WholeBook.{book}
 use Rattle.interval.specs.declared.Tally.{Tally}
@@ -13,11 +13,12 @@ use Rattle.chain.specs.BookWay.{records-in}
 use Rattle.chain.specs.Keeps.{BookMeans}
 use Rattle.chain.specs.Spelled.{spelled}
 use Rattle.answer.specs.BookAnswered.{Asks}
+use Rattle.dullavane.specs.Words.{said}
 use Rattle.dullavane.specs.Promises.{ContentsCalled}
 use Rattle.demands.specs.WordsChain.{Turn, Due, WordsCall, WordsChain}
 use Rattle.demands.specs.WordsAnswer.{WordsAnswers}
 
--- ---- how far the C calls go, and which number they meet, on every chain, whatever was refused before
+-- ---- how far the C calls go, and which refusal they meet, on every chain, whatever was refused before
 module _ (head : List ℕ) (part : ℕ → List ℕ) (l₀ : Lent) (ws₀ : List ℕ) where
   -- they take all records before record m: the call for the next of them returns 0, so that one comes to m
   pub record WordsTakes (m : ℕ) : Type 0 where
@@ -26,18 +27,18 @@ module _ (head : List ℕ) (part : ℕ → List ℕ) (l₀ : Lent) (ws₀ : List
         WordsCall (part n) ws l r ws′ l′ turn → r ≡ 0
     pub there : (ws : List ℕ) × (l : Lent) × WordsChain head part l₀ ws₀ m ws l
 
-  -- and refuse that one with its number, leaving words and lists as they came; so no chain comes further
-  pub record WordsStops (why : Refusal) (m : ℕ) : Type 0 where
+  -- and refuse that one with number, place and t, leaving words and lists as they came; so no chain comes further
+  pub record WordsStops (why : Located) (m : ℕ) : Type 0 where
     pub inside : m < records-in head
     pub before : WordsTakes m
     pub refuses :
         {r : ℕ} {ws ws′ : List ℕ} {l l′ : Lent} {turn : Turn} → WordsChain head part l₀ ws₀ m ws l → Due (counts-in head) m turn →
-        WordsCall (part m) ws l r ws′ l′ turn → (r ≡ number why) × (ws′ ≡ ws) × (l′ ≡ l)
+        WordsCall (part m) ws l r ws′ l′ turn → (r ≡ said why) × (ws′ ≡ ws) × (l′ ≡ l)
     pub furthest : {n : ℕ} {ws : List ℕ} {l : Lent} → WordsChain head part l₀ ws₀ n ws l → n ≤ m
 
-  -- the number that they meet, of the table of contents or of a record
-  pub data WordsMeets (why : Refusal) : Type 0 where
-    at-contents : ContentsCalled head ws₀ (number why) ws₀ → WordsMeets why
+  -- the refusal that they meet, of the table of contents or of a record
+  pub data WordsMeets (why : Located) : Type 0 where
+    at-contents : ContentsCalled head ws₀ (said why) ws₀ → WordsMeets why
     at-record : {m : ℕ} → WordsStops why m → WordsMeets why
 
 -- at the chain's end

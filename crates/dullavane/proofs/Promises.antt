@@ -5,7 +5,7 @@ use Prim.Native.Nat.{ℕ, _≤_, _<_}
 use borrow.Author.Tests.{le-leb, lt-leb}
 use lib.ListN.{length}
 use Rattle.rules.specs.declared.Refusal.the-variants.{TooShort}
-use Rattle.rules.specs.Refusals.{Reply, taken, refused, number}
+use Rattle.rules.specs.Refusals.{Reply, taken, refused, located, at}
 use Rattle.rules.specs.Contents.{Counts, contents}
 use Rattle.interval.specs.declared.Tally.{Tally}
 use Rattle.interval.specs.declared.Opened.{Opened}
@@ -14,7 +14,7 @@ use Rattle.interval.specs.Lent.{Lent}
 use Rattle.interval.specs.Calls.{fresh, opened, left}
 use Rattle.interval.proofs.Promises.{settings-only, frequency-only, unit-only, requirement-only}
 use Rattle.dullavane.proofs.Called.{called-only, alone-only}
-use Rattle.dullavane.specs.Words.{tally-words, with-words, held, reply-number, told, words-after}
+use Rattle.dullavane.specs.Words.{tally-words, with-words, held, said, reply-said, told, words-after}
 use Rattle.dullavane.specs.Promises.{ContentsCalled, FrequencyCalled, RequirementCalled, SettingsCalled, UnitCalled}
 
 pub dullavane-contents-only : {part ws : List ℕ} {r r₂ : ℕ} {ws′ ws₂ : List ℕ} → ContentsCalled part ws r ws′ → ContentsCalled part ws r₂ ws₂ →
@@ -27,18 +27,18 @@ opened-reply (Taken t) = taken t
 opened-reply (Refused r) = refused r
 
 module _ (part ws : List ℕ) where
-  pub contents-short : length ws < tally-words → {r : ℕ} → r ≡ number TooShort → ContentsCalled part ws r ws
+  pub contents-short : length ws < tally-words → {r : ℕ} → r ≡ said (located 0 TooShort) → ContentsCalled part ws r ws
   contents-short short e = let l = lt-leb tally-words (length ws) short in record { reply = e ∙ rw l; tally = rw l }
 
   pub contents-opened : tally-words ≤ length ws → (opening : Opened) {r : ℕ} {ws′ : List ℕ} → opening ≡ opened (contents part) →
-      r ≡ reply-number (opened-reply opening) → ws′ ≡ left with-words (opened-reply opening) ws → ContentsCalled part ws r ws′
+      r ≡ reply-said (at 0 (opened-reply opening)) → ws′ ≡ left with-words (opened-reply opening) ws → ContentsCalled part ws r ws′
   contents-opened long opening e told left-in =
       let l = le-leb tally-words (length ws) long in
-      record { reply = told ∙ rw (e, l) (same-number (contents part)); tally = left-in ∙ rw (e, l) (same-words (contents part)) }
+      record { reply = told ∙ rw (e, l) (same-said (contents part)); tally = left-in ∙ rw (e, l) (same-words (contents part)) }
     where
-      same-number : (y : Reply Counts) → reply-number (opened-reply (opened y)) ≡ reply-number y
-      same-number (taken c) = refl
-      same-number (refused r) = refl
+      same-said : (y : Reply Counts) → reply-said (at 0 (opened-reply (opened y))) ≡ reply-said (at 0 y)
+      same-said (taken c) = refl
+      same-said (refused r) = refl
 
       same-words : (y : Reply Counts) → left with-words (opened-reply (opened y)) ws ≡ left (λ c. with-words (fresh c)) y ws
       same-words (taken c) = refl

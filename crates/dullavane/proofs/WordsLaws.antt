@@ -1,17 +1,20 @@
 -- Laws of the definitions in specs/Words.antt.
-use mathlib.Core.Path.{_≡_, refl, sym, _∙_, ap}
+use mathlib.Core.Path.{_≡_, refl, sym, _∙_, ap, subst}
 use mathlib.Core.Bool.{Bool, true, false}
 use mathlib.Core.List.{List, [], _∷_}
-use Prim.Native.Nat.{ℕ, _≤_, _<_}
+use Prim.Native.Nat.{ℕ, _*_, _/_, _%_, _≤_, _<_}
 use native.Mathlib.Omega.{arith}
 use lib.Dec.{leb, ltb}
 use lib.ListN.{length, getD, set, drop}
 use borrow.Author.Tests.{leb-true, ltb-true, lt-ltb}
 use Rattle.integers.specs.Sums.{both}
 use Rattle.rules.specs.declared.Refusal.the-variants.{WrongState, TooShort}
-use Rattle.rules.specs.Refusals.{taken, unless}
+use Rattle.rules.specs.declared.Refusal.{Refusal}
+use Rattle.rules.specs.declared.Located.{Located}
+use Rattle.rules.specs.Refusals.{taken, refused, number, point, located, unless}
+use Rattle.laws.proofs.RefusalLaws.{tellable}
 use Rattle.interval.specs.declared.Taking as k
-use Rattle.dullavane.specs.Words.{Held, Narrow, held, reply-number, tally-of, tally-words, words-fit}
+use Rattle.dullavane.specs.Words.{Held, Narrow, held, reply-number, said, tally-of, tally-words, words-fit}
 
 pub narrowed : (ws : List ℕ) → words-fit ws ≡ true → Narrow ws
 unfolding words-fit
@@ -61,6 +64,29 @@ held-means ws e none =
     go true true l n e = record { long = leb-true _ _ l; narrow = narrowed ws n; tally = held-by ws l n }
     go true false l n e = absurd (omega arith)
     go false y l n e = absurd (omega arith)
+
+-- ---- a refusal in one number: no refusal is told as 0, and the header's macros take it apart
+pub said-some : (r : Located) → 0 < said r
+said-some r = omega (arith, tellable (r .refusal) .some)
+
+pub record Apart (r : Located) : Type 0 where
+  pub number-told : said r % 0x1_0000_0000 ≡ number (r .refusal)
+  pub place-told : said r / 0x1_0000_0000 % 0x1_0000 ≡ r .place
+  pub point-told : said r / 0x1_0000_0000_0000 ≡ point (r .refusal)
+
+pub told-apart : (r : Located) → r .place < 0x1_0000 → Apart r
+told-apart r h =
+    let few = tellable (r .refusal) .few in
+    record { number-told = omega (arith, few, h); place-told = omega (arith, few, h); point-told = omega (arith, few, h) }
+
+-- words that hold no tally have no place to tell
+pub unheld-said : (ws : List ℕ) (x : Refusal) → held ws ≡ refused x → number x ≡ said (located 0 x)
+unheld-said ws x e = go (leb tally-words (length ws)) (words-fit ws) (sym (held-by ws refl refl) ∙ e)
+  where
+    go : (a b : Bool) → unless a TooShort (unless b WrongState (taken (tally-of ws))) ≡ refused x → number x ≡ said (located 0 x)
+    go true true f = let z : _≡_ {A = ℕ} 0 1 = cc in absurd (omega arith)
+    go true false f = let s : WrongState ≡ x = cc in subst (λ (x : Refusal). number x ≡ said (located 0 x)) s refl
+    go false b f = let s : TooShort ≡ x = cc in subst (λ (x : Refusal). number x ≡ said (located 0 x)) s refl
 
 -- eight stores in a row
 pub eight-stores : (ws : List ℕ) (a b c d e f g h : ℕ) → 8 ≤ length ws → set (set (set (set (set (set (set (set ws 0 a) 1 b) 2 c) 3 d) 4 e) 5 f) 6 g) 7 h ≡

@@ -5,20 +5,20 @@ use Prim.Native.Nat.{ℕ}
 use lib.Dec.{leb}
 use lib.ListN.{length}
 use Rattle.rules.specs.declared.Refusal.the-variants.{TooShort}
-use Rattle.rules.specs.Refusals.{Reply, unless}
+use Rattle.rules.specs.Refusals.{Reply, at, unless}
 use Rattle.rules.specs.Contents.{Counts, contents}
 use Rattle.interval.specs.Lent.{Lent}
 use Rattle.interval.specs.Calls.{fresh, left}
 use Rattle.interval.specs.Promises.{SettingsPromise, FrequencyPromise, UnitPromise, RequirementPromise}
 use Rattle.dullavane.specs.Called.{Called}
-use Rattle.dullavane.specs.Words.{tally-words, with-words, held, reply-number, told, words-after}
+use Rattle.dullavane.specs.Words.{tally-words, with-words, held, reply-said, told, words-after}
 
--- ---- contents: a tally of the counts that the table announces, where there are eight words for it
+-- ---- contents: a tally of the counts that the table announces, where there are eight words for it; what it refuses has no place
 abbrev pub contents-reply : List ℕ → List ℕ → Reply Counts
 contents-reply part ws = unless (leb tally-words (length ws)) TooShort (contents part)
 
 pub record ContentsCalled (part ws : List ℕ) (r : ℕ) (ws′ : List ℕ) : Type 0 where
-  pub reply : r ≡ reply-number (contents-reply part ws)
+  pub reply : r ≡ reply-said (at 0 (contents-reply part ws))
   pub tally : ws′ ≡ left (λ c. with-words (fresh c)) (contents-reply part ws) ws
 
 -- ---- calls that lend nothing but the tally's words

@@ -3,11 +3,12 @@
 use mathlib.Core.Path.{_≡_}
 use mathlib.Core.Bool.{Bool, _&&_}
 use mathlib.Core.List.{List, [], _∷_, _++_}
-use Prim.Native.Nat.{ℕ, _≤_, _<_}
+use Prim.Native.Nat.{ℕ, _+_, _*_, _≤_, _<_}
 use lib.Dec.{leb, ltb}
 use lib.ListN.{length, getD, drop}
 use Rattle.rules.specs.declared.Refusal.the-variants.{WrongState, TooShort}
-use Rattle.rules.specs.Refusals.{Reply, taken, refused, unless, number}
+use Rattle.rules.specs.declared.Located.{Located}
+use Rattle.rules.specs.Refusals.{Reply, LocatedReply, taken, refused, unless, number, point}
 use Rattle.interval.specs.declared.Tally.{Tally}
 use Rattle.interval.specs.declared.Step.{Step}
 use Rattle.interval.specs.declared.Taking as k
@@ -56,13 +57,22 @@ abbrev pub reply-number : {A : Type 0} → Reply A → ℕ
 reply-number (taken a) = 0
 reply-number (refused r) = number r
 
--- ---- after a step: 0 or the refusal's number, and the next tally's words or the words as they came
-abbrev pub taking-number : k.Taking → ℕ
-taking-number k.the-variants.Taken = 0
-taking-number (k.the-variants.Refused r) = number r
+-- ---- where a refusal is, in one number of 64 bits: its number in bits 0 to 31, the place in bits 32 to 47, t in bits 48 to 63 (02, R-1)
+abbrev pub said : Located → ℕ
+said r = number (r .refusal) + r .place * 0x1_0000_0000 + point (r .refusal) * 0x1_0000_0000_0000
+
+-- 0, or the refusal
+abbrev pub reply-said : {A : Type 0} → LocatedReply A → ℕ
+reply-said (taken a) = 0
+reply-said (refused r) = said r
+
+-- ---- after a step: 0 or the refusal, and the next tally's words or the words as they came
+abbrev pub taking-said : k.Taking → ℕ
+taking-said k.the-variants.Taken = 0
+taking-said (k.the-variants.Refused r) = said r
 
 abbrev pub told : Step → ℕ
-told s = taking-number (s .taking)
+told s = taking-said (s .taking)
 
 abbrev pub words-left : k.Taking → Tally → List ℕ → List ℕ
 words-left k.the-variants.Taken t ws = with-words t ws

@@ -1,5 +1,5 @@
 // dullavane: the calls as the firmware makes them from C. Only numbers and lists cross over; the tally stands in eight lent words. A call answers 0, or the
-// number of the refusal, and then nothing lent has changed.
+// refusal, the calls that take a book with its place and t, and then nothing lent has changed.
 ghost use Rattle.interval.specs.Lent.{Lent, lent-frequency, lent-unit, lent-answer, lent-member};
 ghost use Rattle.answer.specs.Promises.{columns};
 ghost use Rattle.dullavane.specs.Answers.{AnswerCalled};
@@ -19,6 +19,7 @@ use interval::contents::contents;
 use interval::requirement::requirement;
 use interval::settings::settings;
 use rules::Refusal;
+use rules::locate;
 use rules::refusal_number;
 use sheets::sheet;
 use units::unit::unit;
@@ -38,6 +39,7 @@ use weeks::running::add;
 use weeks::running::read;
 use words::TALLY_WORDS;
 use words::put_words;
+use words::said;
 use words::tally_in;
 use words::tell;
 use words::words_refusal;
@@ -55,11 +57,11 @@ const REPLY_WORDS: usize = 8;
 
 // Starts a tally. Refuses 12 for fewer than eight words, then 1, 2, 3 and 5.
 #[no_mangle]
-pub extern "C" fn dullavane_contents(part: &[u8], tally: &mut [u32]) -> u32
+pub extern "C" fn dullavane_contents(part: &[u8], tally: &mut [u32]) -> u64
     ensures { λ r. ⌜ ContentsCalled (now (part .entry)) (now (tally .entry)) r (now (tally .exit)) ⌝ }
 {
     if tally.len() < TALLY_WORDS {
-        return refusal_number(Refusal::TooShort);
+        return said(locate(0, Refusal::TooShort));
     }
     let opened = contents(part);
     match opened {
@@ -67,23 +69,23 @@ pub extern "C" fn dullavane_contents(part: &[u8], tally: &mut [u32]) -> u32
             put_words(fresh, tally);
             0
         }
-        Opened::Refused(refusal) => refusal_number(refusal),
+        Opened::Refused(refusal) => said(locate(0, refusal)),
     }
 }
 
 // Takes the settings. Refuses 12 for the tally's words, 11, then 1 and 6.
 #[no_mangle]
-pub extern "C" fn dullavane_settings(tally: &mut [u32], part: &[u8]) -> u32
+pub extern "C" fn dullavane_settings(tally: &mut [u32], part: &[u8]) -> u64
     ensures { λ r. ⌜ SettingsCalled (now (tally .entry)) (now (part .entry)) r (now (tally .exit)) ⌝ }
 {
     let refusal = words_refusal(tally);
     if refusal != 0 {
-        return refusal;
+        return refusal as u64;
     }
     tell(settings(tally_in(tally), part), tally)
 }
 
-// Takes the frequency record of the next region. Refuses 12 for the tally's words, 11, 12, then 1 and 7.
+// Takes the frequency record of the next region. Refuses 12 for the tally's words, 11, 12, then 1 and 71 to 74.
 #[no_mangle]
 pub extern "C" fn dullavane_frequency(
     tally: &mut [u32],
@@ -91,7 +93,7 @@ pub extern "C" fn dullavane_frequency(
     measures: &mut [i32],
     sums: &mut [i64],
     figures: &mut [i64],
-) -> u32
+) -> u64
     ensures { λ r. ⌜
         ((rest : Lent) → FrequencyCalled (now (tally .entry)) (now (part .entry))
         (lent-frequency rest (now (measures .entry)) (now (sums .entry)) (now (figures .entry))) r (now (tally .exit))
@@ -100,13 +102,13 @@ pub extern "C" fn dullavane_frequency(
 {
     let refusal = words_refusal(tally);
     if refusal != 0 {
-        return refusal;
+        return refusal as u64;
     }
     let step = frequency(tally_in(tally), part, measures, sums, figures);
     tell(step, tally)
 }
 
-// Takes a unit. Refuses 12 for the tally's words, 11, 12, 11 for lent numbers, then 1, 8 and 9.
+// Takes a unit. Refuses 12 for the tally's words, 11, 12, 11 for lent numbers, then 1, 81 to 84 and 9.
 #[no_mangle]
 pub extern "C" fn dullavane_unit(
     tally: &mut [u32],
@@ -117,7 +119,7 @@ pub extern "C" fn dullavane_unit(
     numbers: &mut [u16],
     homes: &mut [u8],
     rows: &mut [i64],
-) -> u32
+) -> u64
     ensures { λ r. ⌜
         UnitCalled (now (tally .entry)) (now (part .entry))
         (lent-unit (now (measures .entry)) (now (sums .entry)) (now (figures .entry)) (now (numbers .entry)) (now (homes .entry)) (now (rows .entry))) r
@@ -127,7 +129,7 @@ pub extern "C" fn dullavane_unit(
 {
     let refusal = words_refusal(tally);
     if refusal != 0 {
-        return refusal;
+        return refusal as u64;
     }
     let step = unit(
         tally_in(tally),
@@ -144,12 +146,12 @@ pub extern "C" fn dullavane_unit(
 
 // Takes a requirement. Refuses 12 for the tally's words, 11, then 1 and 10, then, with the last one, 4.
 #[no_mangle]
-pub extern "C" fn dullavane_requirement(tally: &mut [u32], part: &[u8]) -> u32
+pub extern "C" fn dullavane_requirement(tally: &mut [u32], part: &[u8]) -> u64
     ensures { λ r. ⌜ RequirementCalled (now (tally .entry)) (now (part .entry)) r (now (tally .exit)) ⌝ }
 {
     let refusal = words_refusal(tally);
     if refusal != 0 {
-        return refusal;
+        return refusal as u64;
     }
     tell(requirement(tally_in(tally), part), tally)
 }

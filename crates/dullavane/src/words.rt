@@ -4,13 +4,15 @@ ghost use mathlib.Core.Bool.{_&&_};
 ghost use Prim.Native.Nat.{_≤_};
 ghost use lib.Dec.{ltb};
 ghost use lib.ListN.{length};
-ghost use Rattle.dullavane.specs.Words.{held, with-words, told, words-after, words-fit, Held, reply-number};
+ghost use Rattle.dullavane.specs.Words.{held, with-words, said, told, words-after, words-fit, Held, reply-number};
 ghost use Rattle.rules.specs.Refusals.{taken};
 use interval::Step;
 use interval::Taking;
 use interval::Tally;
+use rules::Located;
 use rules::Refusal;
 use rules::refusal_number;
+use rules::refusal_point;
 
 pub(crate) const TALLY_WORDS: usize = 8;
 
@@ -86,8 +88,18 @@ pub(crate) fn put_words(tally: Tally, words: &mut [u32])
     words[7] = tally.interval;
 }
 
-// The number of a step, with its tally in the words where the record was taken.
-pub(crate) fn tell(step: Step, words: &mut [u32]) -> u32
+// A refusal and where it is: its number in bits 0 to 31, the place in bits 32 to 47, t in bits 48 to 63.
+pub(crate) fn said(refused: Located) -> u64
+    ensures { λ r. ⌜ r ≡ said refused ⌝ }
+{
+    let refusal = refused.refusal;
+    refusal_number(refusal) as u64
+        + refused.place as u64 * 0x1_0000_0000
+        + refusal_point(refusal) as u64 * 0x1_0000_0000_0000
+}
+
+// What a step is told as, with its tally in the words where the record was taken.
+pub(crate) fn tell(step: Step, words: &mut [u32]) -> u64
     requires { ⌜ 8 ≤ length (now words) ⌝ }
     ensures { λ r. ⌜ (r ≡ told step) × (now (words .exit) ≡ words-after step (now (words .entry))) ⌝ }
 {
@@ -98,6 +110,6 @@ pub(crate) fn tell(step: Step, words: &mut [u32]) -> u32
             put_words(next, words);
             0
         }
-        Taking::Refused(refusal) => refusal_number(refusal),
+        Taking::Refused(refused) => said(refused),
     }
 }

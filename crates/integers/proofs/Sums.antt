@@ -1,6 +1,6 @@
 -- Laws of the definitions in specs/Sums.antt.
 use mathlib.Core.Path.{_≡_, refl, sym, _∙_, ap, ap₂, subst}
-use mathlib.Core.Bool.{Bool, true, false, _&&_}
+use mathlib.Core.Bool.{Bool, true, false, cond, _&&_, false≢true}
 use Prim.Native.Nat.{ℕ, zero, suc, _+_, _*_, _≤_, _<_, max}
 use native.Mathlib.Numerals.{add-one}
 use native.Mathlib.Nat.{add-mul, mul-add}
@@ -13,7 +13,7 @@ use Rattle.integers.proofs.Pairs.{add-is}
 use Rattle.integers.proofs.Order.{*ℤ-+ℤ, +ℤ-cross}
 use Rattle.integers.specs.Bounds.{Within}
 use Rattle.integers.proofs.Bounds.{within-natural, within-sum, within-wider, abs-add}
-use Rattle.integers.specs.Sums.{both, count, every, largest, one, sum, sumℕ, when}
+use Rattle.integers.specs.Sums.{both, count, every, first-wrong, largest, one, sum, sumℕ, when}
 
 -- ---- one turn of a loop: the code's n + 1 is the definitions' suc n
 pub sum-step : (n : ℕ) (f : ℕ → ℤ) → sum (n + 1) f ≡ sum n f +ℤ f n
@@ -340,3 +340,58 @@ count-below n i p h = go n h
             let l : i ≤ n = leb-true i n e in
             rw (le-ltb n i l) (omega (arith, ih l, and-false (p n)))
         by ih false e = let q : suc n ≡ i = omega (arith, leb-false i n e) in ap (λ (m : ℕ). count m (λ j. p j && ltb j i)) q ∙ same
+
+-- ---- the first at which a test fails
+module _ (fine : ℕ → Bool) where
+  pub none-wrong : (n : ℕ) → every n fine ≡ true → first-wrong fine n ≡ 0
+  unfolding first-wrong every
+  none-wrong zero e = refl
+  none-wrong (suc n) e = let b = both (every n fine) (fine n) e in rw (b .0, b .1)
+
+  pub first-wrong-is : (n i : ℕ) → i < n → every i fine ≡ true → fine i ≡ false → first-wrong fine n ≡ suc i
+  unfolding first-wrong
+  first-wrong-is zero i h e f = absurd (omega arith)
+  first-wrong-is (suc n) i h e f = go (λ l. first-wrong-is n i l e f) (eqb i n) refl
+    where
+      go : (i < n → first-wrong fine n ≡ suc i) → (t : Bool) → eqb i n ≡ t → cond (every n fine) (cond (fine n) 0 (suc n)) (first-wrong fine n) ≡ suc i
+      go ih true g = let z = eqb-true i n g in rw (← z, e, f)
+      go ih false g =
+          let l : i < n = less i n h (eqb-false i n g) in
+          rw (every-fails n fine i l f) (ih l)
+        where
+          less : (i n : ℕ) → i < suc n → (i ≡ n → ⊥) → i < n
+          less i n h d = omega arith
+
+  -- it is one of them, and is wrong while all before it are right
+  pub record FirstWrong (n k : ℕ) : Type 0 where
+    pub member : ℕ
+    pub from-one : k ≡ suc member
+    pub among : member < n
+    pub before : every member fine ≡ true
+    pub wrong : fine member ≡ false
+
+  pub first-wrong-means : (n : ℕ) → every n fine ≡ false → FirstWrong n (first-wrong fine n)
+  unfolding first-wrong every
+  first-wrong-means zero e = absurd (false≢true (sym e))
+  first-wrong-means (suc n) e = go (first-wrong-means n) (every n fine) refl e
+    where
+      go : (every n fine ≡ false → FirstWrong n (first-wrong fine n)) →
+          (t : Bool) → every n fine ≡ t → t && fine n ≡ false → FirstWrong (suc n) (cond t (cond (fine n) 0 (suc n)) (first-wrong fine n))
+      go ih true g w = record { member = n; from-one = rw w; among = omega arith; before = g; wrong = w }
+      go ih false g w =
+          let m = ih g in
+          record { member = m .member; from-one = m .from-one; among = omega (arith, m .among); before = m .before; wrong = m .wrong }
+
+-- there is none exactly where the test holds at all
+pub first-wrong-tells : (n : ℕ) (p : ℕ → Bool) → every n p ≡ eqb (first-wrong p n) 0
+first-wrong-tells n p = go (every n p) refl
+  where
+    go : (t : Bool) → every n p ≡ t → t ≡ eqb (first-wrong p n) 0
+    go true e = rw (none-wrong p n e)
+    go false e = sym (ne-eqb (first-wrong p n) 0 (λ z. omega (arith, first-wrong-means p n e .from-one)))
+
+pub first-wrong-ext : (n : ℕ) (p q : ℕ → Bool) → ((i : ℕ) → i < n → p i ≡ q i) → first-wrong p n ≡ first-wrong q n
+unfolding first-wrong
+first-wrong-ext zero p q e = refl
+first-wrong-ext (suc n) p q e =
+    rw (every-ext n p q (λ i h. e i (omega arith)), e n (omega arith), first-wrong-ext n p q (λ i h. e i (omega arith)))

@@ -25,6 +25,11 @@ unfoldable pub every : ℕ → (ℕ → Bool) → Bool
 every zero p = true
 every (suc n) p = every n p && p n
 
+-- the first of so many at which a test fails, from 1; 0 where there is none
+unfoldable pub first-wrong : (ℕ → Bool) → ℕ → ℕ
+first-wrong p zero = 0
+first-wrong p (suc n) = cond (every n p) (cond (p n) 0 (suc n)) (first-wrong p n)
+
 unfoldable pub largest : ℕ → (ℕ → ℕ) → ℕ
 largest zero f = 0
 largest (suc n) f = max (largest n f) (f n)

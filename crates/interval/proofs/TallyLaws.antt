@@ -1,15 +1,26 @@
--- Laws of the tally: what a tally in range keeps to, and how many units were taken at a unit's turn.
+-- Laws of the tally: what a tally in range keeps to, how many units were taken at a unit's turn, and the place of a record in its body.
 use mathlib.Core.Path.{_≡_, refl, sym, _∙_}
 use mathlib.Core.Bool.{Bool, true, false, _&&_, _||_}
-use Prim.Native.Nat.{ℕ, _+_, _-_, _≤_, _<_}
+use Prim.Native.Nat.{ℕ, suc, _+_, _-_, _≤_, _<_}
 use native.Mathlib.Omega.{arith}
 use lib.Dec.{leb, ltb}
 use borrow.Author.Tests.{leb-true, ltb-true, ltb-false, lt-ltb, le-ltb, ne-eqb}
 use Rattle.integers.specs.Sums.{both}
-use Rattle.rules.specs.Quantities.{most-units, most-requirements}
+use Rattle.rules.specs.Quantities.{regions, most-units, most-requirements}
 use Rattle.laws.proofs.Limits.{SettingsFit}
 use Rattle.interval.specs.declared.Tally.{Tally}
-use Rattle.interval.specs.Tally.{settings-of, before-units, units-end, book-end, most-records, settings-kept, in-range, frequency-turn, requirement-turn}
+use Rattle.interval.specs.Tally.{
+  settings-of,
+  before-units,
+  units-end,
+  book-end,
+  most-records,
+  record-place,
+  settings-kept,
+  in-range,
+  frequency-turn,
+  requirement-turn,
+}
 
 pub record InRange (t : Tally) : Type 0 where
   pub units : t .units ≤ most-units
@@ -85,3 +96,23 @@ frequency-comes t e =
     let ends = both (leb 1 (t .records)) (ltb (t .records) before-units) (turn .1) in
     let some = leb-true _ _ (ends .0) in
     record { some = some; few = ltb-true _ _ (ends .1); settings = settings-stay t (turn .0) some }
+
+-- ---- the place of record m in its body
+module _ (units m : ℕ) where
+  pub settings-placed : m ≡ 0 → record-place units m ≡ 1
+  unfolding record-place
+  settings-placed e = rw e
+
+  pub frequency-placed : (i : ℕ) → m ≡ suc i → i < regions → record-place units m ≡ suc i
+  unfolding record-place
+  frequency-placed i e h = rw (le-ltb m 1 (omega arith), lt-ltb m before-units (omega arith)) e
+
+  pub unit-placed : (i : ℕ) → m ≡ before-units + i → i < units → record-place units m ≡ 1 + i
+  unfolding record-place
+  unit-placed i e h =
+      rw (le-ltb m 1 (omega arith), le-ltb m before-units (omega arith), lt-ltb (m - before-units) units (omega arith)) (omega arith)
+
+  pub requirement-placed : (j : ℕ) → m ≡ before-units + units + j → record-place units m ≡ 1 + j
+  unfolding record-place
+  requirement-placed j e =
+      rw (le-ltb m 1 (omega arith), le-ltb m before-units (omega arith), le-ltb (m - before-units) units (omega arith)) (omega arith)

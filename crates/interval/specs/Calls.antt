@@ -7,7 +7,8 @@ use lib.Dec.{eqb, leb, ltb}
 use lib.ListN.{length}
 use Rattle.rules.specs.declared.Refusal.{Refusal}
 use Rattle.rules.specs.declared.Refusal.the-variants.{WrongState, TooShort}
-use Rattle.rules.specs.Refusals.{Reply, taken, refused, unless}
+use Rattle.rules.specs.declared.Located.{Located}
+use Rattle.rules.specs.Refusals.{Reply, taken, refused, unless, located}
 use Rattle.rules.specs.Book.{Settings, Region, Unit, Requirement}
 use Rattle.rules.specs.Contents.{Counts}
 use Rattle.rules.specs.SettingsRecord.{settings}
@@ -28,6 +29,7 @@ use Rattle.interval.specs.Tally.{
   unit-turn,
   requirement-turn,
   next-region,
+  next-place,
   units-taken,
   units-end,
   book-end,
@@ -47,8 +49,12 @@ opened (refused r) = o.the-variants.Refused r
 abbrev pub taken-step : Tally → Step
 taken-step t = record { tally = t; taking = k.the-variants.Taken }
 
+abbrev pub stopped-step : Tally → Located → Step
+stopped-step t r = record { tally = t; taking = k.the-variants.Refused r }
+
+-- a refusal names the place of the record that was to be taken
 abbrev pub refused-step : Tally → Refusal → Step
-refused-step t r = record { tally = t; taking = k.the-variants.Refused r }
+refused-step t r = stopped-step t (located (next-place t) r)
 
 abbrev pub stepped : {A : Type 0} → (A → Tally) → Reply A → Tally → Step
 stepped next (taken a) t = taken-step (next a)

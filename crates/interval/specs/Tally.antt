@@ -1,5 +1,5 @@
 -- The tally: how far a book is, and which tallies a call refuses with 11 (01, Numbers the box can say no with).
-use mathlib.Core.Bool.{Bool, _&&_, _||_}
+use mathlib.Core.Bool.{Bool, cond, _&&_, _||_}
 use Prim.Native.Nat.{ℕ, _+_, _-_}
 use lib.Dec.{eqb, leb, ltb}
 use Rattle.rules.specs.Quantities.{regions, most-units, most-requirements}
@@ -27,6 +27,17 @@ most-records = before-units + most-units + most-requirements
 -- how many units were taken, once units may be
 abbrev pub units-taken : Tally → ℕ
 units-taken t = t .records - before-units
+
+-- the place in its body, from 1, of record m of a book with so many units: the settings, five regions, the units, the requirements (02, R-1)
+unfoldable pub record-place : ℕ → ℕ → ℕ
+record-place units m =
+    cond (ltb m 1) 1
+    (cond (ltb m before-units) m
+    (cond (ltb (m - before-units) units) (m - before-units + 1) (m - before-units - units + 1)))
+
+-- of the record that comes next
+abbrev pub next-place : Tally → ℕ
+next-place t = record-place (t .units) (t .records)
 
 -- the settings keep their rule once they are taken
 abbrev pub settings-kept : Tally → Bool

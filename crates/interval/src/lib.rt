@@ -1,6 +1,7 @@
 // interval: the calculator step by step, as the firmware calls it. A book's records are handed in one by one, in its order:
 // contents, settings, five frequency records, the units, the requirements. Each call takes the tally, hands it on or back, and writes to
 // what is lent only where it refuses nothing. The calls that lend lists stand above, in `frequencies` and `units`; what they promise stands in specs/.
+use rules::Located;
 use rules::Refusal;
 
 // What the lent lists hold: of a region 75 measures, 150 sums and ten figures, the interval number first; of a unit a row of eight.
@@ -50,10 +51,10 @@ pub enum Opened {
     Refused(Refusal),
 }
 
-// A record was taken, or the refusal.
+// A record was taken, or the refusal with the record's place.
 pub enum Taking {
     Taken,
-    Refused(Refusal),
+    Refused(Located),
 }
 
 // The tally after a call: one record further, or as it came.

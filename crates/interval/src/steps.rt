@@ -1,21 +1,42 @@
 // The two ways a step ends: one record further, or the tally as it came.
 ghost use mathlib.Core.Path.{_≡_};
+ghost use Rattle.interval.specs.Tally.{next-place};
 ghost use Rattle.interval.specs.Calls.{refused-step, count-step, least-after};
 use super::Step;
 use super::Taking;
 use super::Tally;
 use super::turns::BEFORE_UNITS;
 use rules::Refusal;
+use rules::locate;
 
 // Settings, five regions, 512 units and 32 requirements.
 const MOST_RECORDS: u16 = 550;
 
+// The place in its body, from 1, of the record that comes next.
+fn next_place(tally: Tally) -> u16
+    ensures { λ r. ⌜ r ≡ next-place tally ⌝ }
+{
+    if tally.records < 1 {
+        return 1;
+    }
+    if tally.records < BEFORE_UNITS {
+        return tally.records;
+    }
+    let past = tally.records - BEFORE_UNITS;
+    if past < tally.units {
+        return past + 1;
+    }
+    past - tally.units + 1
+}
+
+// The tally as it came, and the refusal, which names the place of the record that was to be taken.
 pub fn refuse(tally: Tally, refusal: Refusal) -> Step
     ensures { λ r. ⌜ r ≡ refused-step tally refusal ⌝ }
 {
+    let place = next_place(tally);
     Step {
         tally: tally,
-        taking: Taking::Refused(refusal),
+        taking: Taking::Refused(locate(place, refusal)),
     }
 }
 

@@ -26,8 +26,6 @@ use Rattle.rules.specs.declared.Refusal.the-variants.{
   WrongCount,
   BytesFollow,
   SettingsField,
-  FrequencyField,
-  UnitField,
   UnitNotRising,
   RequirementField,
 }
@@ -48,7 +46,7 @@ use Rattle.rules.specs.Quantities.{
   unit-default-limit,
   residual-default-limit,
 }
-use Rattle.rules.specs.Refusals.{Reply, taken, refused, unless, _>>=_}
+use Rattle.rules.specs.Refusals.{ReplyOf, Reply, taken, refused, at, unless, _>>=_}
 use Rattle.rules.specs.Book.{by, ByDirection, Settings, Defaults, Region, Unit, Requirement, Book, no-region}
 use Rattle.rules.specs.Contents.{
   Counts,
@@ -74,23 +72,28 @@ use Rattle.rules.specs.WholeBook.{frequency-body, unit-body, requirement-body, 
 use Rattle.laws.proofs.Limits.{SettingsFit, DefaultFits, DefaultsFit, RegionFits, UnitFits, RequirementFits, BookFits}
 
 -- ---- what a reply that was taken went through
-never : {A B : Type 0} {r : Refusal} {a : A} → refused r ≡ taken a → B
-never {A} {B} {r} {a} e = absurd (false≢true (ap is-taken e))
+never : {R A B : Type 0} {r : R} {a : A} → _≡_ {A = ReplyOf R A} (refused r) (taken a) → B
+never {R} {A} {B} {r} {a} e = absurd (false≢true (ap is-taken e))
   where
-    is-taken : Reply A → Bool
+    is-taken : ReplyOf R A → Bool
     is-taken (taken x) = true
     is-taken (refused x) = false
 
-pub took : {A : Type 0} {a b : A} → taken a ≡ taken b → a ≡ b
+pub took : {R A : Type 0} {a b : A} → _≡_ {A = ReplyOf R A} (taken a) (taken b) → a ≡ b
 took e = cc
 
-pub passed : {A : Type 0} (test : Bool) (r : Refusal) (rest : Reply A) (a : A) → unless test r rest ≡ taken a → (test ≡ true) × (rest ≡ taken a)
+pub passed : {R A : Type 0} (test : Bool) (r : R) (rest : ReplyOf R A) (a : A) → unless test r rest ≡ taken a → (test ≡ true) × (rest ≡ taken a)
 passed true r rest a e = (refl, e)
 passed false r rest a e = never e
 
-pub went-on : {A B : Type 0} (m : Reply A) (f : A → Reply B) (b : B) → (m >>= f) ≡ taken b → (a : A) × (m ≡ taken a) × (f a ≡ taken b)
+pub went-on : {R A B : Type 0} (m : ReplyOf R A) (f : A → ReplyOf R B) (b : B) → (m >>= f) ≡ taken b → (a : A) × (m ≡ taken a) × (f a ≡ taken b)
 went-on (taken a) f b e = (a, refl, e)
 went-on (refused r) f b e = never e
+
+-- what stands at a place is taken there
+pub there : {A : Type 0} (place : ℕ) (m : Reply A) (a : A) → at place m ≡ taken a → m ≡ taken a
+there place (taken x) a e = ap taken (took e)
+there place (refused r) a e = never e
 
 -- ---- fields
 default-fits : (limit : ℕ) (x : ℤ) → default-fine limit x ≡ true → DefaultFits limit x
@@ -141,11 +144,11 @@ pub region-fits : (position : ℕ) (bs : List ℕ) (r : Region) → frequency-re
 unfolding frequency-record
 region-fits position bs r e =
     let whole = passed (leb frequency-size (length bs)) EndsEarly _ r e in
-    let header = passed (eqb (number-at 1 0 bs) position && leb (number-at 1 1 bs) 1) FrequencyField _ r (whole .1) in
-    let quality = passed (spare-bits-zero 2 bs) FrequencyField _ r (header .1) in
-    let numbers = passed (sized measure-limit (region-in bs .before) && leb (region-in bs .generation) amount-limit) FrequencyField _ r (quality .1) in
-    let defaults = passed (defaults-fine residual-default-limit (region-in bs .defaults)) FrequencyField _ r (numbers .1) in
-    let values = passed (frequencies-fine (region-in bs)) FrequencyField _ r (defaults .1) in
+    let header = passed (eqb (number-at 1 0 bs) position && leb (number-at 1 1 bs) 1) _ _ r (whole .1) in
+    let quality = passed (spare-bits-zero 2 bs) _ _ r (header .1) in
+    let numbers = passed (sized measure-limit (region-in bs .before) && leb (region-in bs .generation) amount-limit) _ _ r (quality .1) in
+    let defaults = passed (defaults-fine residual-default-limit (region-in bs .defaults)) _ _ r (numbers .1) in
+    let values = passed (frequencies-fine (region-in bs)) _ _ r (defaults .1) in
     subst RegionFits (took (values .1)) (fit (region-in bs) (numbers .0) (defaults .0) (values .0))
   where
     fit : (r : Region) → sized measure-limit (r .before) && leb (r .generation) amount-limit ≡ true →
@@ -170,10 +173,10 @@ pub unit-fits : (least : ℕ) (bs : List ℕ) (u : Unit) → unit-record least b
 unfolding unit-record
 unit-fits least bs u e =
     let whole = passed (leb unit-size (length bs)) EndsEarly _ u e in
-    let header = passed (header-fine (unit-in bs)) UnitField _ u (whole .1) in
-    let defaults = passed (defaults-fine unit-default-limit (unit-in bs .defaults)) UnitField _ u (header .1) in
-    let quality = passed (spare-bits-zero 60 bs && eqb (number-at 2 70 bs) 0) UnitField _ u (defaults .1) in
-    let values = passed (readings-fine (unit-in bs)) UnitField _ u (quality .1) in
+    let header = passed (header-fine (unit-in bs)) _ _ u (whole .1) in
+    let defaults = passed (defaults-fine unit-default-limit (unit-in bs .defaults)) _ _ u (header .1) in
+    let quality = passed (spare-bits-zero 60 bs && eqb (number-at 2 70 bs) 0) _ _ u (defaults .1) in
+    let values = passed (readings-fine (unit-in bs)) _ _ u (quality .1) in
     let rises = passed (leb least (unit-in bs .number)) UnitNotRising _ u (values .1) in
     subst UnitFits (took (rises .1)) (fit (unit-in bs) (header .0) (defaults .0) (values .0))
   where
@@ -225,37 +228,41 @@ requirement-fits least last bs q e =
         }
 
 -- ---- bodies and book
-units-fit : (n least : ℕ) (bs : List ℕ) (us : List Unit) → unit-body n least bs ≡ taken us → All UnitFits us × (length us ≡ n)
+units-fit : (n place least : ℕ) (bs : List ℕ) (us : List Unit) → unit-body n place least bs ≡ taken us → All UnitFits us × (length us ≡ n)
 unfolding unit-body All
-units-fit zero least bs us e = subst (λ (l : List Unit). All UnitFits l × (length l ≡ 0)) (took e) (tt, refl)
-units-fit (suc n) least bs us e =
-    let first = went-on (unit-record least bs) _ us e in
-    let rest = went-on (unit-body n (suc (first .0 .number)) (drop unit-size bs)) _ us (first .2) in
-    let tail = units-fit n (suc (first .0 .number)) (drop unit-size bs) (rest .0) (rest .1) in
-    subst (λ (l : List Unit). All UnitFits l × (length l ≡ suc n)) (took (rest .2)) ((unit-fits least bs (first .0) (first .1), tail .0), ap suc (tail .1))
+units-fit zero place least bs us e = subst (λ (l : List Unit). All UnitFits l × (length l ≡ 0)) (took e) (tt, refl)
+units-fit (suc n) place least bs us e =
+    let first = went-on (at place (unit-record least bs)) _ us e in
+    let rest = went-on (unit-body n (suc place) (suc (first .0 .number)) (drop unit-size bs)) _ us (first .2) in
+    let tail = units-fit n (suc place) (suc (first .0 .number)) (drop unit-size bs) (rest .0) (rest .1) in
+    subst (λ (l : List Unit). All UnitFits l × (length l ≡ suc n)) (took (rest .2))
+    ((unit-fits least bs (first .0) (there place _ (first .0) (first .1)), tail .0), ap suc (tail .1))
 
 regions-fit : (n r : ℕ) (bs : List ℕ) (rs : List Region) → frequency-body n r bs ≡ taken rs → (i : ℕ) → i < n → RegionFits (getD rs i no-region)
 unfolding frequency-body
 regions-fit zero r bs rs e i l = none-below i l
 regions-fit (suc n) r bs rs e i l =
-    let first = went-on (frequency-record r bs) _ rs e in
+    let first = went-on (at (suc r) (frequency-record r bs)) _ rs e in
     let rest = went-on (frequency-body n (suc r) (drop frequency-size bs)) _ rs (first .2) in
     subst (λ (rs : List Region). RegionFits (getD rs i no-region)) (took (rest .2))
-    (at (first .0) (rest .0) i l (region-fits r bs (first .0) (first .1)) (λ j. regions-fit n (suc r) (drop frequency-size bs) (rest .0) (rest .1) j))
+    (member (first .0) (rest .0) i l (region-fits r bs (first .0) (there (suc r) _ (first .0) (first .1)))
+    (λ j. regions-fit n (suc r) (drop frequency-size bs) (rest .0) (rest .1) j))
   where
-    at : (x : Region) (xs : List Region) (i : ℕ) → i < suc n → RegionFits x → ((j : ℕ) → j < n → RegionFits (getD xs j no-region)) →
+    member : (x : Region) (xs : List Region) (i : ℕ) → i < suc n → RegionFits x → ((j : ℕ) → j < n → RegionFits (getD xs j no-region)) →
         RegionFits (getD (x ∷ xs) i no-region)
-    at x xs zero l h t = h
-    at x xs (suc i) l h t = t i (omega arith)
+    member x xs zero l h t = h
+    member x xs (suc i) l h t = t i (omega arith)
 
-requirements-fit : (n least : ℕ) (bs : List ℕ) (qs : List Requirement) → requirement-body n least bs ≡ taken qs → All RequirementFits qs
+requirements-fit : (n place least : ℕ) (bs : List ℕ) (qs : List Requirement) → requirement-body n place least bs ≡ taken qs → All RequirementFits qs
 unfolding requirement-body All
-requirements-fit zero least bs qs e = subst (λ (l : List Requirement). All RequirementFits l) (took e) tt
-requirements-fit (suc n) least bs qs e =
-    let first = went-on (requirement-record least (eqb n 0) bs) _ qs e in
-    let rest = went-on (requirement-body n (suc (first .0 .number)) (drop requirement-size bs)) _ qs (first .2) in
-    subst (λ (l : List Requirement). All RequirementFits l) (took (rest .2))
-    (requirement-fits least (eqb n 0) bs (first .0) (first .1), requirements-fit n (suc (first .0 .number)) (drop requirement-size bs) (rest .0) (rest .1))
+requirements-fit zero place least bs qs e = subst (λ (l : List Requirement). All RequirementFits l) (took e) tt
+requirements-fit (suc n) place least bs qs e =
+    let first = went-on (at place (requirement-record least (eqb n 0) bs)) _ qs e in
+    let rest = went-on (requirement-body n (suc place) (suc (first .0 .number)) (drop requirement-size bs)) _ qs (first .2) in
+    subst (λ (l : List Requirement). All RequirementFits l) (took (rest .2)) (
+      requirement-fits least (eqb n 0) bs (first .0) (there place _ (first .0) (first .1)),
+      requirements-fit n (suc place) (suc (first .0 .number)) (drop requirement-size bs) (rest .0) (rest .1),
+    )
 
 -- the table announces at most 512 units
 entry-passed : {A : Type 0} (place kind least most start size : ℕ) (bs : List ℕ) (rest : Reply A) (a : A) →
@@ -283,17 +290,17 @@ counts-fit bs c e =
 pub book-fits : (bs : List ℕ) (b : Book) → book bs ≡ taken b → BookFits b
 unfolding book
 book-fits bs b e =
-    let counts = went-on (contents bs) _ b e in
-    let s = went-on (settings (drop contents-size bs)) _ b (counts .2) in
+    let counts = went-on (at 0 (contents bs)) _ b e in
+    let s = went-on (at 1 (settings (drop contents-size bs))) _ b (counts .2) in
     let rs = went-on (frequency-body regions 0 (drop frequency-start bs)) _ b (s .2) in
-    let us = went-on (unit-body (counts .0 .units) 0 (drop unit-start bs)) _ b (rs .2) in
-    let qs = went-on (requirement-body (counts .0 .requirements) 0 (drop (requirement-start (counts .0 .units)) bs)) _ b (us .2) in
-    let units = units-fit (counts .0 .units) 0 (drop unit-start bs) (us .0) (us .1) in
+    let us = went-on (unit-body (counts .0 .units) 1 0 (drop unit-start bs)) _ b (rs .2) in
+    let qs = went-on (requirement-body (counts .0 .requirements) 1 0 (drop (requirement-start (counts .0 .units)) bs)) _ b (us .2) in
+    let units = units-fit (counts .0 .units) 1 0 (drop unit-start bs) (us .0) (us .1) in
     subst BookFits (took (qs .2))
     (record {
-      settings = settings-fit (drop contents-size bs) (s .0) (s .1);
+      settings = settings-fit (drop contents-size bs) (s .0) (there 1 _ (s .0) (s .1));
       region = regions-fit regions 0 (drop frequency-start bs) (rs .0) (rs .1);
       roster = units .0;
-      few = omega (arith, units .1, counts-fit bs (counts .0) (counts .1));
-      requirements = requirements-fit (counts .0 .requirements) 0 (drop (requirement-start (counts .0 .units)) bs) (qs .0) (qs .1);
+      few = omega (arith, units .1, counts-fit bs (counts .0) (there 0 _ (counts .0) (counts .1)));
+      requirements = requirements-fit (counts .0 .requirements) 1 0 (drop (requirement-start (counts .0 .units)) bs) (qs .0) (qs .1);
     })

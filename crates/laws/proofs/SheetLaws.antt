@@ -1,5 +1,5 @@
 -- Laws of a sheet's definitions: a right factor is the whole part of T·weight/W, with its side's sign, or one more where a remainder is left; its sign then
--- agrees by itself; and which member is the first that is wrong.
+-- agrees by itself.
 use mathlib.Core.Path.{_≡_, refl, sym, _∙_, ap}
 use mathlib.Core.Bool.{Bool, true, false, cond, _&&_, false≢true}
 use Prim.Native.Nat.{ℕ, zero, suc, _+_, _*_, _<_}
@@ -16,7 +16,7 @@ use Rattle.integers.proofs.Sums.{every-fails}
 use Rattle.integers.specs.Division.{Divided}
 use Rattle.rules.specs.declared.Side.{Side}
 use Rattle.rules.specs.declared.Side.the-variants.{Positive, Negative}
-use Rattle.rules.specs.Sheet.{on, signed, near, agrees, right, first-wrong}
+use Rattle.rules.specs.Sheet.{on, signed, near, agrees, right}
 
 -- ---- near, as facts of ℕ
 module _ (T W : ℕ) (p f : ℤ) where
@@ -128,44 +128,3 @@ module _ (T W w : ℕ) {q r : ℕ} (d : Divided (T * w) W q r) where
       near-turned T W (pos w) (negℤ (pos (q + one t)))
       ∙ ap (near T W (pos w)) (ring (neg (neg (v (pos (q + one t))))) (v (pos (q + one t))) (omega arith))
       ∙ positive-near t h
-
--- ---- the first wrong member
-module _ (fine : ℕ → Bool) where
-  pub none-wrong : (n : ℕ) → every n fine ≡ true → first-wrong fine n ≡ 0
-  unfolding first-wrong every
-  none-wrong zero e = refl
-  none-wrong (suc n) e = let b = both (every n fine) (fine n) e in rw (b .0, b .1)
-
-  pub first-wrong-is : (n i : ℕ) → i < n → every i fine ≡ true → fine i ≡ false → first-wrong fine n ≡ suc i
-  unfolding first-wrong
-  first-wrong-is zero i h e f = absurd (omega arith)
-  first-wrong-is (suc n) i h e f = go (λ l. first-wrong-is n i l e f) (eqb i n) refl
-    where
-      go : (i < n → first-wrong fine n ≡ suc i) → (t : Bool) → eqb i n ≡ t → cond (every n fine) (cond (fine n) 0 (suc n)) (first-wrong fine n) ≡ suc i
-      go ih true g = let z = eqb-true i n g in rw (← z, e, f)
-      go ih false g =
-          let l : i < n = less i n h (eqb-false i n g) in
-          rw (every-fails n fine i l f) (ih l)
-        where
-          less : (i n : ℕ) → i < suc n → (i ≡ n → ⊥) → i < n
-          less i n h d = omega arith
-
-  -- it is one of them, and is wrong while all before it are right
-  pub record FirstWrong (n k : ℕ) : Type 0 where
-    pub member : ℕ
-    pub from-one : k ≡ suc member
-    pub among : member < n
-    pub before : every member fine ≡ true
-    pub wrong : fine member ≡ false
-
-  pub first-wrong-means : (n : ℕ) → every n fine ≡ false → FirstWrong n (first-wrong fine n)
-  unfolding first-wrong every
-  first-wrong-means zero e = absurd (false≢true (sym e))
-  first-wrong-means (suc n) e = go (first-wrong-means n) (every n fine) refl e
-    where
-      go : (every n fine ≡ false → FirstWrong n (first-wrong fine n)) →
-          (t : Bool) → every n fine ≡ t → t && fine n ≡ false → FirstWrong (suc n) (cond t (cond (fine n) 0 (suc n)) (first-wrong fine n))
-      go ih true g w = record { member = n; from-one = rw w; among = omega arith; before = g; wrong = w }
-      go ih false g w =
-          let m = ih g in
-          record { member = m .member; from-one = m .from-one; among = omega (arith, m .among); before = m .before; wrong = m .wrong }

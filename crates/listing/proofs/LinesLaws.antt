@@ -6,7 +6,7 @@ use native.Mathlib.Omega.{arith}
 use lib.Dec.{lit≤}
 use lib.ListN.{length, take, drop, set, length-append, take-append-drop, drop-of-length-le}
 use lib.Seq.{take-set-le}
-use Rattle.rules.specs.declared.Refusal.{Refusal}
+use Rattle.rules.specs.declared.Located.{Located}
 use Rattle.rules.specs.declared.Standing.{Standing}
 use Rattle.rules.specs.declared.Standing.the-variants.{Live, Default}
 use Rattle.rules.specs.Text.{text, integer, words}
@@ -92,9 +92,9 @@ module _ {old : List ℕ} {r r′ : ℕ} {new new′ : List ℕ} where
       (r ≡ r′) × (new ≡ new′)
   interval-line-only interval = line-only
 
-  pub refused-line-only : (refusal : Refusal) → LineWritten (refused-line refusal) old r new → LineWritten (refused-line refusal) old r′ new′ →
+  pub refused-line-only : (said : Located) → LineWritten (refused-line said) old r new → LineWritten (refused-line said) old r′ new′ →
       (r ≡ r′) × (new ≡ new′)
-  refused-line-only refusal = line-only
+  refused-line-only said = line-only
 
   pub requirement-line-only : (said : RequirementLine) → LineWritten (requirement-line (answer-of said)) old r new →
       LineWritten (requirement-line (answer-of said)) old r′ new′ → (r ≡ r′) × (new ≡ new′)

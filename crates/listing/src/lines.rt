@@ -3,7 +3,6 @@ ghost use mathlib.Core.Path.{_≡_};
 ghost use Prim.Native.Nat.{_≤_};
 ghost use lib.ListN.{length};
 ghost use mathlib.Core.List.{[], _∷_};
-ghost use Rattle.rules.specs.Text.{natural, words};
 ghost use Rattle.rules.specs.Listing.{interval-line, refused-line, requirement-line, member-line};
 ghost use Rattle.listing.specs.Pieces.{Room, Put};
 ghost use Rattle.listing.specs.Lines.{LineWritten, answer-of, amounts-words, unit-of, residual-of};
@@ -15,8 +14,10 @@ use super::pieces::put_direction;
 use super::pieces::put_integer;
 use super::pieces::put_natural;
 use super::pieces::put_standing;
-use rules::Refusal;
+use rules::Located;
 use rules::Standing;
+use rules::refusal_number;
+use rules::refusal_point;
 
 // Where a line's last byte stands.
 const END: usize = 164;
@@ -31,28 +32,26 @@ fn put_end(line: &mut [u8]) -> usize
     END
 }
 
-// A word and a number.
-fn number_line(word: &[u8], number: u64, text: &mut [u8; LINE]) -> usize
-    requires { ⌜ length (now word) ≤ 143 ⌝ }
-    ensures { λ r. ⌜ LineWritten (words (now (word .entry) ∷ natural number ∷ [])) (now (text .entry)) r (now (text .exit)) ⌝ }
-{
-    let last = put_end(text);
-    let end = put_natural(number, last, text);
-    put(word, end, text)
-}
-
 pub fn interval_line(interval: u32, text: &mut [u8; LINE]) -> usize
     ensures { λ r. ⌜ LineWritten (interval-line interval) (now (text .entry)) r (now (text .exit)) ⌝ }
     ensures { λ r. ⌜ r ≤ 165 ⌝ }
 {
-    number_line(b"interval", interval as u64, text)
+    let last = put_end(text);
+    let end = put_natural(interval as u64, last, text);
+    put(b"interval", end, text)
 }
 
-pub fn refused_line(refusal: Refusal, text: &mut [u8; LINE]) -> usize
-    ensures { λ r. ⌜ LineWritten (refused-line refusal) (now (text .entry)) r (now (text .exit)) ⌝ }
+// Number, place and t, with 0 for one that is not there.
+pub fn refused_line(said: Located, text: &mut [u8; LINE]) -> usize
+    ensures { λ r. ⌜ LineWritten (refused-line said) (now (text .entry)) r (now (text .exit)) ⌝ }
     ensures { λ r. ⌜ r ≤ 165 ⌝ }
 {
-    number_line(b"refused", rules::refusal_number(refusal) as u64, text)
+    let refusal = said.refusal;
+    let last = put_end(text);
+    let mut at = put_natural(refusal_point(refusal) as u64, last, text);
+    at = put_natural(said.place as u64, at, text);
+    at = put_natural(refusal_number(refusal) as u64, at, text);
+    put(b"refused", at, text)
 }
 
 pub fn requirement_line(said: RequirementLine, text: &mut [u8; LINE]) -> usize

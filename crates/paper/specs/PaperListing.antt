@@ -22,8 +22,8 @@ pub record PaperListing : Type 0 where
   pub size : length (book-bytes (paper-book 7)) ≡ 2_672
   pub in-full : settle (book-bytes (paper-book 7)) ≡ text "interval 7\n" ++ paper-lines
   pub interval-8 : settle (book-bytes (paper-book 8)) ≡ text "interval 8\n" ++ paper-lines
-  pub cut : settle (take 2_671 (book-bytes (paper-book 7))) ≡ text "refused 1\n"
-  pub longer : settle (book-bytes (paper-book 7) ++ (0 ∷ [])) ≡ text "refused 4\n"
+  pub cut : settle (take 2_671 (book-bytes (paper-book 7))) ≡ text "refused 1 1 0\n"
+  pub longer : settle (book-bytes (paper-book 7) ++ (0 ∷ [])) ≡ text "refused 4 1 0\n"
 
 pub paper-listing : PaperListing
 unfolding computing

@@ -48,11 +48,10 @@ pub(crate) fn end() {
     io::write_all(STDOUT_FILENO, &[b'\n']);
 }
 
+// The number, and t: a lone record has no place.
 pub(crate) fn refused(r: Refusal) {
-    io::write_all(
-        STDOUT_FILENO,
-        &[b'r', b'e', b'f', b'u', b's', b'e', b'd', b' '],
-    );
-    io::print_decimal(STDOUT_FILENO, rules::refusal_number(r) as u64);
+    io::write_all(STDOUT_FILENO, &[b'r', b'e', b'f', b'u', b's', b'e', b'd']);
+    unsigned(rules::refusal_number(r) as u64);
+    unsigned(rules::refusal_point(r) as u64);
     end();
 }

@@ -1,4 +1,4 @@
--- One book with fields changed, and the number that it is refused with: what the tables of the fields' limits state, and how they are proved by computing.
+-- One book with fields changed, and the number, place and t that it is refused with: what the tables of the fields' limits state, and how they are proved by computing.
 use mathlib.Core.Path.{_≡_, refl, sym, _∙_, ap, ap₂, subst}
 use mathlib.Core.Bool.{Bool, true}
 use mathlib.Core.List.{List, [], _∷_, _++_, map}
@@ -10,20 +10,24 @@ use lib.ListN.{length, take, drop, getD}
 use borrow.Author.Tests.{eqb-true}
 use Rattle.integers.specs.Sums.{both}
 use Rattle.integers.specs.Totals.{all}
-use Rattle.rules.specs.Refusals.{number, Reply, taken, refused}
+use Rattle.rules.specs.Refusals.{number, point, LocatedReply, taken, refused}
 use Rattle.rules.specs.Bytes.{listed}
 use Rattle.rules.specs.Book.{Book}
 use Rattle.rules.specs.WholeBook.{book}
 use Rattle.books.specs.Writing.{bytes, book-bytes}
 use Rattle.books.specs.WorkedBooks.{every-field}
 
--- the number of the refusal, 0 where the book is taken
-abbrev pub number-of : Reply Book → ℕ
-number-of (taken b) = 0
-number-of (refused r) = number r
+-- number, place and t of a refusal
+abbrev pub no : ℕ → ℕ → ℕ → List ℕ
+no n place t = n ∷ place ∷ t ∷ []
 
-abbrev pub refusal : List ℕ → ℕ
-refusal bs = number-of (book bs)
+-- all 0 where what is asked for is taken
+abbrev pub told : {A : Type 0} → LocatedReply A → List ℕ
+told (taken a) = no 0 0 0
+told (refused r) = no (number (r .refusal)) (r .place) (point (r .refusal))
+
+abbrev pub refusal : List ℕ → List ℕ
+refusal bs = told (book bs)
 
 -- the book that is changed: two units, at 1904 and 2276, and two requirements, at 2648 and 2672; it has 2696 bytes
 abbrev pub base : List ℕ
@@ -60,15 +64,18 @@ module _ (start size : ℕ) where
   abbrev part : List ℕ
   part = drop start (take size base)
 
-  -- each change alone gives the number n; all made together give it
-  pub record Alone (n : ℕ) (cs : List Change) : Type 0 where
-    pub numbers : map (λ c. refusal (front ++ changed start c part)) cs ≡ map (λ c. n) cs
+  -- each change alone gives a refusal of its own, or all the same; all made together give it
+  pub record Each (cs : List Change) (ns : List (List ℕ)) : Type 0 where
+    pub refusals : map (λ c. refusal (front ++ changed start c part)) cs ≡ ns
 
-  pub record Together (n : ℕ) (cs : List Change) : Type 0 where
-    pub number : refusal (front ++ all-changed start cs part) ≡ n
+  abbrev pub Alone : List ℕ → List Change → Type 0
+  Alone n cs = Each cs (map (λ c. n) cs)
+
+  pub record Together (n : List ℕ) (cs : List Change) : Type 0 where
+    pub refusal-is : refusal (front ++ all-changed start cs part) ≡ n
 
 -- ---- where the bytes before `start` are taken whatever follows them, what follows is computed alone
-pub record Next (start size : ℕ) (next : List ℕ → Reply Book) : Type 0 where
+pub record Next (start size : ℕ) (next : List ℕ → LocatedReply Book) : Type 0 where
   pub is : (f : ℕ → ℕ) → book (front start size ++ listed 0 (size - start) f) ≡ next (listed 0 (size - start) f)
 
 listed-is : (xs : List ℕ) (i : ℕ) (f : ℕ → ℕ) → ((k : ℕ) → f (i + k) ≡ getD xs k 0) → listed i (length xs) f ≡ xs
@@ -76,13 +83,13 @@ unfolding listed
 listed-is [] i f h = refl
 listed-is (x ∷ xs) i f h = ap₂ _∷_ (ap f (sym (add-zero i)) ∙ h 0) (listed-is xs (suc i) f (λ k. ap f (omega arith) ∙ h (suc k)))
 
-module _ {start size : ℕ} {next : List ℕ → Reply Book} (before : Next start size next) where
-  later : (xs : List ℕ) → length xs ≡ size - start → refusal (front start size ++ xs) ≡ number-of (next xs)
+module _ {start size : ℕ} {next : List ℕ → LocatedReply Book} (before : Next start size next) where
+  later : (xs : List ℕ) → length xs ≡ size - start → refusal (front start size ++ xs) ≡ told (next xs)
   later xs h =
       let f : ℕ → ℕ = λ i. getD xs i 0 in
       let e : listed 0 (length xs) f ≡ xs = listed-is xs 0 f (λ k. ap f (zero-add k)) in
       let e′ : listed 0 (size - start) f ≡ xs = subst (λ (n : ℕ). listed 0 n f ≡ xs) h e in
-      subst (λ (l : List ℕ). refusal (front start size ++ l) ≡ number-of (next l)) e′ (ap number-of (before .is f))
+      subst (λ (l : List ℕ). refusal (front start size ++ l) ≡ told (next l)) e′ (ap told (before .is f))
 
   abbrev part-with : Change → List ℕ
   part-with c = changed start c (part start size)
@@ -91,19 +98,19 @@ module _ {start size : ℕ} {next : List ℕ → Reply Book} (before : Next star
   as-long c = eqb (length (part-with c)) (size - start)
 
   each-later : (cs : List Change) → all as-long cs ≡ true
-      → map (λ c. refusal (front start size ++ part-with c)) cs ≡ map (λ c. number-of (next (part-with c))) cs
+      → map (λ c. refusal (front start size ++ part-with c)) cs ≡ map (λ c. told (next (part-with c))) cs
   unfolding all
   each-later [] h = refl
   each-later (c ∷ cs) h =
       let b = both (as-long c) (all as-long cs) h in
       ap₂ _∷_ (later (part-with c) (eqb-true _ _ (b .0))) (each-later cs (b .1))
 
-  pub alone-later : {n : ℕ} {cs : List Change} → all as-long cs ≡ true → map (λ c. number-of (next (part-with c))) cs ≡ map (λ c. n) cs → Alone start size n cs
-  alone-later {cs = cs} long same = record { numbers = each-later cs long ∙ same }
+  pub alone-later : {cs : List Change} {ns : List (List ℕ)} → all as-long cs ≡ true → map (λ c. told (next (part-with c))) cs ≡ ns → Each start size cs ns
+  alone-later {cs = cs} long same = record { refusals = each-later cs long ∙ same }
 
   abbrev part-with-all : List Change → List ℕ
   part-with-all cs = all-changed start cs (part start size)
 
-  pub together-later : {n : ℕ} {cs : List Change} → length (part-with-all cs) ≡ size - start → number-of (next (part-with-all cs)) ≡ n →
+  pub together-later : {n : List ℕ} {cs : List Change} → length (part-with-all cs) ≡ size - start → told (next (part-with-all cs)) ≡ n →
       Together start size n cs
-  together-later {cs = cs} long same = record { number = later (part-with-all cs) long ∙ same }
+  together-later {cs = cs} long same = record { refusal-is = later (part-with-all cs) long ∙ same }

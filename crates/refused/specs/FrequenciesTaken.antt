@@ -5,7 +5,7 @@ use mathlib.Core.List.{List}
 use Prim.Native.Nat.{ℕ}
 use lib.ListN.{drop}
 use Rattle.integers.specs.Sums.{every}
-use Rattle.rules.specs.Refusals.{Reply, taken, _>>=_}
+use Rattle.rules.specs.Refusals.{LocatedReply, taken, _>>=_}
 use Rattle.rules.specs.Bytes.{little, listed}
 use Rattle.rules.specs.Book.{Book}
 use Rattle.rules.specs.Contents.{contents}
@@ -16,10 +16,10 @@ use Rattle.books.specs.Writing.{bytes, concat, bits, regions-bytes, book-bytes}
 use Rattle.books.specs.WorkedBooks.{every-field}
 use Rattle.refused.specs.Changed.{Next}
 
-abbrev pub units : List ℕ → Reply Book
+abbrev pub units : List ℕ → LocatedReply Book
 units bs = do
-  us ← unit-body 2 0 bs
-  qs ← requirement-body 2 0 (drop 744 bs)
+  us ← unit-body 2 1 0 bs
+  qs ← requirement-body 2 1 0 (drop 744 bs)
   taken (record { settings = every-field .settings; regions = every-field .regions; roster = us; requirements = qs })
 
 -- opens what is computed before the units

@@ -2,18 +2,18 @@
 use mathlib.Core.Path.{refl}
 use mathlib.Core.List.{[], _∷_}
 use Rattle.books.specs.Computing.{computing}
-use Rattle.refused.specs.Changed.{with, Alone}
+use Rattle.refused.specs.Changed.{no, with, Alone}
 
 -- regions 0 to 4 in order
-pub next-region : Alone 0 800 7 (with 432 1 0 ∷ with 432 1 2 ∷ [])
+pub next-region : Alone 0 800 (no 71 2 0) (with 432 1 0 ∷ with 432 1 2 ∷ [])
 unfolding computing
-next-region = record { numbers = refl }
+next-region = record { refusals = refl }
 
-pub last-region : Alone 0 1_904 7 (with 1_536 1 3 ∷ with 1_536 1 5 ∷ [])
+pub last-region : Alone 0 1_904 (no 71 5 0) (with 1_536 1 3 ∷ with 1_536 1 5 ∷ [])
 unfolding computing
-last-region = record { numbers = refl }
+last-region = record { refusals = refl }
 
 -- a spare quality bit alone, in a record whose last three points are bad
-pub spare-bit-alone : Alone 0 1_536 7 (with 1_179 1 8 ∷ [])
+pub spare-bit-alone : Alone 0 1_536 (no 73 4 0) (with 1_179 1 8 ∷ [])
 unfolding computing
-spare-bit-alone = record { numbers = refl }
+spare-bit-alone = record { refusals = refl }

@@ -11,5 +11,6 @@ pub mod UnitNumbers
 pub mod ThirdNumbers
 pub mod UnitsTaken
 pub mod RequirementFields
+pub mod Places
 pub mod ShareLimits
 pub mod UnitReach

@@ -1,5 +1,5 @@
 -- The numbers that the box can say no with (01), each by its name. Two of them come with no book: 11 is a call's alone, and 12 comes with a call or a share
--- whose room is too short (ShareLimits). None has the number 13 (`laws`, never-thirteen); 14 and 17 are those of a week (02, R-7).
+-- whose room is too short (ShareLimits). None has the number 7, 8 or 13 (`laws`, never-again); 14 and 17 are those of a week (02, R-7).
 use mathlib.Core.Path.{_≡_, refl}
 use mathlib.Core.List.{[], _∷_, map}
 use Rattle.rules.specs.declared.Refusal.the-variants.{
@@ -9,23 +9,39 @@ use Rattle.rules.specs.declared.Refusal.the-variants.{
   BytesFollow,
   WrongCount,
   SettingsField,
-  FrequencyField,
-  UnitField,
   UnitNotRising,
   RequirementField,
   WrongState,
   TooShort,
   AverageTooLow,
   WrongWeek,
+  FrequencyHeader,
+  FrequencyDefault,
+  FrequencyQuality,
+  FrequencyPoint,
+  UnitHeader,
+  UnitDefault,
+  UnitQuality,
+  UnitReading,
 }
-use Rattle.rules.specs.Refusals.{number}
+use Rattle.rules.specs.Refusals.{number, point}
 
 -- of the bytes, from the first to the last body
 pub of-a-book :
     map number
-    (EndsEarly ∷ WrongMark ∷ WrongTable ∷ BytesFollow ∷ WrongCount ∷ SettingsField ∷ FrequencyField ∷ UnitField ∷ UnitNotRising ∷ RequirementField ∷ [])
-    ≡ (1 ∷ 2 ∷ 3 ∷ 4 ∷ 5 ∷ 6 ∷ 7 ∷ 8 ∷ 9 ∷ 10 ∷ [])
+    (EndsEarly ∷ WrongMark ∷ WrongTable ∷ BytesFollow ∷ WrongCount ∷ SettingsField ∷ UnitNotRising ∷ RequirementField ∷ [])
+    ≡ (1 ∷ 2 ∷ 3 ∷ 4 ∷ 5 ∷ 6 ∷ 9 ∷ 10 ∷ [])
 of-a-book = refl
+
+-- of a frequency record and of a unit, header, default, quality and point or reading, which say their t
+pub of-a-frequency : map number (FrequencyHeader ∷ FrequencyDefault ∷ FrequencyQuality ∷ FrequencyPoint 9 ∷ []) ≡ (71 ∷ 72 ∷ 73 ∷ 74 ∷ [])
+of-a-frequency = refl
+
+pub of-a-unit : map number (UnitHeader ∷ UnitDefault ∷ UnitQuality ∷ UnitReading 9 ∷ []) ≡ (81 ∷ 82 ∷ 83 ∷ 84 ∷ [])
+of-a-unit = refl
+
+pub points : map point (FrequencyPoint 9 ∷ UnitReading 75 ∷ UnitHeader ∷ WrongState ∷ []) ≡ (9 ∷ 75 ∷ 0 ∷ 0 ∷ [])
+points = refl
 
 pub of-a-call : map number (WrongState ∷ TooShort ∷ []) ≡ (11 ∷ 12 ∷ [])
 of-a-call = refl

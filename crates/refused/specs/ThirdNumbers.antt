@@ -1,5 +1,4 @@
--- Numbers rise from each record to the next, not over the first alone (01, The book): three units and three requirements. The number of the refusal, 0 where
--- they are taken.
+-- Numbers rise from each record to the next, not over the first alone (01, The book): three units and three requirements. Number, place and t of the refusal.
 use mathlib.Core.Path.{_≡_, refl}
 use mathlib.Core.Bool.{true}
 use mathlib.Core.List.{List, [], _∷_, map}
@@ -7,12 +6,11 @@ use Prim.Native.Nat.{ℕ}
 use lib.IntN.{pos}
 use Rattle.rules.specs.declared.Direction.the-variants.{Raise}
 use Rattle.rules.specs.declared.Kind.the-variants.{Generation}
-use Rattle.rules.specs.Refusals.{number, Reply, taken, refused}
-use Rattle.rules.specs.Book.{Unit, Requirement}
 use Rattle.rules.specs.WholeBook.{unit-body, requirement-body}
 use Rattle.books.specs.Writing.{concat, unit-bytes, requirement-bytes, flat}
 use Rattle.books.specs.PaperBook.{zeros}
 use Rattle.books.specs.Computing.{computing}
+use Rattle.refused.specs.Changed.{no, told}
 
 abbrev unit : ℕ → List ℕ
 unit n =
@@ -21,19 +19,11 @@ unit n =
 abbrev requirement : ℕ → List ℕ
 requirement n = requirement-bytes (record { number = n; set = 1; direction = Raise; price = 0; cost = 0; enabled = 0; used = 0 })
 
-abbrev of-units : Reply (List Unit) → ℕ
-of-units (taken us) = 0
-of-units (refused r) = number r
-
-abbrev of-requirements : Reply (List Requirement) → ℕ
-of-requirements (taken qs) = 0
-of-requirements (refused r) = number r
-
 pub record ThirdNumbers : Type 0 where
-  pub rising-units : of-units (unit-body 3 0 (concat (map unit (1 ∷ 3 ∷ 4 ∷ [])))) ≡ 0
-  pub third-unit : of-units (unit-body 3 0 (concat (map unit (1 ∷ 3 ∷ 2 ∷ [])))) ≡ 9
-  pub rising-requirements : of-requirements (requirement-body 3 0 (concat (map requirement (1 ∷ 3 ∷ 4 ∷ [])))) ≡ 0
-  pub third-requirement : of-requirements (requirement-body 3 0 (concat (map requirement (1 ∷ 3 ∷ 2 ∷ [])))) ≡ 10
+  pub rising-units : told (unit-body 3 1 0 (concat (map unit (1 ∷ 3 ∷ 4 ∷ [])))) ≡ no 0 0 0
+  pub third-unit : told (unit-body 3 1 0 (concat (map unit (1 ∷ 3 ∷ 2 ∷ [])))) ≡ no 9 3 0
+  pub rising-requirements : told (requirement-body 3 1 0 (concat (map requirement (1 ∷ 3 ∷ 4 ∷ [])))) ≡ no 0 0 0
+  pub third-requirement : told (requirement-body 3 1 0 (concat (map requirement (1 ∷ 3 ∷ 2 ∷ [])))) ≡ no 10 3 0
 
 pub third-numbers : ThirdNumbers
 unfolding computing

@@ -3,10 +3,10 @@ use mathlib.Core.List.{List, [], _∷_, _++_}
 use Prim.Native.Nat.{ℕ}
 use Rattle.rules.specs.declared.Direction.{Direction}
 use Rattle.rules.specs.declared.Direction.the-variants.{Raise, Lower}
-use Rattle.rules.specs.declared.Refusal.{Refusal}
+use Rattle.rules.specs.declared.Located.{Located}
 use Rattle.rules.specs.declared.Standing.{Standing}
 use Rattle.rules.specs.declared.Standing.the-variants.{Live, Default}
-use Rattle.rules.specs.Refusals.{number, Reply, taken, refused}
+use Rattle.rules.specs.Refusals.{number, point, LocatedReply, taken, refused}
 use Rattle.rules.specs.Book.{Book}
 use Rattle.rules.specs.WholeBook.{book}
 use Rattle.rules.specs.Members.{Name, unit, residual}
@@ -39,8 +39,9 @@ requirement-line a =
 abbrev pub interval-line : ℕ → List ℕ
 interval-line n = words (text "interval" ∷ natural n ∷ [])
 
-abbrev pub refused-line : Refusal → List ℕ
-refused-line r = words (text "refused" ∷ natural (number r) ∷ [])
+-- number, place and t, with 0 for one that is not there (02, R-1)
+abbrev pub refused-line : Located → List ℕ
+refused-line r = words (text "refused" ∷ natural (number (r .refusal)) ∷ natural (r .place) ∷ natural (point (r .refusal)) ∷ [])
 
 unfoldable pub joined : {A : Type 0} → (A → List ℕ) → List A → List ℕ
 joined f [] = []
@@ -54,7 +55,7 @@ unfoldable pub listing : Book → List ℕ
 listing b = interval-line (b .settings .interval) ++ joined (λ q. answer-lines (answer b q)) (b .requirements)
 
 -- what `settle` prints of the bytes of a book
-abbrev pub printed : Reply Book → List ℕ
+abbrev pub printed : LocatedReply Book → List ℕ
 printed (taken b) = listing b
 printed (refused r) = refused-line r
 

@@ -8,7 +8,7 @@ use lib.IntN.{ℤ, pos, negsuc, negℤ, natAbs, _-ℤ_, _*ℤ_}
 use lib.ListN.{length, getD}
 use lib.Signed.{leZ}
 use Rattle.integers.specs.Pairs.{gain, loss}
-use Rattle.integers.specs.Sums.{sum, every, when}
+use Rattle.integers.specs.Sums.{sum, every, first-wrong, when}
 use Rattle.rules.specs.declared.Refusal.the-variants.{TooShort, WrongCount}
 use Rattle.rules.specs.declared.Side.{Side}
 use Rattle.rules.specs.declared.Side.the-variants.{Positive, Negative}
@@ -59,12 +59,7 @@ number-at xs i = getD xs i (pos 0)
 abbrev pub right-at : ℕ → List ℤ → List ℤ → ℕ → Bool
 right-at T ps fs i = right T (λ s. side-total s ps) (number-at ps i) (number-at fs i)
 
--- the first of so many members that is wrong, from 1; 0 where none is
-unfoldable pub first-wrong : (ℕ → Bool) → ℕ → ℕ
-first-wrong fine zero = 0
-first-wrong fine (suc n) = cond (every n fine) (cond (fine n) 0 (suc n)) (first-wrong fine n)
-
--- what a call that looks for it answers
+-- what a call that looks for the first wrong member answers: its place, from 1; 0 where none is wrong
 unfoldable pub members-reply : ℕ → List ℤ → List ℤ → Reply ℕ
 members-reply T ps fs =
     unless (eqb (length ps) (length fs)) TooShort

@@ -1,7 +1,7 @@
 // rules: what the interval calculator works out, as definitions. They stand in specs/, in the order in which a book is read and
 // worked through. Here are the few types that definitions and code share, and the number of a refusal.
 ghost use mathlib.Core.Path.{_≡_};
-ghost use Rattle.rules.specs.Refusals.{number};
+ghost use Rattle.rules.specs.Refusals.{number, point, located};
 
 pub const MOST_UNITS: u16 = 512;
 
@@ -66,7 +66,8 @@ pub enum Verdict {
     WrongSide(Side),
 }
 
-// What the box says no with, in the order of the numbers 1 to 12, 14 and 17. None has the number 13, and none will (02, R-10).
+// What the box says no with, in the order of the numbers 1 to 6, 9 to 12, 14, 17, 71 to 74 and 81 to 84. None has the number 7, 8 or 13, and none
+// will (02, R-1 and R-10). A refused point or reading says which, t = 1 to 75.
 pub enum Refusal {
     EndsEarly,
     WrongMark,
@@ -74,14 +75,26 @@ pub enum Refusal {
     BytesFollow,
     WrongCount,
     SettingsField,
-    FrequencyField,
-    UnitField,
     UnitNotRising,
     RequirementField,
     WrongState,
     TooShort,
     AverageTooLow,
     WrongWeek,
+    FrequencyHeader,
+    FrequencyDefault,
+    FrequencyQuality,
+    FrequencyPoint(u8),
+    UnitHeader,
+    UnitDefault,
+    UnitQuality,
+    UnitReading(u8),
+}
+
+// A refusal, and the place in its body of the record that it is about, from 1; 0 where there is none.
+pub struct Located {
+    pub refusal: Refusal,
+    pub place: u16,
 }
 
 // The number that the box shows.
@@ -95,13 +108,46 @@ pub fn refusal_number(refusal: Refusal) -> u32
         Refusal::BytesFollow => 4,
         Refusal::WrongCount => 5,
         Refusal::SettingsField => 6,
-        Refusal::FrequencyField => 7,
-        Refusal::UnitField => 8,
         Refusal::UnitNotRising => 9,
         Refusal::RequirementField => 10,
         Refusal::WrongState => 11,
         Refusal::TooShort => 12,
         Refusal::AverageTooLow => 14,
         Refusal::WrongWeek => 17,
+        Refusal::FrequencyHeader => 71,
+        Refusal::FrequencyDefault => 72,
+        Refusal::FrequencyQuality => 73,
+        Refusal::FrequencyPoint(_) => 74,
+        Refusal::UnitHeader => 81,
+        Refusal::UnitDefault => 82,
+        Refusal::UnitQuality => 83,
+        Refusal::UnitReading(_) => 84,
+    }
+}
+
+// t of a refused point or reading, and 0 where there is none.
+pub fn refusal_point(refusal: Refusal) -> u8
+    ensures { λ r. ⌜ r ≡ point refusal ⌝ }
+{
+    match refusal {
+        Refusal::FrequencyPoint(t) => t,
+        Refusal::UnitReading(t) => t,
+        _ => 0,
+    }
+}
+
+// A refusal with the place of its record; 11 has none.
+pub fn locate(place: u16, refusal: Refusal) -> Located
+    ensures { λ r. ⌜ r ≡ located place refusal ⌝ }
+{
+    if refusal_number(refusal) == 11 {
+        return Located {
+            refusal: refusal,
+            place: 0,
+        };
+    }
+    Located {
+        refusal: refusal,
+        place: place,
     }
 }

@@ -1,5 +1,5 @@
-// settle: reads a book on standard input, record by record, and prints its listing; on refusal the one line `refused N`. Nothing is printed
-// before the book has ended. What goes wrong with reading or writing is told on standard error.
+// settle: reads a book on standard input, record by record, and prints its listing; on refusal the one line `refused` with number, place and t. Nothing
+// is printed before the book has ended. What goes wrong with reading or writing is told on standard error.
 mod answers;
 mod output;
 mod records;
@@ -68,8 +68,8 @@ fn main() {
             &mut unused,
             &mut text,
         ),
-        Next::Refused(refusal) => {
-            output::refused(refusal, &mut text);
+        Next::Refused(said) => {
+            output::refused(said, &mut text);
         }
         Next::Failed => output::reading_failed(),
     }

@@ -6,8 +6,10 @@ use libc::STDOUT_FILENO;
 use listing::Amounts;
 use listing::LINE;
 use listing::RequirementLine;
+use rules::Located;
 use rules::Refusal;
 use rules::Standing;
+use rules::locate;
 
 fn write(file: i32, text: &[u8]) -> bool {
     let mut done: usize = 0;
@@ -39,8 +41,8 @@ pub(crate) fn interval(interval: u32, text: &mut [u8; LINE]) -> bool {
     print(start, text)
 }
 
-pub(crate) fn refused(refusal: Refusal, text: &mut [u8; LINE]) -> bool {
-    let start = listing::lines::refused_line(refusal, text);
+pub(crate) fn refused(said: Located, text: &mut [u8; LINE]) -> bool {
+    let start = listing::lines::refused_line(said, text);
     print(start, text)
 }
 
@@ -66,7 +68,7 @@ pub(crate) fn residual(standing: Standing, amounts: Amounts, text: &mut [u8; LIN
 
 // A book that the calls have taken is never refused after that; if it were, the listing would end, and say so.
 pub(crate) fn broken_off(refusal: Refusal, text: &mut [u8; LINE]) -> bool {
-    let start = listing::lines::refused_line(refusal, text);
+    let start = listing::lines::refused_line(locate(0, refusal), text);
     write(STDERR_FILENO, b"settle: the listing is broken off: ");
     let whole = &text[..];
     write(STDERR_FILENO, &whole[start..]);

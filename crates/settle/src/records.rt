@@ -17,7 +17,8 @@ use interval::Taking;
 use interval::Tally;
 use interval::requirement::requirement;
 use interval::turns::BEFORE_UNITS;
-use rules::Refusal;
+use rules::Located;
+use rules::locate;
 
 // How many requirements the bytes have room for.
 const ROOM: u16 = 32;
@@ -25,7 +26,7 @@ const ROOM: u16 = 32;
 // The tally so far, or why no more is read.
 pub(crate) enum Next {
     Taken(Tally),
-    Refused(Refusal),
+    Refused(Located),
     Failed,
 }
 
@@ -41,7 +42,7 @@ fn open(bytes: &mut [u8]) -> Next
     let opened = interval::contents::contents(&bytes[0..count]);
     match opened {
         Opened::Taken(tally) => Next::Taken(tally),
-        Opened::Refused(refusal) => Next::Refused(refusal),
+        Opened::Refused(refusal) => Next::Refused(locate(0, refusal)),
     }
 }
 

@@ -10,13 +10,13 @@ use lib.ListN.{length, length-map, List·getD-map}
 use Rattle.integers.specs.Pairs.{gain, loss}
 use Rattle.integers.specs.Division.{Divided}
 use Rattle.integers.specs.Sums.{one, every}
-use Rattle.integers.proofs.Sums.{sumℕ-term}
+use Rattle.integers.proofs.Sums.{sumℕ-term, none-wrong, first-wrong-is}
 use Rattle.rules.specs.declared.Side.{Side}
 use Rattle.rules.specs.declared.Side.the-variants.{Positive, Negative}
 use Rattle.rules.specs.Share.{weight-at}
 use Rattle.rules.specs.Sheet.{on, near, right, number-at, right-at, side-total}
 use Rattle.rules.specs.Sheet as sheet
-use Rattle.laws.proofs.SheetLaws.{WholeOrMore, near-whole, whole-near, none-wrong, first-wrong-is}
+use Rattle.laws.proofs.SheetLaws.{WholeOrMore, near-whole, whole-near}
 use Rattle.share.specs.declared.part.Rate.{Rate}
 use Rattle.share.specs.declared.exact.Judged.{Judged}
 use Rattle.share.specs.declared.exact.Judged.the-variants.{Right, Wrong}

@@ -7,7 +7,8 @@ use lib.ListN.{length}
 use Rattle.rules.specs.declared.Side.{Side}
 use Rattle.rules.specs.declared.Side.the-variants.{Positive, Negative}
 use Rattle.rules.specs.Refusals.{Reply, taken, refused}
-use Rattle.rules.specs.Sheet.{side-total, right-at, first-wrong, members-reply}
+use Rattle.integers.specs.Sums.{first-wrong}
+use Rattle.rules.specs.Sheet.{side-total, right-at, members-reply}
 use Rattle.share.specs.declared.part.Rate.{Rate}
 use Rattle.share.specs.declared.exact.Judged.{Judged}
 use Rattle.share.specs.declared.exact.Judged.the-variants.{Right, Wrong, Refused}

@@ -28,8 +28,10 @@ use interval::Tally;
 use interval::contents::contents;
 use interval::turns::BEFORE_UNITS;
 use little::u16_at;
+use rules::Located;
 use rules::Refusal;
 use rules::Verdict;
+use rules::locate;
 use sheets::Told;
 
 const UNITS: usize = ROWS_LENGTH / ROW_EACH;
@@ -43,14 +45,14 @@ const RECORD: usize = 373;
 // The tally so far, or why no more is read.
 enum Next {
     Taken(Tally),
-    Refused(Refusal),
+    Refused(Located),
     Failed,
 }
 
 // A book that was taken to its end, and whether it has the requirement; or why it was not.
 enum Book {
     Taken(Tally, bool),
-    Refused(Refusal),
+    Refused(Located),
     Failed,
 }
 
@@ -72,7 +74,7 @@ fn open(file: i32, bytes: &mut [u8]) -> Next
     let count = got.count;
     match contents(&bytes[0..count]) {
         Opened::Taken(tally) => Next::Taken(tally),
-        Opened::Refused(refusal) => Next::Refused(refusal),
+        Opened::Refused(refusal) => Next::Refused(locate(0, refusal)),
     }
 }
 
@@ -120,7 +122,7 @@ fn take_next(
     let taking = step.taking;
     match taking {
         Taking::Taken => Next::Taken(after),
-        Taking::Refused(refusal) => Next::Refused(refusal),
+        Taking::Refused(said) => Next::Refused(said),
     }
 }
 
@@ -153,7 +155,7 @@ fn either(a: bool, b: bool) -> bool {
 fn untaken(next: Next) -> Book {
     match next {
         Next::Taken(tally) => Book::Taken(tally, false),
-        Next::Refused(refusal) => Book::Refused(refusal),
+        Next::Refused(said) => Book::Refused(said),
         Next::Failed => Book::Failed,
     }
 }
@@ -263,7 +265,7 @@ fn tell_named(
     match name_of(place, given, tally, figures, numbers, homes) {
         Name::Unit(number) => output::wrong_unit(place, number),
         Name::Residual => output::wrong_residual(place),
-        Name::Refused(refusal) => output::refused(refusal),
+        Name::Refused(refusal) => output::refused(locate(0, refusal)),
     }
 }
 
@@ -286,7 +288,7 @@ fn judge_factors(
     };
     match lines::judge(performances, given.members as usize, &factors, count) {
         Told::Is(verdict) => tell_named(verdict, given, tally, figures, numbers, homes),
-        Told::Refused(refusal) => output::refused(refusal),
+        Told::Refused(refusal) => output::refused(locate(0, refusal)),
     }
 }
 
@@ -324,7 +326,7 @@ fn judge_part(
         Answered::Given(given) => {
             judge_factors(given, &performances, tally, figures, numbers, homes)
         }
-        Answered::Refused(refusal) => output::refused(refusal),
+        Answered::Refused(refusal) => output::refused(locate(0, refusal)),
     }
 }
 
@@ -367,7 +369,7 @@ fn judge_file(file: i32, wanted: u64) {
                 &rows,
             );
         }
-        Book::Refused(refusal) => output::refused(refusal),
+        Book::Refused(said) => output::refused(said),
         Book::Failed => output::unread(),
     }
 }

@@ -2,10 +2,12 @@
 use super::lines::Line;
 use libc::STDERR_FILENO;
 use libc::STDOUT_FILENO;
-use rules::Refusal;
+use rules::Located;
 use rules::Side;
 use rules::Verdict;
+use rules::locate;
 use rules::refusal_number;
+use rules::refusal_point;
 use sheets::Told;
 
 fn unwritten() {
@@ -19,21 +21,36 @@ fn say(words: &[u8]) {
     }
 }
 
-// A line of words, a number and words.
-pub(crate) fn say_number(words: &[u8], number: u64, rest: &[u8]) {
+// Words and a number, before more of a line; whether they were written.
+fn say_before(words: &[u8], number: u64) -> bool {
     if !io::write_all(STDOUT_FILENO, words) {
         unwritten();
-        return;
+        return false;
     }
     if !io::print_decimal(STDOUT_FILENO, number) {
         unwritten();
-        return;
+        return false;
     }
-    say(rest);
+    true
 }
 
-pub(crate) fn refused(refusal: Refusal) {
-    say_number(b"refused ", refusal_number(refusal) as u64, b"\n");
+// A line of words, a number and words.
+pub(crate) fn say_number(words: &[u8], number: u64, rest: &[u8]) {
+    if say_before(words, number) {
+        say(rest);
+    }
+}
+
+// Number, place and t, with 0 for one that is not there.
+pub(crate) fn refused(said: Located) {
+    let refusal = said.refusal;
+    if !say_before(b"refused ", refusal_number(refusal) as u64) {
+        return;
+    }
+    if !say_before(b" ", said.place as u64) {
+        return;
+    }
+    say_number(b" ", refusal_point(refusal) as u64, b"\n");
 }
 
 // A side whose sum is off.
@@ -55,15 +72,9 @@ pub(crate) fn tell_verdict(verdict: Verdict) {
 
 // A wrong member by its name too.
 pub(crate) fn wrong_unit(member: u16, unit: u16) {
-    if !io::write_all(STDOUT_FILENO, b"wrong member ") {
-        unwritten();
-        return;
+    if say_before(b"wrong member ", member as u64) {
+        say_number(b" unit ", unit as u64, b"\n");
     }
-    if !io::print_decimal(STDOUT_FILENO, member as u64) {
-        unwritten();
-        return;
-    }
-    say_number(b" unit ", unit as u64, b"\n");
 }
 
 pub(crate) fn wrong_residual(member: u16) {
@@ -78,7 +89,7 @@ pub(crate) fn no_requirement(number: u64) {
 pub(crate) fn tell(told: Told) {
     match told {
         Told::Is(verdict) => tell_verdict(verdict),
-        Told::Refused(refusal) => refused(refusal),
+        Told::Refused(refusal) => refused(locate(0, refusal)),
     }
 }
 

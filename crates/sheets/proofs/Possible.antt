@@ -12,17 +12,17 @@ use borrow.Author.Tests.{ltb-true, lt-ltb, leb-true, le-leb, eqb-true, eqb-false
 use Rattle.integers.proofs.Pairs.{v, _⊖_, ring}
 use Rattle.integers.proofs.Bounds.{abs-is}
 use Rattle.integers.proofs.Tests.{leZ-true}
-use Rattle.integers.specs.Sums.{sumℕ, every}
-use Rattle.integers.proofs.Sums.{every-at, every-all, some-term, sumℕ-term}
+use Rattle.integers.specs.Sums.{sumℕ, every, first-wrong}
+use Rattle.integers.proofs.Sums.{FirstWrong, every-at, every-all, first-wrong-means, some-term, sumℕ-term}
 use Rattle.rules.specs.declared.Refusal.the-variants.{TooShort, WrongCount}
 use Rattle.rules.specs.declared.Side.{Side}
 use Rattle.rules.specs.declared.Side.the-variants.{Positive, Negative}
 use Rattle.rules.specs.declared.Verdict.{Verdict}
 use Rattle.rules.specs.declared.Verdict.the-variants.{Possible, WrongMember, WrongSide}
 use Rattle.rules.specs.Quantities.{billion, most-members, weight-limit}
-use Rattle.rules.specs.Refusals.{taken, unless}
-use Rattle.rules.specs.Sheet.{on, signed, near, agrees, right, number-at, right-at, side-total, side-sum, side-right, first-wrong, verdict, sheet-reply}
-use Rattle.laws.proofs.SheetLaws.{FirstWrong, first-wrong-means, right-near}
+use Rattle.rules.specs.Refusals.{Reply, taken, unless}
+use Rattle.rules.specs.Sheet.{on, signed, near, agrees, right, number-at, right-at, side-total, side-sum, side-right, verdict, sheet-reply}
+use Rattle.laws.proofs.SheetLaws.{right-near}
 use Rattle.sheets.specs.Possible.{Agrees, SidePossible, PossibleSheet, Judgeable}
 use Rattle.sheets.proofs.SidesLaws.{no-size, right-agrees, total-is}
 
@@ -161,7 +161,7 @@ module _ (ps fs : List ℤ) where
         nothing = λ i l z. right-nothing (λ s. side-total s ps) (number-at ps i) (number-at fs i) (right-member (t .0) i l) z;
       }
     where
-      same : {v w : Verdict} → taken v ≡ taken w → v ≡ w
+      same : {v w : Verdict} → _≡_ {A = Reply Verdict} (taken v) (taken w) → v ≡ w
       same e = cc
 
   pub accepted-where : Judgeable ps fs → PossibleSheet ps fs → sheet-reply ps fs ≡ taken Possible
@@ -189,8 +189,7 @@ module _ (ps fs : List ℤ) where
       go (all-right ps fs) refl (side-right Positive ps fs) (side-right Negative ps fs) (sym (judged ps fs (judgeable ps fs e)) ∙ e)
     where
       go : (a : Bool) → all-right ps fs ≡ a → (b c : Bool) →
-          taken (told a b c) ≡
-          taken (WrongMember k) → FirstWrong (right-at billion ps fs) (length ps) k
+          _≡_ {A = Reply Verdict} (taken (told a b c)) (taken (WrongMember k)) → FirstWrong (right-at billion ps fs) (length ps) k
       go true f true true e = let z : _≡_ {A = ℕ} 0 1 = cc in absurd (omega arith)
       go true f true false e = let z : _≡_ {A = ℕ} 0 1 = cc in absurd (omega arith)
       go true f false c e = let z : _≡_ {A = ℕ} 0 1 = cc in absurd (omega arith)
@@ -206,8 +205,7 @@ module _ (ps fs : List ℤ) where
       go (all-right ps fs) refl (side-right Positive ps fs) refl (side-right Negative ps fs) refl (sym (judged ps fs (judgeable ps fs e)) ∙ e)
     where
       go : (a : Bool) → all-right ps fs ≡ a → (b : Bool) → side-right Positive ps fs ≡ b → (c : Bool) → side-right Negative ps fs ≡ c →
-          taken (told a b c) ≡
-          taken (WrongSide s) → (all-right ps fs ≡ true) × (side-right s ps fs ≡ false) × (s ≡ Negative → side-right Positive ps fs ≡ true)
+          _≡_ {A = Reply Verdict} (taken (told a b c)) (taken (WrongSide s)) → (all-right ps fs ≡ true) × (side-right s ps fs ≡ false) × (s ≡ Negative → side-right Positive ps fs ≡ true)
       go true f true g true h e = let z : _≡_ {A = ℕ} 0 1 = cc in absurd (omega arith)
       go true f true g false h e =
           let is : Negative ≡ s = cc in (f, subst (λ (s : Side). side-right s ps fs ≡ false) is h, λ _. g)

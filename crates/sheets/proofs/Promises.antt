@@ -8,14 +8,14 @@ use lib.Dec.{eqb}
 use lib.IntN.{ℤ}
 use lib.ListN.{length}
 use borrow.Author.Tests.{eqb-true, le-leb}
-use Rattle.integers.specs.Sums.{every}
+use Rattle.integers.specs.Sums.{every, first-wrong}
+use Rattle.integers.proofs.Sums.{none-wrong, first-wrong-means}
 use Rattle.rules.specs.declared.Refusal.the-variants.{TooShort, WrongCount}
 use Rattle.rules.specs.declared.Verdict.{Verdict}
 use Rattle.rules.specs.declared.Verdict.the-variants.{WrongMember}
 use Rattle.rules.specs.Quantities.{billion, most-members}
 use Rattle.rules.specs.Refusals.{Reply, taken, refused, unless}
-use Rattle.rules.specs.Sheet.{right-at, sides-fit, first-wrong, members-reply, verdict, sheet-reply}
-use Rattle.laws.proofs.SheetLaws.{none-wrong, first-wrong-means}
+use Rattle.rules.specs.Sheet.{right-at, sides-fit, members-reply, verdict, sheet-reply}
 use Rattle.share.specs.declared.exact.Judged.{Judged}
 use Rattle.share.specs.declared.exact.Judged.the-variants.{Right, Wrong, Refused}
 use Rattle.share.specs.Exact.{judged-of}

@@ -4,12 +4,12 @@ use mathlib.Core.Path.{_≡_, refl}
 use mathlib.Core.List.{List, [], _∷_}
 use Prim.Native.Nat.{ℕ, zero, suc, _+_, _-_}
 use lib.IntN.{ℤ, pos, negsuc, negℤ}
-use Rattle.integers.specs.Sums.{sum, sumℕ, every}
+use Rattle.integers.specs.Sums.{sum, sumℕ, every, first-wrong}
 use Rattle.rules.specs.declared.Refusal.the-variants.{TooShort, WrongCount}
 use Rattle.rules.specs.declared.Side.the-variants.{Positive, Negative}
 use Rattle.rules.specs.declared.Verdict.the-variants.{Possible, WrongMember, WrongSide}
 use Rattle.rules.specs.Refusals.{taken, refused}
-use Rattle.rules.specs.Sheet.{first-wrong, verdict, sheet-reply}
+use Rattle.rules.specs.Sheet.{verdict, sheet-reply}
 
 -- n below zero
 abbrev minus : ℕ → ℤ

@@ -15,13 +15,14 @@ use interval::SUMS_LENGTH;
 use interval::Taking;
 use interval::Tally;
 use interval::turns::BEFORE_UNITS;
-use rules::Refusal;
+use rules::Located;
+use rules::locate;
 
 // The tally of a book; or why no more is read: no byte came where a book would start, the refusal, or a reading that failed.
 pub(crate) enum Next {
     Taken(Tally),
     Ended,
-    Refused(Refusal),
+    Refused(Located),
     Failed,
 }
 
@@ -40,7 +41,7 @@ fn open(bytes: &mut [u8]) -> Next
     let opened = interval::contents::contents(&bytes[0..count]);
     match opened {
         Opened::Taken(tally) => Next::Taken(tally),
-        Opened::Refused(refusal) => Next::Refused(refusal),
+        Opened::Refused(refusal) => Next::Refused(locate(0, refusal)),
     }
 }
 

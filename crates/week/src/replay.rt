@@ -12,7 +12,9 @@ use super::running::WEEKS;
 use super::running::add_at;
 use super::running::find;
 use super::running::join;
+use rules::Located;
 use rules::Refusal;
+use rules::locate;
 ghost use Prim.Native.Nat.{_+_, _*_, _<_, _≤_};
 ghost use lib.ListN.{length};
 use book::UNIT;
@@ -28,7 +30,7 @@ const MOST_BOOKS: u16 = 2016;
 pub(crate) enum End {
     On,
     Over(u16, usize),
-    Refused(Refusal, u16),
+    Refused(Located, u16),
     Failed,
 }
 
@@ -180,7 +182,7 @@ fn end_of(next: Next, books: u16, members: usize, place: u16) -> End {
     match next {
         Next::Taken(_) => End::Over(books, members),
         Next::Ended => End::Over(books, members),
-        Next::Refused(refusal) => End::Refused(refusal, place),
+        Next::Refused(said) => End::Refused(said, place),
         Next::Failed => End::Failed,
     }
 }
@@ -195,7 +197,7 @@ fn last_end(members: usize) -> End {
     if got.count == 0 {
         return End::Over(MOST_BOOKS, members);
     }
-    End::Refused(Refusal::WrongWeek, MOST_BOOKS + 1)
+    End::Refused(locate(0, Refusal::WrongWeek), MOST_BOOKS + 1)
 }
 
 fn stopped(end: End) -> Turn
@@ -240,7 +242,7 @@ fn replay_book(
     let units = within_rows(tally.units);
     let joined = join_all(numbers, units, names, members);
     if MEMBERS < joined {
-        return stopped(End::Refused(Refusal::WrongCount, place));
+        return stopped(End::Refused(locate(0, Refusal::WrongCount), place));
     }
     let mut done = [0i64; WEEKS];
     let mut live = [0u8; WEEKS];
@@ -256,7 +258,7 @@ fn replay_book(
         &mut live,
     );
     if let Kept::No(refusal) = noted {
-        return stopped(End::Refused(refusal, place));
+        return stopped(End::Refused(locate(0, refusal), place));
     }
     let kept = add_book(
         books,
@@ -271,7 +273,7 @@ fn replay_book(
         lows,
     );
     if let Kept::No(refusal) = kept {
-        return stopped(End::Refused(refusal, place));
+        return stopped(End::Refused(locate(0, refusal), place));
     }
     Turn {
         members: joined,

@@ -15,6 +15,8 @@ use second::listing::write_listing;
 use second::{damage, invariants, make, rules, write};
 
 const DIFFERENCES: &str = "target/differences";
+/// What a book can be refused with.
+const NUMBERS: [u8; 16] = [1, 2, 3, 4, 5, 6, 71, 72, 73, 74, 81, 82, 83, 84, 9, 10];
 
 /// A book to try, and how to make it again.
 struct Trial {
@@ -61,12 +63,13 @@ fn trial(turn: u64) -> Trial {
     }
 }
 
-/// What a program has to print for a book, the shares in which the rule before request R-9 would differ, and whether the
-/// rule of performance before request R-3 would.
+/// What a program has to print for a book, the shares in which the rule before request R-9 would differ, whether the
+/// rule of performance before request R-3 would, and what the book is refused with.
 struct Expected {
     output: String,
     shares: BTreeSet<(&'static str, &'static str)>,
     dropping_tells: bool,
+    refusal: Option<Refusal>,
 }
 
 /// The second program's output, with its invariants tested on the way.
@@ -81,13 +84,14 @@ fn second_output(trial: &Trial, turn: u64) -> Result<Expected, String> {
             invariants::splits_close(&book, &all, turn as usize)?;
             let output = write_listing(book.settings.interval, &all);
             let dropping_tells = rules::dropping_tells(&book, &all);
-            Ok(Expected { output, shares: rules::shares_of(&all), dropping_tells })
+            Ok(Expected { output, shares: rules::shares_of(&all), dropping_tells, refusal: None })
         }
-        Err(Refusal(number)) if trial.whole => Err(format!("a made book is refused {number}")),
-        Err(Refusal(number)) if !(1..=10).contains(&number) => Err(format!("refused {number}")),
-        Err(Refusal(number)) => {
-            let output = format!("refused {number}\n");
-            Ok(Expected { output, shares: BTreeSet::new(), dropping_tells: false })
+        Err(refusal) if trial.whole => Err(format!("a made book is refused {refusal}")),
+        Err(refusal) if !NUMBERS.contains(&refusal.number) => Err(format!("refused {refusal}")),
+        Err(refusal) => {
+            let output = format!("refused {refusal}\n");
+            let refusal = Some(refusal);
+            Ok(Expected { output, shares: BTreeSet::new(), dropping_tells: false, refusal })
         }
     }
 }
@@ -118,12 +122,30 @@ fn try_book(
     Ok(ours)
 }
 
-fn outcome_of(output: &str) -> String {
-    if output.starts_with("refused ") {
-        output.trim_end().to_string()
-    } else {
-        "listing".to_string()
-    }
+/// Each number with how many of these refusals have it; numbers that none has are left out.
+fn by_number(refusals: &[Refusal], of: impl Fn(&Refusal) -> bool) -> String {
+    let count =
+        |number: u8| refusals.iter().filter(|refusal| refusal.number == number && of(refusal)).count();
+    let counted = NUMBERS.into_iter().map(|number| (number, count(number))).filter(|&(_, count)| count > 0);
+    counted.map(|(number, count)| format!("{number}: {count}")).collect::<Vec<_>>().join(", ")
+}
+
+/// How many different t these refusals of a number name.
+fn different_ts(refusals: &[Refusal], number: u8) -> usize {
+    let of = refusals.iter().filter(|refusal| refusal.number == number);
+    of.map(|refusal| refusal.t).collect::<BTreeSet<_>>().len()
+}
+
+/// What the damaged books were refused with, and where.
+fn say_refusals(refusals: &[Refusal]) {
+    println!("  damaged books refused: {}; in all {}", by_number(refusals, |_| true), refusals.len());
+    println!(
+        "    of them at a place above 1: {}; with t above 1: {}; different t: 74: {}, 84: {}",
+        by_number(refusals, |refusal| refusal.place > 1),
+        by_number(refusals, |refusal| refusal.t > 1),
+        different_ts(refusals, 74),
+        different_ts(refusals, 84)
+    );
 }
 
 fn main() -> ExitCode {
@@ -135,7 +157,8 @@ fn main() -> ExitCode {
     let scratch = Path::new(DIFFERENCES).join(format!("in-work-{}", std::process::id()));
     let command = library_command("settle");
     println!("{}", announcement(command.as_deref()));
-    let mut outcomes: BTreeMap<String, u64> = BTreeMap::new();
+    let mut refusals: Vec<Refusal> = Vec::new();
+    let mut listings = 0;
     let mut shares: BTreeMap<(&str, &str), u64> = BTreeMap::new();
     let mut told_apart = 0;
     // Whole books, those of them that drop points with a difference, and damaged ones that do.
@@ -145,7 +168,8 @@ fn main() -> ExitCode {
         let trial = trial(turn);
         match try_book(&trial, turn, command.as_deref(), &scratch) {
             Ok(expected) => {
-                *outcomes.entry(outcome_of(&expected.output)).or_default() += 1;
+                listings += u64::from(expected.refusal.is_none());
+                refusals.extend(expected.refusal);
                 told_apart += u64::from(!expected.shares.is_empty());
                 whole += u64::from(trial.whole);
                 whole_dropping += u64::from(trial.whole && expected.dropping_tells);
@@ -163,9 +187,7 @@ fn main() -> ExitCode {
         }
     }
     let _ = fs::remove_file(&scratch);
-    for (outcome, count) in &outcomes {
-        println!("  {outcome}: {count}");
-    }
+    println!("  listings: {listings}");
     println!("  listings that the rule before request R-9 would give otherwise: {told_apart}");
     for ((share, direction), count) in &shares {
         println!("    {share}, {direction}: {count}");
@@ -173,6 +195,7 @@ fn main() -> ExitCode {
     let dropping = whole_dropping + damaged_dropping;
     println!("  listings that the rule before request R-3 would give otherwise: {dropping}");
     println!("    of {whole} whole books: {whole_dropping}");
+    say_refusals(&refusals);
     println!("compare: {passed} passed, {failed} failed");
     if failed == 0 {
         ExitCode::SUCCESS

@@ -1,5 +1,5 @@
 //! `known`: the books whose answer is known beforehand (tests/worked, tests/vectors,
-//! and the sweep of every field limit and every order of refusals), through the
+//! and the sweep of every field limit and every order of refusals, with place and t), through the
 //! second program and, where it is built, the library.
 //! Run from the top of the repository, see tests/compare.
 
@@ -51,7 +51,7 @@ fn check_worked(program: &Program, name: &str) -> Result<(), String> {
 /// A refusal is printed alone; a settled book is printed as the second program does.
 fn check_trial(program: &Program, trial: &Trial) -> Result<(), String> {
     let expected = match trial.refusal {
-        Some(number) => format!("refused {number}\n"),
+        Some(refusal) => format!("refused {refusal}\n"),
         None => settle(&trial.bytes),
     };
     let output = program.output(&trial.bytes)?;

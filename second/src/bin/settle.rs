@@ -1,4 +1,4 @@
-//! `settle`: a book on standard input; its listing, or `refused N`.
+//! `settle`: a book on standard input; its listing, or `refused N PLACE T`.
 
 use std::io::{Read, Write};
 

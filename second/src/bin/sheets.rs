@@ -40,6 +40,7 @@ fn outcome_of(printed: &str) -> String {
         ["wrong", "member", _, "residual"] => "wrong member, residual".to_string(),
         ["wrong", "member", _, "unit", _] => "wrong member, unit".to_string(),
         ["no", "requirement", _] => "no requirement".to_string(),
+        ["refused", number, _, _] => format!("refused {number}"),
         _ => printed.trim_end().to_string(),
     }
 }

@@ -1,5 +1,5 @@
 //! `week`: books one after another on standard input; count and default of every unit and every region's
-//! residual, or `refused N PLACE`.
+//! residual, or `refused N BOOK PLACE T`.
 
 use std::io::{Read, Write};
 

@@ -44,7 +44,7 @@ fn try_week(trial: &WeekTrial, command: Option<&[String]>, scratch: &Path) -> Re
 
 fn outcome_of(output: &str) -> String {
     match output.split(' ').collect::<Vec<_>>()[..] {
-        ["refused", number, _] => format!("refused {number}"),
+        ["refused", number, ..] => format!("refused {number}"),
         _ => "lines".to_string(),
     }
 }

@@ -1,17 +1,22 @@
 //! Every limit once, on a book that is taken honestly, so that a call differs from an honest one in just the
 //! one thing: each list a number short, exact and longer; each lent number on both sides of its limits; each
-//! region's interval number wrong alone.
+//! region's interval number wrong alone; each record with faults of every sort in its fields, at every t.
 
 use std::io::Write;
 
 use super::{span, Made, Script, CLASSES};
 use crate::book::CONTENTS_SIZE;
 use crate::boundary::*;
+use crate::damage::{spoil_once_or_twice, spoil_t, Kind};
 use crate::make::make;
 use crate::quantities::*;
 
 const UNITS: usize = 5;
 const REQUIREMENT: usize = 1 + REGIONS + UNITS;
+/// Faults that are drawn for each record.
+const FAULTS: usize = 30;
+/// The five frequency records and the five units have so many t each, all 75 together.
+const TS_OF_A_RECORD: usize = POINTS / REGIONS;
 
 /// A call, and the bytes that it would take.
 struct Honest {
@@ -271,6 +276,31 @@ impl<W: Write> Script<W> {
         self.unread(honest, "a number", "numbers", row);
     }
 
+    /// The record whose turn it is with a fault or two, with no bytes at all, and with the number 0 where it has a number;
+    /// then each of its share of the 75 points wrong alone, a good one and a bad one.
+    fn faults(&mut self, honest: &Honest, place: usize) {
+        let kind = Kind::named(honest.kind).expect("a record");
+        for _ in 0..FAULTS {
+            let mut part = honest.part.clone();
+            spoil_once_or_twice(&mut self.chance, kind, &mut part);
+            self.trial(&Honest { kind: honest.kind, part }, "a fault", &[]);
+        }
+        self.cut_trial(honest, "no bytes", &[], 0);
+        if kind == Kind::Unit || kind == Kind::Requirement {
+            let part = [&[0, 0], &honest.part[2..]].concat();
+            self.trial(&Honest { kind: honest.kind, part }, "number 0", &[]);
+        }
+        if kind == Kind::Frequency || kind == Kind::Unit {
+            for t in (1..=POINTS).filter(|t| (t - 1) / TS_OF_A_RECORD == place - 1) {
+                for good in [true, false] {
+                    let mut part = honest.part.clone();
+                    spoil_t(&mut self.chance, kind, &mut part, t, good);
+                    self.trial(&Honest { kind: honest.kind, part }, "a point", &[]);
+                }
+            }
+        }
+    }
+
     pub(super) fn limits(&mut self) {
         let (class, _) = self.chance.pick(&CLASSES);
         let mut book = make(self.chance.draw(), class, Some(UNITS)).expect("a class of the list");
@@ -284,6 +314,8 @@ impl<W: Write> Script<W> {
         for records in 0..REQUIREMENT {
             let (start, size, kind) = made.record(records);
             let honest = Honest { kind, part: made.bytes[start..start + size].to_vec() };
+            let place = Tally::from_words(&self.tally_words()).place_of_next(kind);
+            self.faults(&honest, place);
             if records == frequency {
                 self.frequency_limits(&honest);
             } else if records == 1 + REGIONS + taken {
@@ -299,6 +331,15 @@ impl<W: Write> Script<W> {
                 let row = self.chance.place(UNITS);
                 self.member_limits(row, direction);
             }
+        }
+        for records in REQUIREMENT..made.records() {
+            let (start, size, kind) = made.record(records);
+            let honest = Honest { kind, part: made.bytes[start..start + size].to_vec() };
+            let place = Tally::from_words(&self.tally_words()).place_of_next(kind);
+            self.faults(&honest, place);
+            let longer = [&honest.part[..], &[0]].concat();
+            self.trial(&Honest { kind, part: longer }, "a byte behind", &[]);
+            self.call(kind, &honest.part);
         }
     }
 }

@@ -6,9 +6,19 @@ use second::listing::settle;
 use second::sweep::Trial;
 use second::write::to_bytes;
 
-/// The refusal a book meets, None if it is settled.
+/// The refusal a book meets, with its place and t; None if it is settled.
+pub fn refused(bytes: &[u8]) -> Option<Refusal> {
+    read_book(bytes).err()
+}
+
+/// Its number alone.
 pub fn refusal(bytes: &[u8]) -> Option<u8> {
-    read_book(bytes).err().map(|Refusal(number)| number)
+    refused(bytes).map(|refusal| refusal.number)
+}
+
+/// A refusal by its number, its place and its t.
+pub fn at(number: u8, place: usize, t: usize) -> Option<Refusal> {
+    Some(Refusal { number, place, t })
 }
 
 pub fn printed(book: &Book) -> String {
@@ -17,6 +27,6 @@ pub fn printed(book: &Book) -> String {
 
 pub fn holds(trials: &[Trial]) {
     for trial in trials {
-        assert_eq!(refusal(&trial.bytes), trial.refusal, "{}", trial.name);
+        assert_eq!(refused(&trial.bytes), trial.refusal, "{}", trial.name);
     }
 }

@@ -50,7 +50,7 @@ returns-2 c =
     rw (put .before .before .enum-told .given .1) (refl, put .put-row2 .ensures)
 
 returns-3 : tie.Need-returns-3
-returns-3 c = search needs
+returns-3 c = rw (c .before .before .row2 .given .1) (c .refusal-number .ensures, refl)
 
 pub tell-row-spec : {M : Type 1} → statement M
 tell-row-spec =

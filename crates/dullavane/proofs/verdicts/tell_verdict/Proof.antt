@@ -23,7 +23,7 @@ returns : tie.Need-returns
 returns c = rw (c .before .before .before .before .before .told .given .1) (refl, c .before .before .put-verdict .ensures)
 
 returns-2 : tie.Need-returns-2
-returns-2 c = search needs
+returns-2 c = rw (c .before .before .told2 .given .1) (c .refusal-number .ensures, refl)
 
 pub tell-verdict-spec : {M : Type 1} → statement M
 tell-verdict-spec =

@@ -24,7 +24,7 @@ returns c =
     rw (c .before .before .before .before .told .given .1) (refl, c .before .put-default .ensures)
 
 returns-2 : tie.Need-returns-2
-returns-2 c = search needs
+returns-2 c = rw (c .before .before .told2 .given .1) (c .refusal-number .ensures, refl)
 
 pub tell-default-spec : {M : Type 1} → statement M
 tell-default-spec =

@@ -2,7 +2,7 @@
 use mathlib.Core.Path.{sym, _∙_, ap}
 use borrow.Author.Needs.{needs}
 use Rattle.interval.specs.declared.Taking.{Taking}
-use Rattle.dullavane.specs.Words.{taking-number, words-left}
+use Rattle.dullavane.specs.Words.{taking-said, words-left}
 use Rattle.dullavane.proofs.words.tell.Statement.{statement}
 use Rattle.dullavane.proofs.words.tell.Tie as tie
 
@@ -15,8 +15,8 @@ put-words-requires c κs = search needs
 enum-known-taking : tie.Need-enum-known-taking
 enum-known-taking c = search needs
 
-refusal-number-requires : tie.Need-refusal-number-requires
-refusal-number-requires c κs = search needs
+said-requires : tie.Need-said-requires
+said-requires c κs = search needs
 
 same-length : tie.Need-same-length
 same-length c = c .before .words .given
@@ -27,14 +27,14 @@ returns c =
     let told = put .before .before .before in
     let a = told .before .before .before .args in
     let e = sym (told .enum-told .given .1) in
-    (ap taking-number e, put .put-words .ensures ∙ ap (λ (k : Taking). words-left k (a .step .tally) (a .words .now)) e)
+    (ap taking-said e, put .put-words .ensures ∙ ap (λ (k : Taking). words-left k (a .step .tally) (a .words .now)) e)
 
 returns-2 : tie.Need-returns-2
 returns-2 c =
     let told = c .before .before in
     let a = told .before .before .before .args in
     let e = sym (told .taking .given .1) in
-    (c .refusal-number .ensures ∙ ap taking-number e, ap (λ (k : Taking). words-left k (a .step .tally) (a .words .now)) e)
+    (c .said .ensures ∙ ap taking-said e, ap (λ (k : Taking). words-left k (a .step .tally) (a .words .now)) e)
 
 pub tell-spec : {M : Type 1} → statement M
 tell-spec =
@@ -43,7 +43,7 @@ tell-spec =
     enum-told
     put-words-requires
     enum-known-taking
-    refusal-number-requires
+    said-requires
     same-length
     returns
     returns-2)
