@@ -3,6 +3,7 @@
 ghost use Prim.Native.Nat.{_≤_};
 ghost use lib.ListN.{length};
 use super::RECORDS;
+use super::ROOM;
 use super::UNITS;
 use super::input::fill_from;
 use super::turn::size;
@@ -20,9 +21,6 @@ use interval::requirement::requirement;
 use interval::turns::BEFORE_UNITS;
 use rules::Located;
 use rules::locate;
-
-// How many requirements the bytes have room for.
-const ROOM: u16 = 32;
 
 // The tally so far; or why no more is read: no byte came where a book would start, the refusal, or a reading that failed.
 pub enum Next {

@@ -9,6 +9,7 @@ use answer::roster::member;
 use book::REQUIREMENT;
 use intake::MEMBERS;
 use intake::RECORDS;
+use intake::ROOM;
 use intake::UNITS;
 use interval::FIGURES_LENGTH;
 use interval::ROWS_LENGTH;
@@ -20,9 +21,6 @@ use listing::LINE;
 use listing::Pool;
 use listing::RequirementLine;
 use rules::Direction;
-
-// How many requirements the bytes have room for.
-const ROOM: u16 = 32;
 
 // Where the next member's amounts stand in the columns.
 enum Printed {
