@@ -30,7 +30,7 @@ pub fn fill(place: &mut [u8]) -> Filled
 }
 
 // or an open file.
-pub fn fill_from(file: i32, place: &mut [u8]) -> Filled
+pub(crate) fn fill_from(file: i32, place: &mut [u8]) -> Filled
     ensures { λ r. ⌜ r .count ≤ length (now (place .exit)) ⌝ }
 {
     let mut done: usize = 0;

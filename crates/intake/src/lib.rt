@@ -1,7 +1,19 @@
 // intake: what every reader of books does alike. Standard input fills the place of a record, however few bytes each reading brings; then the call whose turn
-// it is takes the record. So a program needs only a loop that asks for the size of the next record, fills its place and hands it on.
+// it is takes the record. A whole book goes so to its end.
 pub mod input;
 pub mod turn;
+pub mod whole;
+
+pub const UNITS: usize = 512;
+
+// One more than the units, for the residual.
+pub const MEMBERS: usize = 513;
+
+// All requirements of 24 bytes, and the byte that may follow the last. The records before them are read into their place.
+pub const RECORDS: usize = 769;
+
+// How many requirements these bytes have room for.
+pub const ROOM: u16 = 32;
 
 // How many bytes came, fewer than asked for where the input has ended; or the reading failed.
 pub struct Filled {

@@ -1,16 +1,16 @@
 // The listing of a book that has been taken: the interval, then for each requirement its line and a line for each member.
 ghost use Prim.Native.Nat.{_<_, _≤_};
-ghost use lib.ListN.{length};
-use super::MEMBERS;
-use super::UNITS;
 use super::output;
-use super::records::within_room;
 use answer::Answer;
 use answer::Answered;
 use answer::Row;
 use answer::call::answer;
 use answer::roster::member;
 use book::REQUIREMENT;
+use intake::MEMBERS;
+use intake::RECORDS;
+use intake::ROOM;
+use intake::UNITS;
 use interval::FIGURES_LENGTH;
 use interval::ROWS_LENGTH;
 use interval::SERIES_LENGTH;
@@ -162,9 +162,19 @@ fn print_members(
     output::residual(standing, shares, text)
 }
 
+// A book announces no more requirements than there is room for.
+fn within_room(requirements: u16) -> u16
+    ensures { λ r. ⌜ r ≤ 32 ⌝ }
+{
+    if ROOM < requirements {
+        return ROOM;
+    }
+    requirements
+}
+
 pub(crate) fn print_book(
     tally: Tally,
-    bytes: &[u8],
+    bytes: &[u8; RECORDS],
     measures: &[i32; SERIES_LENGTH],
     sums: &[i64; SUMS_LENGTH],
     figures: &[i64; FIGURES_LENGTH],
@@ -177,9 +187,8 @@ pub(crate) fn print_book(
     used: &mut [i64; MEMBERS],
     unused: &mut [i64; MEMBERS],
     text: &mut [u8; LINE],
-)
-    requires { ⌜ 769 ≤ length (now bytes) ⌝ }
-{
+) {
+    let whole = &bytes[..];
     if !output::interval(tally.interval, text) {
         return;
     }
@@ -187,7 +196,7 @@ pub(crate) fn print_book(
     let mut start: usize = 0;
     while left > 0 {
         let end = start + REQUIREMENT;
-        let part = &bytes[start..end];
+        let part = &whole[start..end];
         let answered = answer(
             tally,
             part,

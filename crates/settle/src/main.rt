@@ -2,14 +2,20 @@
 // is printed before the book has ended. What goes wrong with reading or writing is told on standard error.
 mod answers;
 mod output;
-mod records;
 
+use intake::MEMBERS;
+use intake::RECORDS;
+use intake::UNITS;
+use intake::whole::Next;
+use intake::whole::take_book;
 use interval::FIGURES_LENGTH;
 use interval::ROWS_LENGTH;
 use interval::SERIES_LENGTH;
 use interval::SUMS_LENGTH;
+use libc::STDIN_FILENO;
 use listing::LINE;
-use records::Next;
+use rules::Refusal;
+use rules::locate;
 
 // The buffers, in bytes, each array once:
 //   regions: measures 1,500, sums 6,000, figures 400
@@ -19,14 +25,6 @@ use records::Next;
 //   a line of text 165
 //   a third of a unit's readings 100 (`units`), a share's counters 1,024 (`share`)
 // Together 64,782, within 65,536.
-const UNITS: usize = 512;
-
-// One more than the units, for the residual.
-const MEMBERS: usize = 513;
-
-// All requirements of 24 bytes, and the byte that may follow the last. The records before them are read into their place.
-const RECORDS: usize = 769;
-
 fn main() {
     let mut measures = [0i32; SERIES_LENGTH];
     let mut sums = [0i64; SUMS_LENGTH];
@@ -41,7 +39,9 @@ fn main() {
     let mut used = [0i64; MEMBERS];
     let mut unused = [0i64; MEMBERS];
     let mut text = [0u8; LINE];
-    let listed = records::take_units(
+    let next = take_book(
+        STDIN_FILENO,
+        true,
         &mut bytes,
         &mut measures,
         &mut sums,
@@ -50,7 +50,6 @@ fn main() {
         &mut homes,
         &mut rows,
     );
-    let next = records::take_requirements(listed, &mut bytes);
     match next {
         Next::Taken(tally) => answers::print_book(
             tally,
@@ -68,6 +67,9 @@ fn main() {
             &mut unused,
             &mut text,
         ),
+        Next::Ended => {
+            output::refused(locate(0, Refusal::EndsEarly), &mut text);
+        }
         Next::Refused(said) => {
             output::refused(said, &mut text);
         }

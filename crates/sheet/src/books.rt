@@ -1,6 +1,5 @@
 // The performances of a requirement from its book, and the name of a wrong member.
 ghost use Prim.Native.Nat.{_≤_};
-ghost use lib.ListN.{length};
 use super::lines;
 use super::lines::Line;
 use super::lines::PLACES;
@@ -12,49 +11,25 @@ use answer::Answered;
 use answer::Row;
 use answer::call::answer;
 use answer::roster::member;
-use book::CONTENTS;
 use book::REQUIREMENT;
-use intake::input::fill_from;
-use intake::turn::size;
-use intake::turn::take;
+use intake::MEMBERS;
+use intake::RECORDS;
+use intake::UNITS;
+use intake::whole::Next;
+use intake::whole::take_book;
 use interval::FIGURES_LENGTH;
-use interval::Opened;
-use interval::ROW_EACH;
 use interval::ROWS_LENGTH;
 use interval::SERIES_LENGTH;
 use interval::SUMS_LENGTH;
-use interval::Taking;
 use interval::Tally;
-use interval::contents::contents;
-use interval::turns::BEFORE_UNITS;
 use little::u16_at;
-use rules::Located;
 use rules::Refusal;
 use rules::Verdict;
 use rules::locate;
 use sheets::Told;
 
-const UNITS: usize = ROWS_LENGTH / ROW_EACH;
-
-// One more than the units, for the residual.
-const MEMBERS: usize = UNITS + 1;
-
-// The longest record, and a byte that may follow the last.
-const RECORD: usize = 373;
-
-// The tally so far, or why no more is read.
-enum Next {
-    Taken(Tally),
-    Refused(Located),
-    Failed,
-}
-
-// A book that was taken to its end, and whether it has the requirement; or why it was not.
-enum Book {
-    Taken(Tally, bool),
-    Refused(Located),
-    Failed,
-}
+// Where the last requirement starts that a book has room for.
+const LAST: usize = 744;
 
 // Who a member is. Of a book that was taken no row is refused; if one were, that would be passed on.
 enum Name {
@@ -63,147 +38,21 @@ enum Name {
     Refused(Refusal),
 }
 
-// The table of contents.
-fn open(file: i32, bytes: &mut [u8]) -> Next
-    requires { ⌜ 373 ≤ length (now bytes) ⌝ }
-{
-    let got = fill_from(file, &mut bytes[0..CONTENTS]);
-    if got.failed {
-        return Next::Failed;
-    }
-    let count = got.count;
-    match contents(&bytes[0..count]) {
-        Opened::Taken(tally) => Next::Taken(tally),
-        Opened::Refused(refusal) => Next::Refused(locate(0, refusal)),
-    }
-}
-
-// The bytes to ask for: the record's, and with the last one a byte more, so that its call sees whether bytes follow the book.
-fn asked(tally: Tally, left: u32) -> usize
-    ensures { λ r. ⌜ r ≤ 373 ⌝ }
-{
-    if left == 1 {
-        return size(tally) + 1;
-    }
-    size(tally)
-}
-
-// One record more.
-fn take_next(
-    file: i32,
-    tally: Tally,
-    end: usize,
-    bytes: &mut [u8],
-    measures: &mut [i32; SERIES_LENGTH],
-    sums: &mut [i64; SUMS_LENGTH],
-    figures: &mut [i64; FIGURES_LENGTH],
-    numbers: &mut [u16; UNITS],
-    homes: &mut [u8; UNITS],
-    rows: &mut [i64; ROWS_LENGTH],
-) -> Next
-    requires { ⌜ (end ≤ 373) × (373 ≤ length (now bytes)) ⌝ }
-{
-    let got = fill_from(file, &mut bytes[0..end]);
-    if got.failed {
-        return Next::Failed;
-    }
-    let count = got.count;
-    let step = take(
-        tally,
-        &bytes[0..count],
-        measures,
-        sums,
-        figures,
-        numbers,
-        homes,
-        rows,
-    );
-    let after = step.tally;
-    let taking = step.taking;
-    match taking {
-        Taking::Taken => Next::Taken(after),
-        Taking::Refused(said) => Next::Refused(said),
-    }
-}
-
-// Is the record behind a tally the requirement that is asked for? Then it is kept.
-fn keep(wanted: u64, tally: Tally, bytes: &[u8], part: &mut [u8; REQUIREMENT]) -> bool
-    requires { ⌜ 373 ≤ length (now bytes) ⌝ }
-{
-    if (tally.records as u32) < BEFORE_UNITS as u32 + tally.units as u32 {
-        return false;
-    }
-    if u16_at(bytes, 0) as u64 != wanted {
-        return false;
-    }
-    let mut i: usize = 0;
-    while i < REQUIREMENT {
-        part[i] = bytes[i];
-        i += 1;
-    }
-    true
-}
-
-fn either(a: bool, b: bool) -> bool {
-    if a {
-        return true;
-    }
-    b
-}
-
-// Why a book was not taken.
-fn untaken(next: Next) -> Book {
-    match next {
-        Next::Taken(tally) => Book::Taken(tally, false),
-        Next::Refused(said) => Book::Refused(said),
-        Next::Failed => Book::Failed,
-    }
-}
-
-// A whole book from a file, each record in the place of the one before.
-fn take_book(
-    file: i32,
-    wanted: u64,
-    bytes: &mut [u8],
-    part: &mut [u8; REQUIREMENT],
-    measures: &mut [i32; SERIES_LENGTH],
-    sums: &mut [i64; SUMS_LENGTH],
-    figures: &mut [i64; FIGURES_LENGTH],
-    numbers: &mut [u16; UNITS],
-    homes: &mut [u8; UNITS],
-    rows: &mut [i64; ROWS_LENGTH],
-) -> Book
-    requires { ⌜ 373 ≤ length (now bytes) ⌝ }
-{
-    let opened = open(file, bytes);
-    let Next::Taken(fresh) = opened else {
-        return untaken(opened);
-    };
-    let mut tally = fresh;
-    let mut found = false;
-    let mut left = BEFORE_UNITS as u32 + tally.units as u32 + tally.requirements as u32;
-    while left > 0 {
-        let end = asked(tally, left);
-        let next = take_next(
-            file,
-            tally,
-            end,
-            bytes,
-            measures,
-            sums,
-            figures,
-            numbers,
-            homes,
-            rows,
-        );
-        let Next::Taken(after) = next else {
-            return untaken(next);
-        };
-        found = either(found, keep(wanted, tally, bytes, part));
-        tally = after;
+// Where the requirement with this number starts among the bytes of a book's requirements; behind the last where there is none.
+fn start_of(wanted: u64, requirements: u16, bytes: &[u8; RECORDS]) -> usize {
+    let mut left = requirements;
+    let mut start: usize = 0;
+    while start <= LAST {
+        if left == 0 {
+            return RECORDS;
+        }
+        if u16_at(bytes, start) as u64 == wanted {
+            return start;
+        }
+        start += REQUIREMENT;
         left -= 1;
     }
-    Book::Taken(tally, found)
+    RECORDS
 }
 
 // 1 for a row that is a member.
@@ -292,17 +141,22 @@ fn judge_factors(
     }
 }
 
-// The answer to the requirement.
+// The answer to the requirement that starts there.
 fn judge_part(
+    start: usize,
     tally: Tally,
-    part: &[u8; REQUIREMENT],
+    bytes: &[u8; RECORDS],
     measures: &[i32; SERIES_LENGTH],
     sums: &[i64; SUMS_LENGTH],
     figures: &[i64; FIGURES_LENGTH],
     numbers: &[u16; UNITS],
     homes: &[u8; UNITS],
     rows: &[i64; ROWS_LENGTH],
-) {
+)
+    requires { ⌜ start ≤ 744 ⌝ }
+{
+    let whole = &bytes[..];
+    let end = start + REQUIREMENT;
     let mut performances = [0i64; MEMBERS];
     let mut factors = [0i64; MEMBERS];
     let mut payments = [0i64; MEMBERS];
@@ -310,7 +164,7 @@ fn judge_part(
     let mut unused = [0i64; MEMBERS];
     let answered = answer(
         tally,
-        part,
+        &whole[start..end],
         measures,
         sums,
         figures,
@@ -330,21 +184,29 @@ fn judge_part(
     }
 }
 
-// The requirement of so much of an open book.
+// Why a book was not taken.
+fn untaken(next: Next) {
+    match next {
+        Next::Taken(_) => {}
+        Next::Ended => output::refused(locate(0, Refusal::EndsEarly)),
+        Next::Refused(said) => output::refused(said),
+        Next::Failed => output::unread(),
+    }
+}
+
+// The requirement with this number of an open book.
 fn judge_file(file: i32, wanted: u64) {
-    let mut bytes = [0u8; RECORD];
-    let mut part = [0u8; REQUIREMENT];
+    let mut bytes = [0u8; RECORDS];
     let mut measures = [0i32; SERIES_LENGTH];
     let mut sums = [0i64; SUMS_LENGTH];
     let mut figures = [0i64; FIGURES_LENGTH];
     let mut numbers = [0u16; UNITS];
     let mut homes = [0u8; UNITS];
     let mut rows = [0i64; ROWS_LENGTH];
-    let book = take_book(
+    let next = take_book(
         file,
-        wanted,
+        true,
         &mut bytes,
-        &mut part,
         &mut measures,
         &mut sums,
         &mut figures,
@@ -352,26 +214,26 @@ fn judge_file(file: i32, wanted: u64) {
         &mut homes,
         &mut rows,
     );
-    match book {
-        Book::Taken(tally, found) => {
-            if !found {
-                output::no_requirement(wanted);
-                return;
-            }
-            judge_part(
-                tally,
-                &part,
-                &measures,
-                &sums,
-                &figures,
-                &numbers,
-                &homes,
-                &rows,
-            );
-        }
-        Book::Refused(said) => output::refused(said),
-        Book::Failed => output::unread(),
+    let Next::Taken(tally) = next else {
+        untaken(next);
+        return;
+    };
+    let start = start_of(wanted, tally.requirements, &bytes);
+    if LAST < start {
+        output::no_requirement(wanted);
+        return;
     }
+    judge_part(
+        start,
+        tally,
+        &bytes,
+        &measures,
+        &sums,
+        &figures,
+        &numbers,
+        &homes,
+        &rows,
+    );
 }
 
 // Can a word be a requirement's number?

@@ -1,7 +1,6 @@
 // week: reads the books of at most seven days on standard input, one after another, and prints for each unit number and each region's residual the
 // count of live intervals and the default that they give, for raise and for lower. A refused book ends it with one line. How far it is, and what goes
 // wrong with reading or writing, is told on standard error.
-mod books;
 mod output;
 mod performances;
 mod replay;
@@ -10,13 +9,13 @@ mod running;
 // The buffers, in bytes, each array once:
 //   a book's regions: measures 1,500, sums 6,000, figures 400
 //   its units: numbers 1,024, homes 512, rows 32,768
-//   bytes of a record 372, and one to see that the books end; a third of a unit's readings 100 (`units`)
+//   bytes of the records 769, and one to see that the books end; a third of a unit's readings 100 (`units`)
 //   an answer's columns (performances.rt): performances, factors, payments, used, unused 4,104 each, and its requirement 24
 //   a book's performances (replay.rt) 8,272, and whether they are live 1,034
 //   the weeks: names 1,024, lives 2,068, highs 2,068, lows 8,272
 //   the library's own, while a line is written: 4,096
-// Together 90,055, within 131,072.
-use book::UNIT;
+// Together 90,452, within 131,072.
+use intake::RECORDS;
 use interval::FIGURES_LENGTH;
 use interval::ROWS_LENGTH;
 use interval::SERIES_LENGTH;
@@ -26,7 +25,7 @@ use running::MEMBERS;
 use running::WEEKS;
 
 fn main() {
-    let mut bytes = [0u8; UNIT];
+    let mut bytes = [0u8; RECORDS];
     let mut measures = [0i32; SERIES_LENGTH];
     let mut sums = [0i64; SUMS_LENGTH];
     let mut figures = [0i64; FIGURES_LENGTH];

@@ -1,6 +1,4 @@
 // The books of the week, one after another: each is taken whole, then every running week has one interval more.
-use super::books::Next;
-use super::books::take_book;
 use super::output::tell_books;
 use super::performances::ROWS;
 use super::performances::note_book;
@@ -17,12 +15,15 @@ use rules::Refusal;
 use rules::locate;
 ghost use Prim.Native.Nat.{_+_, _*_, _<_, _≤_};
 ghost use lib.ListN.{length};
-use book::UNIT;
+use intake::RECORDS;
 use intake::input::fill;
+use intake::whole::Next;
+use intake::whole::take_book;
 use interval::FIGURES_LENGTH;
 use interval::ROWS_LENGTH;
 use interval::SERIES_LENGTH;
 use interval::SUMS_LENGTH;
+use libc::STDIN_FILENO;
 
 const MOST_BOOKS: u16 = 2016;
 
@@ -219,7 +220,7 @@ fn goes_on(end: End) -> bool {
 fn replay_book(
     books: u16,
     members: usize,
-    bytes: &mut [u8; UNIT],
+    bytes: &mut [u8; RECORDS],
     measures: &mut [i32; SERIES_LENGTH],
     sums: &mut [i64; SUMS_LENGTH],
     figures: &mut [i64; FIGURES_LENGTH],
@@ -235,7 +236,17 @@ fn replay_book(
     ensures { λ r. ⌜ r .members ≤ 512 ⌝ }
 {
     let place = books + 1;
-    let next = take_book(bytes, measures, sums, figures, numbers, homes, rows);
+    let next = take_book(
+        STDIN_FILENO,
+        false,
+        bytes,
+        measures,
+        sums,
+        figures,
+        numbers,
+        homes,
+        rows,
+    );
     let Next::Taken(tally) = next else {
         return stopped(end_of(next, books, members, place));
     };
@@ -282,7 +293,7 @@ fn replay_book(
 }
 
 pub(crate) fn replay(
-    bytes: &mut [u8; UNIT],
+    bytes: &mut [u8; RECORDS],
     measures: &mut [i32; SERIES_LENGTH],
     sums: &mut [i64; SUMS_LENGTH],
     figures: &mut [i64; FIGURES_LENGTH],

@@ -6,12 +6,12 @@ use Rattle.settle.proofs.answers.print_book.Statement.{statement}
 use Rattle.settle.proofs.answers.print_book.Tie as tie
 
 abbrev Inv-loop : tie.InvT-loop
-Inv-loop tally bytes measures sums figures numbers homes rows performances₀ factors₀ payments₀ used₀ unused₀ text₀ left₀
+Inv-loop tally bytes measures sums figures numbers homes rows performances₀ factors₀ payments₀ used₀ unused₀ text₀ whole left₀
     start₀ performances factors payments used unused text left start =
     start + 24 * left ≤ 768
 
 abbrev μ-loop : tie.MeasureT-loop
-μ-loop tally bytes measures sums figures numbers homes rows performances₀ factors₀ payments₀ used₀ unused₀ text₀ left₀ start₀
+μ-loop tally bytes measures sums figures numbers homes rows performances₀ factors₀ payments₀ used₀ unused₀ text₀ whole left₀ start₀
     performances factors payments used unused text left start =
     left
 

@@ -4,14 +4,14 @@ use Prim.Native.Nat.{_+_, _*_, _≤_}
 use native.Mathlib.Omega.{arith}
 use lib.ListN.{length}
 use borrow.Author.Needs.{needs}
-use Rattle.settle.proofs.records.take_requirements.Statement.{statement}
-use Rattle.settle.proofs.records.take_requirements.Tie as tie
+use Rattle.intake.proofs.whole.take_requirements.Statement.{statement}
+use Rattle.intake.proofs.whole.take_requirements.Tie as tie
 
 abbrev Inv-loop : tie.InvT-loop
-Inv-loop bytes₀ tally₀ left₀ start₀ bytes tally left start = (length bytes ≡ length bytes₀) × (start + 24 * left ≤ 768)
+Inv-loop file alone bytes₀ tally₀ left₀ start₀ bytes tally left start = (length bytes ≡ length bytes₀) × (start + 24 * left ≤ 768)
 
 abbrev μ-loop : tie.MeasureT-loop
-μ-loop bytes₀ tally₀ left₀ start₀ bytes tally left start = left
+μ-loop file alone bytes₀ tally₀ left₀ start₀ bytes tally left start = left
 
 enum-known-next : tie.Need-enum-known-next Inv-loop μ-loop
 enum-known-next c = search needs
@@ -31,17 +31,17 @@ asked-requires c κs = search needs
 add-end : tie.Need-add-end Inv-loop μ-loop
 add-end c = omega arith
 
-sub-fill : tie.Need-sub-fill Inv-loop μ-loop
-sub-fill c = omega arith
+sub-fill-from : tie.Need-sub-fill-from Inv-loop μ-loop
+sub-fill-from c = omega arith
 
-part-fill-start : tie.Need-part-fill-start Inv-loop μ-loop
-part-fill-start c = omega arith
+part-fill-from-start : tie.Need-part-fill-from-start Inv-loop μ-loop
+part-fill-from-start c = omega arith
 
-part-fill-end : tie.Need-part-fill-end Inv-loop μ-loop
-part-fill-end c = omega arith
+part-fill-from-end : tie.Need-part-fill-from-end Inv-loop μ-loop
+part-fill-from-end c = omega arith
 
-fill-requires : tie.Need-fill-requires Inv-loop μ-loop
-fill-requires c κs = search needs
+fill-from-requires : tie.Need-fill-from-requires Inv-loop μ-loop
+fill-from-requires c κs = search needs
 
 same-length : tie.Need-same-length Inv-loop μ-loop
 same-length c = omega arith
@@ -106,10 +106,10 @@ take-requirements-spec =
     loop-holds
     asked-requires
     add-end
-    sub-fill
-    part-fill-start
-    part-fill-end
-    fill-requires
+    sub-fill-from
+    part-fill-from-start
+    part-fill-from-end
+    fill-from-requires
     same-length
     returns-2
     add-until

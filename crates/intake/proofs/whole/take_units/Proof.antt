@@ -3,16 +3,16 @@ use mathlib.Core.Path.{_≡_}
 use native.Mathlib.Omega.{arith}
 use lib.ListN.{length}
 use borrow.Author.Needs.{needs}
-use Rattle.week.proofs.books.take_book.Statement.{statement}
-use Rattle.week.proofs.books.take_book.Tie as tie
+use Rattle.intake.proofs.whole.take_units.Statement.{statement}
+use Rattle.intake.proofs.whole.take_units.Tie as tie
 
 abbrev Inv-loop : tie.InvT-loop
-Inv-loop bytes₀ measures₀ sums₀ figures₀ numbers₀ homes₀ rows₀ tally₀ left₀ bytes
+Inv-loop file bytes₀ measures₀ sums₀ figures₀ numbers₀ homes₀ rows₀ tally₀ left₀ bytes
     measures sums figures numbers homes rows tally left =
     length bytes ≡ length bytes₀
 
 abbrev μ-loop : tie.MeasureT-loop
-μ-loop bytes₀ measures₀ sums₀ figures₀ numbers₀ homes₀ rows₀ tally₀ left₀ bytes measures
+μ-loop file bytes₀ measures₀ sums₀ figures₀ numbers₀ homes₀ rows₀ tally₀ left₀ bytes measures
     sums figures numbers homes rows tally left =
     left
 
@@ -41,29 +41,23 @@ cast-left-2 c = search needs
 add-left : tie.Need-add-left Inv-loop μ-loop
 add-left c = omega arith
 
-cast-left-3 : tie.Need-cast-left-3 Inv-loop μ-loop
-cast-left-3 c = search needs
-
-add-left-2 : tie.Need-add-left-2 Inv-loop μ-loop
-add-left-2 c = omega arith
-
 loop-holds : tie.Need-loop-holds Inv-loop μ-loop
 loop-holds c = omega arith
 
 size-requires : tie.Need-size-requires Inv-loop μ-loop
 size-requires c κs = search needs
 
-sub-fill : tie.Need-sub-fill Inv-loop μ-loop
-sub-fill c = omega arith
+sub-fill-from : tie.Need-sub-fill-from Inv-loop μ-loop
+sub-fill-from c = omega arith
 
-part-fill-start : tie.Need-part-fill-start Inv-loop μ-loop
-part-fill-start c = omega arith
+part-fill-from-start : tie.Need-part-fill-from-start Inv-loop μ-loop
+part-fill-from-start c = omega arith
 
-part-fill-end : tie.Need-part-fill-end Inv-loop μ-loop
-part-fill-end c = omega arith
+part-fill-from-end : tie.Need-part-fill-from-end Inv-loop μ-loop
+part-fill-from-end c = omega arith
 
-fill-requires : tie.Need-fill-requires Inv-loop μ-loop
-fill-requires c κs = search needs
+fill-from-requires : tie.Need-fill-from-requires Inv-loop μ-loop
+fill-from-requires c κs = search needs
 
 same-length-2 : tie.Need-same-length-2 Inv-loop μ-loop
 same-length-2 c = omega arith
@@ -90,8 +84,8 @@ same-length-3 : tie.Need-same-length-3 Inv-loop μ-loop
 same-length-3 c =
     let a = asked-in (c .before .before .before) in
     let l = a .before .before .before .before .before .before in
-    let o = l .before .before .before .before .before .before .before .before in
-    omega (arith, a .before .bytes2 .given, a .before .before .fill .kept, l .loop .inv, o .open .kept)
+    let o = l .before .before .before .before .before .before .before in
+    omega (arith, a .before .bytes2 .given, a .before .before .fill-from .kept, l .loop .inv, o .open .kept)
 
 returns-3 : tie.Need-returns-3 Inv-loop μ-loop
 returns-3 c = search needs
@@ -108,7 +102,7 @@ loop-less c = omega (arith, asked-in (c .before .before .before) .before .before
 loop-again : tie.Need-loop-again Inv-loop μ-loop
 loop-again c =
     let a = asked-in (c .before .before .before) in
-    omega (arith, a .before .bytes2 .given, a .before .before .fill .kept, a .before .before .before .before .before .before .loop .inv)
+    omega (arith, a .before .bytes2 .given, a .before .before .fill-from .kept, a .before .before .before .before .before .before .loop .inv)
 
 same-length-4 : tie.Need-same-length-4 Inv-loop μ-loop
 same-length-4 c = omega arith
@@ -116,8 +110,8 @@ same-length-4 c = omega arith
 returns-4 : tie.Need-returns-4 Inv-loop μ-loop
 returns-4 c = search needs
 
-pub take-book-spec : {M : Type 1} → statement M
-take-book-spec =
+pub take-units-spec : {M : Type 1} → statement M
+take-units-spec =
     tie.close
     (tie.spec
     Inv-loop
@@ -129,14 +123,12 @@ take-book-spec =
     cast-left
     cast-left-2
     add-left
-    cast-left-3
-    add-left-2
     loop-holds
     size-requires
-    sub-fill
-    part-fill-start
-    part-fill-end
-    fill-requires
+    sub-fill-from
+    part-fill-from-start
+    part-fill-from-end
+    fill-from-requires
     same-length-2
     returns-2
     sub-take

@@ -1,13 +1,15 @@
-// The records of a book from standard input, each handed to its call: whole, or the short part that came before the input ended.
+// A whole book from an open file, each record handed to its call: whole, or the short part that came before the input ended. The programs that read books
+// differ in what they do with one that was taken.
 ghost use Prim.Native.Nat.{_≤_};
 ghost use lib.ListN.{length};
-use super::MEMBERS;
+use super::RECORDS;
+use super::ROOM;
 use super::UNITS;
+use super::input::fill_from;
+use super::turn::size;
+use super::turn::take;
 use book::CONTENTS;
 use book::REQUIREMENT;
-use intake::input::fill;
-use intake::turn::size;
-use intake::turn::take;
 use interval::FIGURES_LENGTH;
 use interval::Opened;
 use interval::ROWS_LENGTH;
@@ -20,25 +22,26 @@ use interval::turns::BEFORE_UNITS;
 use rules::Located;
 use rules::locate;
 
-// How many requirements the bytes have room for.
-const ROOM: u16 = 32;
-
-// The tally so far, or why no more is read.
-pub(crate) enum Next {
+// The tally so far; or why no more is read: no byte came where a book would start, the refusal, or a reading that failed.
+pub enum Next {
     Taken(Tally),
+    Ended,
     Refused(Located),
     Failed,
 }
 
 // The table of contents.
-fn open(bytes: &mut [u8]) -> Next
+fn open(file: i32, bytes: &mut [u8]) -> Next
     requires { ⌜ 769 ≤ length (now bytes) ⌝ }
 {
-    let got = fill(&mut bytes[0..CONTENTS]);
+    let got = fill_from(file, &mut bytes[0..CONTENTS]);
     if got.failed {
         return Next::Failed;
     }
     let count = got.count;
+    if count == 0 {
+        return Next::Ended;
+    }
     let opened = interval::contents::contents(&bytes[0..count]);
     match opened {
         Opened::Taken(tally) => Next::Taken(tally),
@@ -47,7 +50,8 @@ fn open(bytes: &mut [u8]) -> Next
 }
 
 // The records before the requirements, each in the place of the one before.
-pub(crate) fn take_units(
+fn take_units(
+    file: i32,
     bytes: &mut [u8],
     measures: &mut [i32; SERIES_LENGTH],
     sums: &mut [i64; SUMS_LENGTH],
@@ -58,7 +62,7 @@ pub(crate) fn take_units(
 ) -> Next
     requires { ⌜ 769 ≤ length (now bytes) ⌝ }
 {
-    let opened = open(bytes);
+    let opened = open(file, bytes);
     let Next::Taken(fresh) = opened else {
         return opened;
     };
@@ -66,7 +70,7 @@ pub(crate) fn take_units(
     let mut left = BEFORE_UNITS as u32 + tally.units as u32;
     while left > 0 {
         let end = size(tally);
-        let got = fill(&mut bytes[0..end]);
+        let got = fill_from(file, &mut bytes[0..end]);
         if got.failed {
             return Next::Failed;
         }
@@ -82,8 +86,8 @@ pub(crate) fn take_units(
             rows,
         );
         let taking = step.taking;
-        if let Taking::Refused(refusal) = taking {
-            return Next::Refused(refusal);
+        if let Taking::Refused(said) = taking {
+            return Next::Refused(said);
         }
         tally = step.tally;
         left -= 1;
@@ -91,10 +95,13 @@ pub(crate) fn take_units(
     Next::Taken(tally)
 }
 
-// With the last requirement a byte more is asked for, so that its call sees whether bytes follow the book.
-fn asked(left: u16) -> usize
+// With the last requirement a byte more is asked for where bytes may not follow, so that its call sees whether they do.
+fn asked(left: u16, alone: bool) -> usize
     ensures { λ r. ⌜ (24 ≤ r) × (r ≤ 25) ⌝ }
 {
+    if !alone {
+        return REQUIREMENT;
+    }
     if left == 1 {
         return REQUIREMENT + 1;
     }
@@ -102,7 +109,7 @@ fn asked(left: u16) -> usize
 }
 
 // A book announces no more requirements than there is room for.
-pub(crate) fn within_room(requirements: u16) -> u16
+fn within_room(requirements: u16) -> u16
     ensures { λ r. ⌜ r ≤ 32 ⌝ }
 {
     if ROOM < requirements {
@@ -112,7 +119,7 @@ pub(crate) fn within_room(requirements: u16) -> u16
 }
 
 // The requirements are kept, one after the other.
-pub(crate) fn take_requirements(next: Next, bytes: &mut [u8]) -> Next
+fn take_requirements(file: i32, next: Next, alone: bool, bytes: &mut [u8]) -> Next
     requires { ⌜ 769 ≤ length (now bytes) ⌝ }
 {
     let Next::Taken(listed) = next else {
@@ -122,20 +129,37 @@ pub(crate) fn take_requirements(next: Next, bytes: &mut [u8]) -> Next
     let mut left = within_room(tally.requirements);
     let mut start: usize = 0;
     while left > 0 {
-        let end = start + asked(left);
-        let got = fill(&mut bytes[start..end]);
+        let end = start + asked(left, alone);
+        let got = fill_from(file, &mut bytes[start..end]);
         if got.failed {
             return Next::Failed;
         }
         let until = start + got.count;
         let step = requirement(tally, &bytes[start..until]);
         let outcome = step.taking;
-        if let Taking::Refused(refusal) = outcome {
-            return Next::Refused(refusal);
+        if let Taking::Refused(said) = outcome {
+            return Next::Refused(said);
         }
         tally = step.tally;
         start += REQUIREMENT;
         left -= 1;
     }
     Next::Taken(tally)
+}
+
+// Takes a book to its end; its requirements stand one after the other in the bytes then. Where the book stands alone, a byte behind it is seen and refused
+// with 4; where it does not, the next one starts behind its last requirement, and no byte of it is read.
+pub fn take_book(
+    file: i32,
+    alone: bool,
+    bytes: &mut [u8; RECORDS],
+    measures: &mut [i32; SERIES_LENGTH],
+    sums: &mut [i64; SUMS_LENGTH],
+    figures: &mut [i64; FIGURES_LENGTH],
+    numbers: &mut [u16; UNITS],
+    homes: &mut [u8; UNITS],
+    rows: &mut [i64; ROWS_LENGTH],
+) -> Next {
+    let listed = take_units(file, bytes, measures, sums, figures, numbers, homes, rows);
+    take_requirements(file, listed, alone, bytes)
 }
