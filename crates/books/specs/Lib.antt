@@ -1,6 +1,7 @@
 -- How a book's bytes are written, and how a theorem about one is computed
 pub mod Writing
 pub mod Computing
+pub mod Told
 -- The books, and what is quick to say of them
 pub mod PaperBook
 pub mod Edges

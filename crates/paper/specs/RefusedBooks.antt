@@ -4,20 +4,11 @@ use mathlib.Core.Path.{_≡_, refl}
 use mathlib.Core.List.{List, [], _∷_, _++_}
 use Prim.Native.Nat.{ℕ}
 use lib.ListN.{set}
-use Rattle.rules.specs.Refusals.{number, point, LocatedReply, taken, refused}
-use Rattle.rules.specs.Book.{Book}
 use Rattle.rules.specs.WholeBook.{book}
 use Rattle.books.specs.Writing.{book-bytes}
 use Rattle.books.specs.PaperBook.{paper-book}
 use Rattle.books.specs.Computing.{computing}
-
--- number, place and t; all 0 where the book is taken
-abbrev no : ℕ → ℕ → ℕ → List ℕ
-no n place t = n ∷ place ∷ t ∷ []
-
-abbrev told : LocatedReply Book → List ℕ
-told (taken b) = no 0 0 0
-told (refused r) = no (number (r .refusal)) (r .place) (point (r .refusal))
+use Rattle.books.specs.Told.{no, told}
 
 -- the book's bytes with one put at a place
 abbrev with : ℕ → ℕ → List ℕ → List ℕ

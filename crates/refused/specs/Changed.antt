@@ -10,21 +10,13 @@ use lib.ListN.{length, take, drop, getD}
 use borrow.Author.Tests.{eqb-true}
 use Rattle.integers.specs.Sums.{both}
 use Rattle.integers.specs.Totals.{all}
-use Rattle.rules.specs.Refusals.{number, point, LocatedReply, taken, refused}
+use Rattle.rules.specs.Refusals.{LocatedReply}
 use Rattle.rules.specs.Bytes.{listed}
 use Rattle.rules.specs.Book.{Book}
 use Rattle.rules.specs.WholeBook.{book}
 use Rattle.books.specs.Writing.{bytes, book-bytes}
 use Rattle.books.specs.WorkedBooks.{every-field}
-
--- number, place and t of a refusal
-abbrev pub no : ℕ → ℕ → ℕ → List ℕ
-no n place t = n ∷ place ∷ t ∷ []
-
--- all 0 where what is asked for is taken
-abbrev pub told : {A : Type 0} → LocatedReply A → List ℕ
-told (taken a) = no 0 0 0
-told (refused r) = no (number (r .refusal)) (r .place) (point (r .refusal))
+use Rattle.books.specs.Told.{told}
 
 abbrev pub refusal : List ℕ → List ℕ
 refusal bs = told (book bs)

@@ -2,7 +2,8 @@
 use mathlib.Core.Path.{refl}
 use mathlib.Core.List.{[], _∷_}
 use Rattle.books.specs.Computing.{computing}
-use Rattle.refused.specs.Changed.{no, with, Alone}
+use Rattle.books.specs.Told.{no}
+use Rattle.refused.specs.Changed.{with, Alone}
 
 -- regions 0 to 4 in order
 pub next-region : Alone 0 800 (no 71 2 0) (with 432 1 0 ∷ with 432 1 2 ∷ [])

@@ -7,7 +7,8 @@ use Prim.Native.Nat.{ℕ}
 use lib.ListN.{take}
 use Rattle.integers.specs.Totals.{all}
 use Rattle.books.specs.Computing.{computing}
-use Rattle.refused.specs.Changed.{no, refusal, base, with, all-changed, Next, Each, Together, alone-later, together-later}
+use Rattle.books.specs.Told.{no}
+use Rattle.refused.specs.Changed.{refusal, base, with, all-changed, Next, Each, Together, alone-later, together-later}
 use Rattle.refused.specs.FrequenciesTaken.{before-units, units, frequencies-taken}
 use Rattle.refused.specs.UnitsTaken.{units-taken}
 

@@ -3,7 +3,8 @@ use mathlib.Core.Path.{refl}
 use mathlib.Core.List.{[], _∷_}
 use Rattle.integers.specs.Totals.{all}
 use Rattle.books.specs.Computing.{computing}
-use Rattle.refused.specs.Changed.{no, with, all-changed, Alone, Together, alone-later, together-later}
+use Rattle.books.specs.Told.{no}
+use Rattle.refused.specs.Changed.{with, all-changed, Alone, Together, alone-later, together-later}
 use Rattle.refused.specs.UnitsTaken.{units-taken}
 
 -- u16 number, rising: 513 and 1027; u8 region set: bits 0 to 4, not empty; u8 direction, 0 or 1; u32 price, 0 to 10,000,000; u64 cost, 0 to

@@ -2,7 +2,8 @@
 use mathlib.Core.Path.{refl}
 use mathlib.Core.List.{[], _∷_}
 use Rattle.books.specs.Computing.{computing}
-use Rattle.refused.specs.Changed.{no, with, all-changed, Alone, Together}
+use Rattle.books.specs.Told.{no}
+use Rattle.refused.specs.Changed.{with, all-changed, Alone, Together}
 
 -- u16 smoothing a, 1 to 10,000; u8 bad-frequency limit, 0 to 75; u8 bad-unit percent, 0 to 100; u32 interval number
 pub lowest : Together 0 64 (no 1 1 0) (with 56 2 1 ∷ with 58 1 0 ∷ with 59 1 0 ∷ with 60 4 0 ∷ [])

@@ -6,7 +6,8 @@ use Prim.Native.Nat.{ℕ, _+_, _*_}
 use lib.ListN.{take}
 use Rattle.books.specs.Writing.{entry-bytes}
 use Rattle.books.specs.Computing.{computing}
-use Rattle.refused.specs.Changed.{no, refusal, base, with, all-changed, Alone, Together}
+use Rattle.books.specs.Told.{no}
+use Rattle.refused.specs.Changed.{refusal, base, with, all-changed, Alone, Together}
 
 pub unchanged : Together 0 56 (no 1 1 0) []
 unfolding computing all-changed

@@ -10,7 +10,7 @@ use Rattle.rules.specs.WholeBook.{unit-body, requirement-body}
 use Rattle.books.specs.Writing.{concat, unit-bytes, requirement-bytes, flat}
 use Rattle.books.specs.PaperBook.{zeros}
 use Rattle.books.specs.Computing.{computing}
-use Rattle.refused.specs.Changed.{no, told}
+use Rattle.books.specs.Told.{no, told}
 
 abbrev unit : ℕ → List ℕ
 unit n =

@@ -2,7 +2,8 @@
 use mathlib.Core.Path.{refl}
 use mathlib.Core.List.{[], _∷_}
 use Rattle.books.specs.Computing.{computing}
-use Rattle.refused.specs.Changed.{no, with, all-changed, Alone, Together}
+use Rattle.books.specs.Told.{no}
+use Rattle.refused.specs.Changed.{with, all-changed, Alone, Together}
 
 -- a record cut short is refused with 1, whatever its bytes
 pub cut-short : Alone 0 2_275 (no 1 1 0) (with 1_906 1 5 ∷ [])
