@@ -1,10 +1,10 @@
 -- Laws of the definitions in specs/Run.antt: a run goes on by a unit call, and any two answers that its promise allows are equal.
 use mathlib.Core.Path.{_≡_, refl, sym, _∙_, ap, ap₂}
+use mathlib.Core.Bool.{Bool, true, false}
 use mathlib.Core.List.{List, []}
-use Prim.Native.Nat.{ℕ, suc, _+_, _*_}
+use Prim.Native.Nat.{ℕ, suc, _+_}
 use native.Mathlib.Omega.{arith}
-use lib.ListN.{length, drop}
-use borrow.Author.Tests.{eq-eqb, ne-eqb}
+use lib.ListN.{drop}
 use Rattle.rules.specs.declared.Refusal.the-variants.{EndsEarly}
 use Rattle.rules.specs.declared.Located.{Located}
 use Rattle.rules.specs.Refusals.{Reply, taken, refused, located, at}
@@ -17,25 +17,28 @@ use Rattle.interval.specs.Tally.{next-place}
 use Rattle.interval.specs.Lent.{Lent}
 use Rattle.interval.specs.Calls.{left, taken-step, unit-reply, unit-counted}
 use Rattle.interval.specs.Promises.{UnitPromise, unit-kept}
-use Rattle.interval.specs.Run.{Ran, RunPromise, goes-on, ran, records-in, run-taken, stops}
+use Rattle.interval.specs.Run.{Ran, RunPromise, goes-on, ran, records-in, run-taken, stops, whole}
 use Rattle.interval.proofs.Calls.{step-taken, step-refused, left-refused}
 
 pub run-only :
     {t : Tally} {run : List ℕ} {l : Lent} {r r₂ : Step} {l′ l₂ : Lent} → RunPromise t run l r l′ → RunPromise t run l r₂ l₂ → (r ≡ r₂) × (l′ ≡ l₂)
 run-only a b = (a .reply ∙ sym (b .reply), a .lent ∙ sym (b .lent))
 
--- a whole run is taken from its first record on, and an empty one is whole
-pub whole-run : (t : Tally) (run : List ℕ) (l : Lent) → unit-size * records-in run ≡ length run → run-taken t run l ≡ ran (records-in run) 1 t run l
+-- a whole run is taken from its first record on, and an empty one changes nothing
+pub whole-run : (t : Tally) (run : List ℕ) (l : Lent) → whole run ≡ true → run-taken t run l ≡ ran (records-in run) 1 t run l
 unfolding run-taken
-whole-run t run l e = rw (eq-eqb (unit-size * records-in run) (length run) e)
+whole-run t run l e = rw e
 
-pub ragged-run : (t : Tally) (run : List ℕ) (l : Lent) → (unit-size * records-in run ≡ length run → ⊥) → run-taken t run l ≡ stops 0 t l EndsEarly
+pub ragged-run : (t : Tally) (run : List ℕ) (l : Lent) → whole run ≡ false → run-taken t run l ≡ stops 0 t l EndsEarly
 unfolding run-taken
-ragged-run t run l h = rw (ne-eqb (unit-size * records-in run) (length run) h)
+ragged-run t run l e = rw e
 
 pub empty-run : (t : Tally) (l : Lent) → run-taken t [] l ≡ record { step = taken-step t; lent = l }
 unfolding run-taken ran
 empty-run t l = refl
+
+pub is-whole-only : (run : List ℕ) {r r′ : Bool} → r ≡ whole run → r′ ≡ whole run → r ≡ r′
+is-whole-only run a b = a ∙ sym b
 
 -- what a unit call that took its record has done
 pub record Added (t : Tally) (part : List ℕ) (l : Lent) (r : Step) (l′ : Lent) : Type 0 where
