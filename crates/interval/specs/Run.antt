@@ -2,7 +2,7 @@
 use mathlib.Core.Path.{_≡_}
 use mathlib.Core.Bool.{Bool, cond}
 use mathlib.Core.List.{List}
-use Prim.Native.Nat.{ℕ, zero, suc, _+_, _*_, _/_}
+use Prim.Native.Nat.{ℕ, zero, suc, _+_, _/_, _%_}
 use lib.Dec.{eqb}
 use lib.ListN.{length, drop}
 use Rattle.rules.specs.declared.Refusal.{Refusal}
@@ -41,11 +41,11 @@ ran (suc left) place t run l =
     goes-on (λ u. ran left (place + 1) (unit-counted t u) (drop unit-size run) (unit-kept t u l)) (stops place t l) (unit-reply t run l)
 
 -- a run that is not a whole number of records is refused before anything else, and none was added
+abbrev pub whole : List ℕ → Bool
+whole run = eqb (length run % unit-size) 0
+
 abbrev pub records-in : List ℕ → ℕ
 records-in run = length run / unit-size
-
-abbrev pub whole : List ℕ → Bool
-whole run = eqb (unit-size * records-in run) (length run)
 
 unfoldable pub run-taken : Tally → List ℕ → Lent → Ran
 run-taken t run l = cond (whole run) (ran (records-in run) 1 t run l) (stops 0 t l EndsEarly)
