@@ -9,6 +9,7 @@ pub mod Mixed
 pub mod BookRecords
 pub mod Alike
 pub mod Way
+pub mod Runs
 pub mod BookWay
 pub mod BookRefused
 pub mod KeptInRange

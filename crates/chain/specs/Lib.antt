@@ -5,6 +5,7 @@ pub mod Chain
 pub mod BookRecords
 pub mod Alike
 pub mod Way
+pub mod Runs
 pub mod BookWay
 pub mod Keeps
 pub mod BookChain
