@@ -11,6 +11,7 @@ pub mod Alike
 pub mod Way
 pub mod Runs
 pub mod BookWay
+pub mod BookRuns
 pub mod BookRefused
 pub mod KeptInRange
 pub mod AnswerIs

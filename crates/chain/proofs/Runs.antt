@@ -17,9 +17,9 @@ use Rattle.interval.specs.Lent.{Lent}
 use Rattle.interval.specs.Calls.{refused-step, taken-step, unit-counted, unit-reply}
 use Rattle.interval.specs.Promises.{UnitPromise, unit-kept}
 use Rattle.interval.specs.Run.{Ran, RunPromise, ran, records-in, run-taken, whole}
-use Rattle.interval.proofs.RunLaws.{goes-behind, ragged-run, stops-at, whole-run}
+use Rattle.interval.proofs.RunLaws.{goes-behind, ragged-run, stops-at, was-added, whole-run}
 use Rattle.chain.specs.Chain.{Chain, took-unit}
-use Rattle.chain.specs.Runs.{HandsRun, RunOutcome, Singly, is-ragged, none, one-more, stops-behind, takes-all}
+use Rattle.chain.specs.Runs.{HandsRun, RunOutcome, Singly, added, is-ragged, none, one-more, stops-behind, takes-all}
 use Rattle.chain.proofs.Alike.{unit-alike}
 
 module _ (t : Tally) (run : List ℕ) (l : Lent) where
@@ -77,6 +77,26 @@ module _ (t : Tally) (run : List ℕ) (l : Lent) where
       go true e = subst Comes (sym (whole-run t run l e)) (walk e (records-in run) 0 t l none (omega arith))
       go false e = subst Comes (sym (ragged-run t run l e)) (is-ragged e refl refl)
 
+-- each of them is counted once
+singly-counts : {run : List ℕ} {t : Tally} {l : Lent} {k : ℕ} {t′ : Tally} {l′ : Lent} → Singly run t l k t′ l′ → t′ .records ≡ t .records + k
+singly-counts none = omega arith
+singly-counts (one-more so-far call h) =
+    let one : _ ≡ _ = ap (λ (t : Tally). t .records) (was-added call h .tally) in
+    omega (arith, one, singly-counts so-far)
+
+pub run-singly : {t : Tally} {run : List ℕ} {l : Lent} {r : Step} {l′ : Lent} → RunPromise t run l r l′ → Singly run t l (added t (r .tally)) (r .tally) l′
+run-singly {t} {run} {l} {r} {l′} p = go (run-outcome t run l p)
+  where
+    counted : {k : ℕ} → Singly run t l k (r .tally) l′ → Singly run t l (added t (r .tally)) (r .tally) l′
+    counted {k} s = subst (λ (k : ℕ). Singly run t l k (r .tally) l′) (omega (arith, singly-counts s)) s
+
+    go : RunOutcome t run l r l′ → Singly run t l (added t (r .tally)) (r .tally) l′
+    go (takes-all w s h) = counted s
+    go (stops-behind k why w h s call e) = counted s
+    go (is-ragged w e f) =
+        let same : r .tally ≡ t = ap (λ (r : Step). r .tally) e in
+        counted (subst₂ (λ (t′ : Tally) (m : Lent). Singly run t l 0 t′ m) (sym same) (sym f) none)
+
 -- ---- ON A CHAIN
 module _ {head : List ℕ} {part : ℕ → List ℕ} {l₀ : Lent} {n : ℕ} {t : Tally} {run : List ℕ} {l : Lent} where
   pub singly-chain : Chain head part l₀ n t l → {k : ℕ} {t′ : Tally} {l′ : Lent} → Singly run t l k t′ l′ → HandsRun part n k run →
@@ -86,3 +106,7 @@ module _ {head : List ℕ} {part : ℕ → List ℕ} {l₀ : Lent} {n : ℕ} {t 
       let before = singly-chain d so-far (record { each = λ i h. hands .each i (omega arith) }) in
       let more : suc (n + k) ≡ n + suc k = omega arith in
       subst (λ (n : ℕ). Chain head part l₀ n (s .tally) l₂) more (took-unit before (unit-alike (hands .each k (omega arith)) t′ (omega arith) call) took)
+
+  pub run-chain : Chain head part l₀ n t l → {r : Step} {l′ : Lent} → RunPromise t run l r l′ → HandsRun part n (added t (r .tally)) run →
+      Chain head part l₀ (n + added t (r .tally)) (r .tally) l′
+  run-chain d p hands = singly-chain d (run-singly p) hands

@@ -7,6 +7,7 @@ pub mod Alike
 pub mod Way
 pub mod Runs
 pub mod BookWay
+pub mod BookRuns
 pub mod Keeps
 pub mod BookChain
 pub mod Spelled

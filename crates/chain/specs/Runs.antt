@@ -2,7 +2,7 @@
 use mathlib.Core.Path.{_≡_}
 use mathlib.Core.Bool.{true, false}
 use mathlib.Core.List.{List}
-use Prim.Native.Nat.{ℕ, suc, _+_, _*_, _<_}
+use Prim.Native.Nat.{ℕ, suc, _+_, _*_, _-_, _<_}
 use lib.ListN.{drop}
 use Rattle.rules.specs.declared.Refusal.{Refusal}
 use Rattle.rules.specs.declared.Refusal.the-variants.{EndsEarly}
@@ -38,3 +38,7 @@ pub data RunOutcome (t : Tally) (run : List ℕ) (l : Lent) (r : Step) (l′ : L
 -- ---- the first k records of a run are those that the parts of a chain start with, from record n on
 pub record HandsRun (part : ℕ → List ℕ) (n k : ℕ) (run : List ℕ) : Type 0 where
   pub each : (i : ℕ) → i < k → Alike unit-size (drop (unit-size * i) run) (part (n + i))
+
+-- how many records a call has added: the tally counts them
+abbrev pub added : Tally → Tally → ℕ
+added t t′ = t′ .records - t .records
