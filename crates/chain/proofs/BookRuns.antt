@@ -18,14 +18,14 @@ use Rattle.interval.specs.Tally.{before-units, next-place}
 use Rattle.interval.specs.Lent.{Lent}
 use Rattle.interval.specs.Calls.{refused-step}
 use Rattle.interval.specs.Promises.{UnitPromise}
-use Rattle.interval.specs.Run.{RunPromise, in-run, records-in, whole}
+use Rattle.interval.specs.Run.{RunPromise, in-run, records-in}
 use Rattle.chain.specs.Taken.{counts-in}
 use Rattle.chain.specs.Chain.{Chain, Taken, Refused}
 use Rattle.chain.specs.Alike.{Alike}
 use Rattle.chain.specs.BookRecords.{part-of}
 use Rattle.chain.specs.Way.{Call, for-unit}
 use Rattle.chain.specs.BookWay.{Stops, Takes}
-use Rattle.chain.specs.Runs.{HandsRun, RunOutcome, Singly, is-ragged, none, one-more, stops-behind, takes-all}
+use Rattle.chain.specs.Runs.{HandsRun, RunFrom, RunOutcome, Singly, is-ragged, none, one-more, stops-behind, takes-all}
 use Rattle.chain.specs.BookRuns.{RunStops}
 use Rattle.chain.proofs.Alike.{cut-behind, unit-alike}
 use Rattle.chain.proofs.BookRecords.{unit-place}
@@ -49,10 +49,10 @@ not-ragged e f = let z : _≡_ {A = ℕ} 0 1 = cc in absurd (omega arith)
 fewer : {part : ℕ → List ℕ} {n j k : ℕ} {run : List ℕ} → j ≤ k → HandsRun part n k run → HandsRun part n j run
 fewer h hands = record { each = λ i b. hands .each i (omega arith) }
 
-module _ {head : List ℕ} {part : ℕ → List ℕ} {l₀ : Lent} {n : ℕ} {t : Tally} {l : Lent} (d : Chain head part l₀ n t l) (first : before-units ≤ n)
-    {run : List ℕ} {r : Step} {l′ : Lent} (is-whole : whole run ≡ true) (p : RunPromise t run l r l′) where
+module _ {head : List ℕ} {part : ℕ → List ℕ} {l₀ : Lent} {n : ℕ} {t : Tally} {l : Lent} (d : Chain head part l₀ n t l)
+    {run : List ℕ} {r : Step} {l′ : Lent} (p : RunPromise t run l r l′) where
   -- the single call for the record at which a run stops
-  module _ {k : ℕ} {why : Refusal} (hands : HandsRun part n (suc k) run) (last : n + k < before-units + counts-in head .units)
+  module _ {k : ℕ} {why : Refusal} (first : before-units ≤ n) (hands : HandsRun part n (suc k) run) (last : n + k < before-units + counts-in head .units)
       (so-far : Singly run t l k (r .tally) l′) (call : UnitPromise (r .tally) (drop (unit-size * k) run) l′ (refused-step (r .tally) why) l′) where
     come : Chain head part l₀ (n + k) (r .tally) l′
     come = singly-chain d so-far (fewer (omega arith) hands)
@@ -61,31 +61,32 @@ module _ {head : List ℕ} {part : ℕ → List ℕ} {l₀ : Lent} {n : ℕ} {t 
     refusing = for-unit (omega arith) last (unit-alike (hands .each k (omega arith)) (r .tally) (omega arith) call)
 
   pub run-takes : {m : ℕ} → Takes head part l₀ m → n + records-in run ≤ m → n + records-in run ≤ before-units + counts-in head .units →
-      HandsRun part n (records-in run) run → Taken r
-  run-takes {m} takes inside last hands = go (run-outcome t run l p)
+      RunFrom part n (records-in run) run → Taken r
+  run-takes {m} takes inside last from = go (run-outcome t run l p)
     where
       go : RunOutcome t run l r l′ → Taken r
       go (takes-all w s h) = h
       go (stops-behind k why w h s call e) =
-          let so = fewer h hands in
-          taken-or-refused (refused-step (r .tally) why) (takes .each (omega arith) (come so (omega arith) s call) (refusing so (omega arith) s call)) refl
-      go (is-ragged w e f) = not-ragged is-whole w
+          let so = fewer h (from .hands) in
+          let taken = takes .each (omega arith) (come (from .first) so (omega arith) s call) (refusing (from .first) so (omega arith) s call) in
+          taken-or-refused (refused-step (r .tally) why) taken refl
+      go (is-ragged w e f) = not-ragged (from .is-whole) w
 
   pub run-stops : {m : ℕ} {why : Located} → Stops head part l₀ why m → n ≤ m → m < n + records-in run → m < before-units + counts-in head .units →
-      HandsRun part n (suc (m - n)) run → RunStops head part l₀ n m why r l′
-  run-stops {m} {why} stops begins inside last hands = go (run-outcome t run l p)
+      RunFrom part n (suc (m - n)) run → RunStops head part l₀ n m why r l′
+  run-stops {m} {why} stops begins inside last from = go (run-outcome t run l p)
     where
       -- no chain comes past the record that is refused
       not-beyond : {A : Type 0} {k : ℕ} {t′ : Tally} {m′ : Lent} → Singly run t l k t′ m′ → suc (m - n) ≤ k → A
-      not-beyond s h = let x = singly-first s (suc (m - n)) h in let far = stops .furthest (singly-chain d (x .2) hands) in absurd (omega arith)
+      not-beyond s h = let x = singly-first s (suc (m - n)) h in let far = stops .furthest (singly-chain d (x .2) (from .hands)) in absurd (omega arith)
 
       -- and none stops before it
       not-before :
           {A : Type 0} {k : ℕ} {x : Refusal} → Singly run t l k (r .tally) l′ →
           UnitPromise (r .tally) (drop (unit-size * k) run) l′ (refused-step (r .tally) x) l′ → k < m - n → A
       not-before {A} {k} {x} s call b =
-          let so = fewer {j = suc k} (omega arith) hands in
-          let taken = stops .before .each (omega arith) (come so (omega arith) s call) (refusing so (omega arith) s call) in
+          let so = fewer {j = suc k} (omega arith) (from .hands) in
+          let taken = stops .before .each (omega arith) (come (from .first) so (omega arith) s call) (refusing (from .first) so (omega arith) s call) in
           taken-or-refused (refused-step (r .tally) x) taken refl
 
       there :
@@ -93,10 +94,10 @@ module _ {head : List ℕ} {part : ℕ → List ℕ} {l₀ : Lent} {n : ℕ} {t 
           UnitPromise (r .tally) (drop (unit-size * k) run) l′ (refused-step (r .tally) x) l′ → Refused r (in-run (k + 1) x) → k ≡ m - n →
           RunStops head part l₀ n m why r l′
       there {k} {x} s call e here =
-          let so = fewer {j = suc k} (omega arith) hands in
+          let so = fewer {j = suc k} (omega arith) (from .hands) in
           let at : n + k ≡ m = omega arith in
-          let chain = subst (λ (j : ℕ). Chain head part l₀ j (r .tally) l′) at (come so (omega arith) s call) in
-          let call-at = subst (λ (j : ℕ). Call (counts-in head) (part j) j (r .tally) l′ (refused-step (r .tally) x) l′) at (refusing so (omega arith) s call) in
+          let chain = subst (λ (j : ℕ). Chain head part l₀ j (r .tally) l′) at (come (from .first) so (omega arith) s call) in
+          let call-at = subst (λ (j : ℕ). Call (counts-in head) (part j) j (r .tally) l′ (refused-step (r .tally) x) l′) at (refusing (from .first) so (omega arith) s call) in
           let same = ap (λ (s : Step). s .taking) (stops .refuses chain call-at .0) in
           let named : located (next-place (r .tally)) x ≡ why = cc in
           let placed : k + 1 ≡ m - n + 1 = omega arith in
@@ -110,7 +111,7 @@ module _ {head : List ℕ} {part : ℕ → List ℕ} {l₀ : Lent} {n : ℕ} {t 
           by (yes b) _ = not-before s call b
           by (no a) (yes b) = not-beyond s b
           by (no a) (no b) = there s call e (omega arith)
-      go (is-ragged w e f) = not-ragged is-whole w
+      go (is-ragged w e f) = not-ragged (from .is-whole) w
 
 -- ---- a run that is cut out of a book: k units from record n on
 drop-of-take : {A : Type 0} (i k : ℕ) (xs : List A) → i ≤ k → drop i (take k xs) ≡ take (k - i) (drop i xs)

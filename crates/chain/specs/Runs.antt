@@ -2,13 +2,14 @@
 use mathlib.Core.Path.{_≡_}
 use mathlib.Core.Bool.{true, false}
 use mathlib.Core.List.{List}
-use Prim.Native.Nat.{ℕ, suc, _+_, _*_, _-_, _<_}
+use Prim.Native.Nat.{ℕ, suc, _+_, _*_, _-_, _≤_, _<_}
 use lib.ListN.{drop}
 use Rattle.rules.specs.declared.Refusal.{Refusal}
 use Rattle.rules.specs.declared.Refusal.the-variants.{EndsEarly}
 use Rattle.rules.specs.Contents.{unit-size}
 use Rattle.interval.specs.declared.Tally.{Tally}
 use Rattle.interval.specs.declared.Step.{Step}
+use Rattle.interval.specs.Tally.{before-units}
 use Rattle.interval.specs.Lent.{Lent}
 use Rattle.interval.specs.Calls.{stopped-step, refused-step}
 use Rattle.interval.specs.Promises.{UnitPromise}
@@ -38,6 +39,12 @@ pub data RunOutcome (t : Tally) (run : List ℕ) (l : Lent) (r : Step) (l′ : L
 -- ---- the first k records of a run are those that the parts of a chain start with, from record n on
 pub record HandsRun (part : ℕ → List ℕ) (n k : ℕ) (run : List ℕ) : Type 0 where
   pub each : (i : ℕ) → i < k → Alike unit-size (drop (unit-size * i) run) (part (n + i))
+
+-- a whole run from record n on, a unit's, of which the first k records are those of the parts
+pub record RunFrom (part : ℕ → List ℕ) (n k : ℕ) (run : List ℕ) : Type 0 where
+  pub is-whole : whole run ≡ true
+  pub first : before-units ≤ n
+  pub hands : HandsRun part n k run
 
 -- how many records a call has added: the tally counts them
 abbrev pub added : Tally → Tally → ℕ
