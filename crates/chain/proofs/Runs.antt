@@ -78,11 +78,16 @@ module _ (t : Tally) (run : List ℕ) (l : Lent) where
       go false e = subst Comes (sym (ragged-run t run l e)) (is-ragged e refl refl)
 
 -- each of them is counted once
-singly-counts : {run : List ℕ} {t : Tally} {l : Lent} {k : ℕ} {t′ : Tally} {l′ : Lent} → Singly run t l k t′ l′ → t′ .records ≡ t .records + k
+pub singly-counts : {run : List ℕ} {t : Tally} {l : Lent} {k : ℕ} {t′ : Tally} {l′ : Lent} → Singly run t l k t′ l′ → t′ .records ≡ t .records + k
 singly-counts none = omega arith
 singly-counts (one-more so-far call h) =
     let one : _ ≡ _ = ap (λ (t : Tally). t .records) (was-added call h .tally) in
     omega (arith, one, singly-counts so-far)
+
+-- and where none was, all is as it came
+pub singly-none : {run : List ℕ} {t : Tally} {l : Lent} {k : ℕ} {t′ : Tally} {l′ : Lent} → Singly run t l k t′ l′ → k ≡ 0 → (t′ ≡ t) × (l′ ≡ l)
+singly-none none e = (refl, refl)
+singly-none (one-more so-far call h) e = absurd (omega arith)
 
 pub run-singly : {t : Tally} {run : List ℕ} {l : Lent} {r : Step} {l′ : Lent} → RunPromise t run l r l′ → Singly run t l (added t (r .tally)) (r .tally) l′
 run-singly {t} {run} {l} {r} {l′} p = go (run-outcome t run l p)
