@@ -1,12 +1,13 @@
 -- A book's units by runs: a run is taken where the single calls take its records, and where they refuse one the run stops there, with the same refusal.
-use mathlib.Core.Path.{_≡_, refl, sym, _∙_, ap, ap₂, subst}
+use mathlib.Core.Path.{_≡_, refl, sym, _∙_, ap, ap₂, subst, subst⁻¹}
 use mathlib.Core.Bool.{Bool, true, false}
 use mathlib.Core.List.{List, [], _∷_}
-use Prim.Native.Nat.{ℕ, zero, suc, _+_, _*_, _-_, _≤_, _<_}
+use Prim.Native.Nat.{ℕ, zero, suc, _+_, _*_, _-_, _%_, _≤_, _<_}
 use native.Mathlib.Decide.{decLt}
 use native.Mathlib.Omega.{arith}
-use lib.ListN.{take, drop}
-use lib.Seq.{drop-drop}
+use lib.ListN.{length, take, drop, length-drop}
+use lib.Seq.{drop-drop, length-take-le}
+use borrow.Author.Tests.{eq-eqb}
 use Rattle.rules.specs.declared.Refusal.{Refusal}
 use Rattle.rules.specs.declared.Located.{Located}
 use Rattle.rules.specs.Refusals.{located}
@@ -26,10 +27,12 @@ use Rattle.chain.specs.BookRecords.{part-of}
 use Rattle.chain.specs.Way.{Call, for-unit}
 use Rattle.chain.specs.BookWay.{Stops, Takes}
 use Rattle.chain.specs.Runs.{HandsRun, RunFrom, RunOutcome, Singly, is-ragged, none, one-more, stops-behind, takes-all}
-use Rattle.chain.specs.BookRuns.{RunStops}
+use Rattle.chain.specs.BookRuns.{RunStops, run-of}
 use Rattle.chain.proofs.Alike.{cut-behind, unit-alike}
-use Rattle.chain.proofs.BookRecords.{unit-place}
+use Rattle.chain.proofs.BookRecords.{unit-place, unit-sized}
 use Rattle.chain.proofs.BookWay.{taken-or-refused}
+use Rattle.chain.proofs.ChainTheorem.{chain}
+use Rattle.chain.proofs.Spelled.{record-long}
 use Rattle.chain.proofs.Runs.{run-outcome, singly-chain}
 
 -- of the records that were taken singly, the first few
@@ -61,11 +64,11 @@ module _ {head : List ℕ} {part : ℕ → List ℕ} {l₀ : Lent} {n : ℕ} {t 
     refusing = for-unit (omega arith) last (unit-alike (hands .each k (omega arith)) (r .tally) (omega arith) call)
 
   pub run-takes : {m : ℕ} → Takes head part l₀ m → n + records-in run ≤ m → n + records-in run ≤ before-units + counts-in head .units →
-      RunFrom part n (records-in run) run → Taken r
+      RunFrom part n (records-in run) run → Taken r × Chain head part l₀ (n + records-in run) (r .tally) l′
   run-takes {m} takes inside last from = go (run-outcome t run l p)
     where
-      go : RunOutcome t run l r l′ → Taken r
-      go (takes-all w s h) = h
+      go : RunOutcome t run l r l′ → Taken r × Chain head part l₀ (n + records-in run) (r .tally) l′
+      go (takes-all w s h) = (h, singly-chain d s (from .hands))
       go (stops-behind k why w h s call e) =
           let so = fewer h (from .hands) in
           let taken = takes .each (omega arith) (come (from .first) so (omega arith) s call) (refusing (from .first) so (omega arith) s call) in
@@ -126,21 +129,46 @@ drop-of-take (suc i) (suc k) (x ∷ xs) h =
     let less : k - i ≡ suc k - suc i = omega arith in
     drop-of-take i k xs (omega arith) ∙ ap (λ (n : ℕ). take n (drop i xs)) less
 
-pub cut-out : (bs : List ℕ) (n k : ℕ) → before-units ≤ n → n + k ≤ before-units + counts-in bs .units →
-    HandsRun (part-of bs) n k (take (unit-size * k) (part-of bs n))
-cut-out bs n k first last = record { each = λ i h. each i h }
-  where
-    behind : (i : ℕ) → i < k → drop (unit-size * i) (part-of bs n) ≡ part-of bs (n + i)
-    behind i h =
-        let j = n - before-units in
-        let sum : unit-size * j + unit-size * i ≡ unit-size * (j + i) = omega arith in
-        ap (drop (unit-size * i)) (unit-place bs n j (omega arith) (omega arith))
-        ∙ drop-drop (unit-size * i) (unit-size * j) (drop unit-start bs)
-        ∙ ap (λ (at : ℕ). drop at (drop unit-start bs)) sum
-        ∙ sym (unit-place bs (n + i) (j + i) (omega arith) (omega arith))
+module _ (bs : List ℕ) (n k : ℕ) (first : before-units ≤ n) (last : n + k ≤ before-units + counts-in bs .units) where
+  behind : (i : ℕ) → i < k → drop (unit-size * i) (part-of bs n) ≡ part-of bs (n + i)
+  behind i h =
+      let j = n - before-units in
+      let sum : unit-size * j + unit-size * i ≡ unit-size * (j + i) = omega arith in
+      ap (drop (unit-size * i)) (unit-place bs n j (omega arith) (omega arith))
+      ∙ drop-drop (unit-size * i) (unit-size * j) (drop unit-start bs)
+      ∙ ap (λ (at : ℕ). drop at (drop unit-start bs)) sum
+      ∙ sym (unit-place bs (n + i) (j + i) (omega arith) (omega arith))
 
-    each : (i : ℕ) → i < k → Alike unit-size (drop (unit-size * i) (take (unit-size * k) (part-of bs n))) (part-of bs (n + i))
-    each i h =
-        let cut = drop-of-take (unit-size * i) (unit-size * k) (part-of bs n) (omega arith) ∙ ap (take (unit-size * k - unit-size * i)) (behind i h) in
-        subst (λ (p : List ℕ). Alike unit-size p (part-of bs (n + i))) (sym cut)
-        (cut-behind unit-size (unit-size * k - unit-size * i) (part-of bs (n + i)) (omega arith))
+  cut-hands : HandsRun (part-of bs) n k (run-of bs n k)
+  cut-hands = record { each = each }
+    where
+      each : (i : ℕ) → i < k → Alike unit-size (drop (unit-size * i) (run-of bs n k)) (part-of bs (n + i))
+      each i h =
+          let cut = drop-of-take (unit-size * i) (unit-size * k) (part-of bs n) (omega arith) ∙ ap (take (unit-size * k - unit-size * i)) (behind i h) in
+          subst (λ (p : List ℕ). Alike unit-size p (part-of bs (n + i))) (sym cut)
+          (cut-behind unit-size (unit-size * k - unit-size * i) (part-of bs (n + i)) (omega arith))
+
+  -- it is as long as its records, where a chain has taken them
+  module _ {l₀ : Lent} {m : ℕ} {t : Tally} {l : Lent} (d : Chain bs (part-of bs) l₀ m t l) (inside : n + k ≤ m) where
+    reaches : (j : ℕ) → k ≡ j → unit-size * j ≤ length (part-of bs n)
+    reaches zero e = omega arith
+    reaches (suc j) e =
+        let there = length-drop (unit-size * j) (part-of bs n) in
+        let same = ap length (behind j (omega arith)) in
+        let long = record-long (part-of bs) (counts-in bs) (n + j) (chain d .taken-each (n + j) (omega arith)) in
+        let sized = unit-sized (counts-in bs .units) (n + j) (omega arith) (omega arith) in
+        omega (arith, there, same, long, sized)
+
+    cut-length : length (run-of bs n k) ≡ unit-size * k
+    cut-length = length-take-le (unit-size * k) (part-of bs n) (reaches k refl)
+
+    pub cut-records : records-in (run-of bs n k) ≡ k
+    cut-records = omega (arith, cut-length)
+
+    pub cut-out : RunFrom (part-of bs) n (records-in (run-of bs n k)) (run-of bs n k)
+    cut-out =
+        record {
+          is-whole = eq-eqb (length (run-of bs n k) % unit-size) 0 (omega (arith, cut-length));
+          first = first;
+          hands = subst⁻¹ (λ (j : ℕ). HandsRun (part-of bs) n j (run-of bs n k)) cut-records cut-hands;
+        }

@@ -11,10 +11,10 @@ pub mod Alike
 pub mod Way
 pub mod Runs
 pub mod BookWay
-pub mod BookRuns
 pub mod BookRefused
 pub mod KeptInRange
 pub mod AnswerIs
 pub mod BookChain
 pub mod Spelled
+pub mod BookRuns
 pub mod Answerable

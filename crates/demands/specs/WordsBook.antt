@@ -33,7 +33,8 @@ module _ (head : List ℕ) (part : ℕ → List ℕ) (l₀ : Lent) (ws₀ : List
     -- and so does the call for a run of units among them
     pub runs :
         {n r : ℕ} {run ws ws′ : List ℕ} {l l′ : Lent} → n + run-length run ≤ m → n + run-length run ≤ before-units + counts-in head .units →
-        WordsChain head part l₀ ws₀ n ws l → RunFrom part n (run-length run) run → UnitsCalled ws run l r ws′ l′ → r ≡ 0
+        WordsChain head part l₀ ws₀ n ws l → RunFrom part n (run-length run) run → UnitsCalled ws run l r ws′ l′ →
+        (r ≡ 0) × WordsChain head part l₀ ws₀ (n + run-length run) ws′ l′
 
   -- and refuse that one with number, place and t, leaving words and lists as they came; so no chain comes further
   pub record WordsStops (why : Located) (m : ℕ) : Type 0 where

@@ -2,9 +2,10 @@
 use mathlib.Core.Path.{_≡_, refl, sym, _∙_, ap, ap₂}
 use mathlib.Core.Bool.{Bool, true, false}
 use mathlib.Core.List.{List, []}
-use Prim.Native.Nat.{ℕ, suc, _+_}
+use Prim.Native.Nat.{ℕ, suc, _+_, _-_, _<_}
 use native.Mathlib.Omega.{arith}
 use lib.ListN.{drop}
+use Rattle.rules.specs.declared.Refusal.{Refusal}
 use Rattle.rules.specs.declared.Refusal.the-variants.{EndsEarly}
 use Rattle.rules.specs.declared.Located.{Located}
 use Rattle.rules.specs.Refusals.{Reply, taken, refused, located, at}
@@ -36,6 +37,15 @@ ragged-run t run l e = rw e
 pub empty-run : (t : Tally) (l : Lent) → run-taken t [] l ≡ record { step = taken-step t; lent = l }
 unfolding run-taken ran
 empty-run t l = refl
+
+-- and one whose first record is refused stops there
+pub first-refused :
+    (t : Tally) (run : List ℕ) (l : Lent) {x : Refusal} → whole run ≡ true → 0 < records-in run → unit-reply t run l ≡ refused x →
+    run-taken t run l ≡ stops 1 t l x
+unfolding ran
+first-refused t run l w some e =
+    let one : records-in run ≡ suc (records-in run - 1) = omega arith in
+    whole-run t run l w ∙ ap (λ (n : ℕ). ran n 1 t run l) one ∙ ap (goes-on _ (stops 1 t l)) e
 
 pub is-whole-only : (run : List ℕ) {r r′ : Bool} → r ≡ whole run → r′ ≡ whole run → r ≡ r′
 is-whole-only run a b = a ∙ sym b
