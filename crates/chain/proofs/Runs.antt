@@ -45,11 +45,10 @@ module _ (t : Tally) (run : List ℕ) (l : Lent) where
           (here ≡ ran n (suc k + 1) (unit-counted t′ u) (drop (unit-size * suc k) run) (unit-kept t′ u l′))
       took u e =
           let call : UnitPromise t′ part l′ (taken-step (unit-counted t′ u)) (unit-kept t′ u l′) = record { reply = rw e; lent = rw e } in
-          let further : k + 1 + 1 ≡ suc k + 1 = omega arith in
-          (
+          let further : k + 1 + 1 ≡ suc k + 1 = omega arith in (
             one-more so-far call refl,
             goes-behind call n (k + 1) refl
-            ∙ ap₂ (λ (place : ℕ) (bs : List ℕ). ran n place (unit-counted t′ u) bs (unit-kept t′ u l′)) further next-part,
+                ∙ ap₂ (λ (place : ℕ) (bs : List ℕ). ran n place (unit-counted t′ u) bs (unit-kept t′ u l′)) further next-part,
           )
 
       stopped : (x : Refusal) → unit-reply t′ part l′ ≡ refused x → Comes here

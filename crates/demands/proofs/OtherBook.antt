@@ -28,15 +28,14 @@ use Rattle.answer.specs.declared.Answered.{Answered}
 use Rattle.answer.specs.declared.Row.{Row}
 use Rattle.answer.specs.Promises.{Columns, AnswerPromise, answer-reply, columns-long, replied, with-lines}
 use Rattle.answer.specs.Roster.{MemberPromise, member-long, member-reply, row-answer}
-use Rattle.dullavane.specs.Words.{held, said, told, with-words, words-after}
-use Rattle.dullavane.proofs.WordsLaws.{held-is, same-words}
+use Rattle.dullavane.specs.Words.{held, said, told, words-after}
 use Rattle.dullavane.specs.Called.{Called}
 use Rattle.dullavane.specs.Promises.{UnitCalled}
 use Rattle.dullavane.specs.Runs.{UnitsCalled}
 use Rattle.dullavane.specs.Answers.{AnswerCalled, answered-after, answered-number, reply-words}
 use Rattle.dullavane.specs.Asked.{MemberCalled, asked-narrow, asked-tally, direction-of, in-turn, member-words, row-after, row-number}
 use Rattle.demands.proofs.WordsLaws.{is-stepped}
-use Rattle.demands.proofs.WordsRuns.{run-steps}
+use Rattle.demands.proofs.WordsRuns.{as-it-came, run-steps}
 use Rattle.demands.specs.OtherBook.{ToldApart}
 
 -- ---- a call returns 11 where its words do, and where the call below does
@@ -105,11 +104,7 @@ module _ (stored : List ℕ) (t : Tally) (l : Lent) (h : held stored ≡ taken t
           let s = run-steps h c in
           let stops-first = first-refused t run l is-whole some (apart .unit run long) in
           let step = s .promise .reply ∙ ap (λ (x : Ran). x .step) stops-first in
-          let is = held-is stored t h in (
-            s .reply ∙ ap told step,
-            s .words ∙ ap (λ (x : Step). with-words (x .tally) stored) step ∙ ap (λ (t : Tally). with-words t stored) (is .0) ∙ same-words stored (is .1),
-            s .promise .lent ∙ ap (λ (x : Ran). x .lent) stops-first,
-          )
+          (s .reply ∙ ap told step, as-it-came t h s (ap (λ (x : Step). x .tally) step), s .promise .lent ∙ ap (λ (x : Ran). x .lent) stops-first)
 
       answer :
           {p reply reply′ : List ℕ} {old new : Columns} {r : ℕ} → ((regions-long l && rows-long (t .units) l) && columns-long (t .units) old) ≡ true →

@@ -2,9 +2,10 @@
 use mathlib.Core.Path.{_≡_, refl, sym, _∙_, ap, ap₂}
 use mathlib.Core.Bool.{Bool, true, false}
 use mathlib.Core.List.{List, []}
-use Prim.Native.Nat.{ℕ, suc, _+_, _-_, _<_}
+use Prim.Native.Nat.{ℕ, suc, _+_, _*_, _-_, _%_, _<_}
 use native.Mathlib.Omega.{arith}
-use lib.ListN.{drop}
+use lib.ListN.{length, drop}
+use borrow.Author.Tests.{eqb-true}
 use Rattle.rules.specs.declared.Refusal.{Refusal}
 use Rattle.rules.specs.declared.Refusal.the-variants.{EndsEarly}
 use Rattle.rules.specs.declared.Located.{Located}
@@ -24,6 +25,10 @@ use Rattle.interval.proofs.Calls.{step-taken, step-refused, left-refuse
 pub run-only :
     {t : Tally} {run : List ℕ} {l : Lent} {r r₂ : Step} {l′ l₂ : Lent} → RunPromise t run l r l′ → RunPromise t run l r₂ l₂ → (r ≡ r₂) × (l′ ≡ l₂)
 run-only a b = (a .reply ∙ sym (b .reply), a .lent ∙ sym (b .lent))
+
+-- of a whole run nothing is left behind its records
+pub none-left : (run : List ℕ) → whole run ≡ true → unit-size * records-in run ≡ length run
+none-left run e = let even : length run % unit-size ≡ 0 = eqb-true (length run % unit-size) 0 e in omega (arith, even)
 
 -- a whole run is taken from its first record on, and an empty one changes nothing
 pub whole-run : (t : Tally) (run : List ℕ) (l : Lent) → whole run ≡ true → run-taken t run l ≡ ran (records-in run) 1 t run l
