@@ -17,9 +17,9 @@ use Rattle.interval.specs.declared.Taking as k
 use Rattle.interval.specs.declared.Step.{Step}
 use Rattle.interval.specs.Tally.{next-place}
 use Rattle.interval.specs.Lent.{Lent}
-use Rattle.interval.specs.Calls.{left, taken-step, unit-reply, unit-counted}
+use Rattle.interval.specs.Calls.{left, stopped-step, taken-step, unit-reply, unit-counted}
 use Rattle.interval.specs.Promises.{UnitPromise, unit-kept}
-use Rattle.interval.specs.Run.{Ran, RunPromise, goes-on, ran, records-in, run-taken, stops, whole}
+use Rattle.interval.specs.Run.{Ran, RunPromise, goes-on, in-run, ran, records-in, run-taken, stops, whole}
 use Rattle.interval.proofs.Calls.{step-taken, step-refused, left-refused}
 
 pub run-only :
@@ -46,7 +46,7 @@ empty-run t l = refl
 -- and one whose first record is refused stops there
 pub first-refused :
     (t : Tally) (run : List ℕ) (l : Lent) {x : Refusal} → whole run ≡ true → 0 < records-in run → unit-reply t run l ≡ refused x →
-    run-taken t run l ≡ stops 1 t l x
+    run-taken t run l ≡ record { step = stopped-step t (in-run 1 x); lent = l }
 unfolding ran
 first-refused t run l w some e =
     let one : records-in run ≡ suc (records-in run - 1) = omega arith in
