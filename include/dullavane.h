@@ -27,7 +27,7 @@
        [3] least number the next may have        [7] interval number
    It can be copied, stored and handed in again with the lists as they were at that time. Words that no chain of calls could have left are
    safe: a call answers, or refuses with 11. So is a stored tally over lists that another book has begun to fill since: each region's figures keep the
-   interval number of their book, and from the other book's first frequency record on dullavane_unit, dullavane_answer and dullavane_member
+   interval number of their book, and from the other book's first frequency record on dullavane_unit, dullavane_units, dullavane_answer and dullavane_member
    refuse the tally with 11. Only a book sent again under the same interval number is not told apart from the one before.
 
    A PART is the bytes of the book that start at the record whose turn it is: at least the record, or as many as there are. Only the last

@@ -21,14 +21,15 @@ $1 == "book" {
     printf "| %s | %d | %d | %s | %s | %s | %s | %.3f s | %s |\n", $2, $3, $4, $5, thousands($7), thousands($8), thousands($9), $7 / 120000000, thousands($6)
 }
 $1 == "units" {
-    by[++lengths] = sprintf("| %s | %s | %.0f | %+.2f %% |", $3 == "single" ? "single calls" : "runs of " $2, thousands($4), $4 / 477, 100 * ($4 - $5) / $5)
+    if ($3 == "single") by[++lengths] = sprintf("| single calls | %s | %.0f | |", thousands($4), $4 / 477)
+    else by[++lengths] = sprintf("| runs of %d | %s | %.0f | %+.2f %% |", $2, thousands($4), $4 / 477, 100 * ($4 - $5) / $5)
 }
 $1 == "memory" {
     words = $3
     for (i = 4; i <= NF; i++) words = words " " $i
     memory[++rows] = sprintf("| %s | %s |", words, thousands($2))
 }
-$1 == "call" { call[++calls] = sprintf("| `%s` | %s | %s | %s | %.3f ms |", $2, thousands($3), thousands($4), thousands($5), $5 / 120000) }
+$1 == "call" && $3 > 0 { call[++calls] = sprintf("| `%s` | %s | %s | %s | %.3f ms |", $2, thousands($3), thousands($4), thousands($5), $5 / 120000) }
 $1 == "function" && $3 == "calculation" {
     name = $5 == "-" ? "`" $4 "`" : "`" $5 "` for `" $4 "`"
     own[name] = $2
