@@ -1,14 +1,19 @@
-/* box: an interval book on standard input, record by record through the calls of dullavane.h; its listing, or `refused` with number, place
-   and t, on standard output: the same bytes as `settle`. Written as firmware would be: no heap, every list of a fixed length, nothing but getchar and putchar from outside, which are
-   declared here so that a compiler with no C library builds this too. A box puts its radio or its serial line in their place. */
+/* box: an interval book on standard input, record by record and its units by runs through the calls of dullavane.h; its listing, or `refused` with number,
+   place and t, on standard output: the same bytes as `settle`. Written as firmware would be: no heap, every list of a fixed length, nothing but getchar and
+   putchar from outside, which are declared here so that a compiler with no C library builds this too. A box puts its radio or its serial line in their place. */
 #include "dullavane.h"
 
 int getchar(void);
 int putchar(int c);
 
-enum { UNITS = DULLAVANE_MOST_UNITS, MEMBERS = UNITS + 1, REQUIREMENT = DULLAVANE_REQUIREMENT_SIZE };
+/* How many units are handed on in one call. It need not divide their number: the last run of a book is shorter. */
+#ifndef RUN
+#define RUN 5
+#endif
 
-/* All that is lent, 63,525 bytes in all with the bytes that are read. */
+enum { UNITS = DULLAVANE_MOST_UNITS, MEMBERS = UNITS + 1, UNIT = DULLAVANE_UNIT_SIZE, REQUIREMENT = DULLAVANE_REQUIREMENT_SIZE };
+
+/* All that is lent, 64,616 bytes in all with the bytes that are read. */
 static uint32_t tally[DULLAVANE_TALLY_WORDS];
 static int32_t measures[DULLAVANE_MEASURES];
 static int64_t sums[DULLAVANE_SUMS], figures[DULLAVANE_FIGURES];
@@ -18,7 +23,8 @@ static int64_t rows[DULLAVANE_ROW * UNITS];
 static int64_t performances[MEMBERS], factors[MEMBERS], payments[MEMBERS], used[MEMBERS], unused[MEMBERS];
 
 /* The requirements' bytes are kept until they are answered. The other records come before them and are read into the same bytes. */
-static uint8_t bytes[DULLAVANE_MOST_REQUIREMENTS * REQUIREMENT + 1];
+enum { KEPT = DULLAVANE_MOST_REQUIREMENTS * REQUIREMENT + 1 };
+static uint8_t bytes[RUN * UNIT > KEPT ? RUN * UNIT : KEPT];
 
 #define LENT(list) list, sizeof(list) / sizeof(list[0])
 
@@ -34,9 +40,24 @@ static uint64_t take_frequency(void) {
     return dullavane_frequency(LENT(tally), bytes, n, LENT(measures), LENT(sums), LENT(figures));
 }
 
-static uint64_t take_unit(void) {
-    uint64_t n = take(bytes, DULLAVANE_UNIT_SIZE);
-    return dullavane_unit(LENT(tally), bytes, n, LENT(measures), LENT(sums), LENT(figures), LENT(numbers), LENT(homes), LENT(rows));
+/* How many units of the book were taken. */
+static uint32_t units_taken(void) { return tally[2] - 1 - DULLAVANE_REGIONS; }
+
+/* A run's refusal has its place in the run. The listing has the place among all units of the book: the next one, since those before it are taken. */
+static uint64_t placed_in_book(uint64_t no) {
+    uint64_t in_run = DULLAVANE_PLACE(no), in_book = units_taken() + 1;
+    return no - (in_run << 32) + (in_book << 32);
+}
+
+/* The next run of units. Where the input ends within a record, the whole ones before it are handed on first, and then what there is of it. */
+static uint64_t take_units(void) {
+    uint32_t left = tally[0] - units_taken();
+    uint64_t want = UNIT * (uint64_t)(left < RUN ? left : RUN), n = take(bytes, want), whole = n - n % UNIT;
+    uint64_t no = dullavane_units(LENT(tally), bytes, whole, LENT(measures), LENT(sums), LENT(figures), LENT(numbers), LENT(homes), LENT(rows));
+    if (!no && n < want) {
+        no = dullavane_unit(LENT(tally), bytes + whole, n - whole, LENT(measures), LENT(sums), LENT(figures), LENT(numbers), LENT(homes), LENT(rows));
+    }
+    return no ? placed_in_book(no) : 0;
 }
 
 /* The last one is handed on with a byte more, if there is one: then bytes follow the book. */
@@ -53,7 +74,7 @@ static uint64_t take_book(void) {
     n = take(bytes, DULLAVANE_SETTINGS_SIZE);
     no = dullavane_settings(LENT(tally), bytes, n);
     for (uint32_t i = 0; !no && i < DULLAVANE_REGIONS; i++) no = take_frequency();
-    for (uint32_t i = 0; !no && i < tally[0]; i++) no = take_unit();
+    while (!no && units_taken() < tally[0]) no = take_units();
     for (uint32_t i = 0; !no && i < tally[1]; i++) no = take_requirement(i);
     return no;
 }

@@ -1,7 +1,7 @@
 /* dullavane.h: the interval calculator, for firmware.
 
-   Every five minutes a box is sent one interval book. The firmware hands its records to the calls below one by one, in the book's order, and
-   then asks for the answer to each regulation requirement: what every plant did for grid frequency, and what it is credited or charged, to the
+   Every five minutes a box is sent one interval book. The firmware hands its records to the calls below one by one, the units also by runs, in the
+   book's order, and then asks for the answer to each regulation requirement: what every plant did for grid frequency, and what it is credited or charged, to the
    cent. The library keeps nothing between calls, allocates nothing and blocks on nothing: all that it knows of a book stands in lists that the
    caller lends, and every call ends.
 
@@ -10,13 +10,15 @@
    even with length 0, and is aligned to its element's size. Lengths are uint64_t on every processor, also on a 32-bit one.
 
    A CALL returns 0, or a refusal (below). After a refusal everything lent is as it was, the tally too: the same call can be made again with other
-   bytes, or the book given up.
+   bytes, or the book given up. dullavane_units alone may have added records before the one that it refuses, and they stay added.
 
-   WHERE. The five calls that take a book return 64 bits, by value: 0, or in bits 0 to 31 the refusal's number, in bits 32 to 47 the place of the
+   WHERE. The six calls that take a book return 64 bits, by value: 0, or in bits 0 to 31 the refusal's number, in bits 32 to 47 the place of the
    refused record in its body, from 1 (the settings' is 1, region r's is r + 1), and in bits 48 to 63 the refused point or reading, t = 1 to 75, the first
    one where there are several. DULLAVANE_REFUSAL, DULLAVANE_PLACE and DULLAVANE_T take them apart. A record's call names the place of the record that was to
    be taken, also where no byte of it is left; t comes with 74 and 84 alone. No place have 11, what dullavane_contents refuses, and 12 for a tally of fewer
    than 8 words. What is not there is 0; the other calls take no record of a body and return the number alone, which the same macros read.
+   dullavane_units names the place in its run instead, from 1, and with every refusal, 11 and 12 too: place - 1 records were added, which the tally counts. A
+   run that is not a whole number of records has 1 and place 0: none was added.
 
    THE TALLY says how far a book is: 8 words that dullavane_contents makes and every call that takes a record moves on.
        [0] units announced, 0 to 512             [4] smoothing, 1 to 10,000
@@ -25,7 +27,7 @@
        [3] least number the next may have        [7] interval number
    It can be copied, stored and handed in again with the lists as they were at that time. Words that no chain of calls could have left are
    safe: a call answers, or refuses with 11. So is a stored tally over lists that another book has begun to fill since: each region's figures keep the
-   interval number of their book, and from the other book's first frequency record on dullavane_unit, dullavane_answer and dullavane_member
+   interval number of their book, and from the other book's first frequency record on dullavane_unit, dullavane_units, dullavane_answer and dullavane_member
    refuse the tally with 11. Only a book sent again under the same interval number is not told apart from the one before.
 
    A PART is the bytes of the book that start at the record whose turn it is: at least the record, or as many as there are. Only the last
@@ -36,13 +38,15 @@
        dullavane_settings      once                          0         8 bytes
        dullavane_frequency     five times, regions 0 to 4    1 to 5    368 bytes each
        dullavane_unit          tally[0] times                6 ..      372 bytes each
+       dullavane_units         or so: runs of them, of any   6 ..      372 bytes a unit, and no byte more
+                               lengths, singles between
        dullavane_requirement   tally[1] times                          24 bytes each; keep them for the answers
        dullavane_answer        after the last unit, for any requirement, in any order, as often as wanted
        dullavane_member        likewise, for any row: who stands in it
    The book has ended, and may be settled, when tally[2] is 6 + tally[0] + tally[1].
 
    REFUSALS
-        1  the part ends before its record does
+        1  the part ends before its record does; a run of units is not a whole number of records
         2  the book does not begin with the mark FCF1
         3  the table of contents: an entry, the entry count or the zero field is wrong
         4  bytes follow the last requirement
@@ -191,6 +195,15 @@ uint64_t dullavane_unit(uint32_t *tally, uint64_t tally_words, const uint8_t *pa
                         const int32_t *measures, uint64_t measures_length, int64_t *sums, uint64_t sums_length,
                         const int64_t *figures, uint64_t figures_length, uint16_t *numbers, uint64_t numbers_length,
                         uint8_t *homes, uint64_t homes_length, int64_t *rows, uint64_t rows_length);
+
+/* Takes a run of whole unit records, one after the other: tally and lists are as after so many calls of dullavane_unit, and a refusal is the one that such a
+   call would give at its record, with its place in the run. The records before it stay added, and none after it is looked at. An empty run is taken and
+   changes nothing, whatever tally and lists are. Refuses 1 for a run that is not a whole number of records, before anything else; then, record by record, what
+   dullavane_unit refuses, in its order. */
+uint64_t dullavane_units(uint32_t *tally, uint64_t tally_words, const uint8_t *run, uint64_t run_bytes,
+                         const int32_t *measures, uint64_t measures_length, int64_t *sums, uint64_t sums_length,
+                         const int64_t *figures, uint64_t figures_length, uint16_t *numbers, uint64_t numbers_length,
+                         uint8_t *homes, uint64_t homes_length, int64_t *rows, uint64_t rows_length);
 
 /* Takes a requirement. Nothing of it is kept but its number's successor: keep its 24 bytes for dullavane_answer. With the last one the book ends.
    Refuses 12, 11, 1, 10, and with the last one 4. */

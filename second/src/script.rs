@@ -1,8 +1,11 @@
 //! Scripts of random calls for the model in `boundary` and for the library's own boundary: chains over
-//! made books that are disturbed on the way, tallies and lent numbers of any kind, tallies that were stored
-//! while the next book was begun over their lists (`stored`), and once every limit (`limits`).
+//! made books that are disturbed on the way, their units one at a time and by runs (`runs`), tallies and lent numbers of
+//! any kind, tallies that were stored while the next book was begun over their lists (`stored`), once every limit
+//! (`limits`), and runs of every length, refused at every place (`places`).
 
 mod limits;
+mod places;
+mod runs;
 mod stored;
 
 use std::collections::{BTreeMap, BTreeSet};
@@ -16,7 +19,7 @@ use crate::make::{make, CLASSES};
 use crate::quantities::*;
 use crate::write::to_bytes;
 
-const RECORD_CALLS: [&str; 4] = ["settings", "frequency", "unit", "requirement"];
+const RECORD_CALLS: [&str; 5] = ["settings", "frequency", "unit", "units", "requirement"];
 const SMALL_ROSTERS: [usize; 9] = [0, 1, 1, 2, 2, 3, 5, 7, 13];
 /// Lists are mostly exactly as long as they have to be.
 const EXACT_OR_MORE: [usize; 5] = [0, 0, 0, 1, 5];
@@ -99,30 +102,49 @@ fn all_taken(units: usize) -> Tally {
 /// A script on its way out, with the model run along so that the next line can fit.
 pub struct Script<W: Write> {
     chance: Chance,
-    lent: Lent,
+    caller: Caller,
     out: W,
     answers: bool,
     pub calls: usize,
     /// What calls replied in the situations that `limits` and `stored` bring about.
     pub met: BTreeMap<String, BTreeSet<u8>>,
+    /// What the runs of `places` are meant to reply, and what they did.
+    pub meant: Vec<(Step, Step)>,
 }
 
 impl<W: Write> Script<W> {
     pub fn new(seed: u64, answers: bool, out: W) -> Script<W> {
-        let (chance, lent) = (Chance::new(seed), Lent::default());
-        Script { chance, lent, out, answers, calls: 0, met: BTreeMap::new() }
+        let (chance, caller) = (Chance::new(seed), Caller::default());
+        Script { chance, caller, out, answers, calls: 0, met: BTreeMap::new(), meant: Vec::new() }
     }
 
     fn say(&mut self, line: String) {
-        script_line(&mut self.lent, &line);
+        self.caller.line(&line);
         writeln!(self.out, "{line}").expect("a script that can be written");
+    }
+
+    fn store(&mut self) {
+        self.say("store".to_string());
+    }
+
+    fn recall(&mut self) {
+        self.say("recall".to_string());
     }
 
     /// One call, and the number of its reply.
     fn call(&mut self, kind: &str, part: &[u8]) -> u8 {
         writeln!(self.out, "call {kind} {}", hex(part)).expect("a script that can be written");
         self.calls += 1;
-        number_of(self.lent.call(kind, part))
+        number_of(self.caller.lent.call(kind, part))
+    }
+
+    /// One call with so many of the kept bytes, and its reply.
+    fn call_kept(&mut self, kind: &str, from: usize, count: usize) -> Step {
+        let word = format!("{from}:{count}");
+        writeln!(self.out, "call {kind} {word}").expect("a script that can be written");
+        self.calls += 1;
+        let bytes = self.caller.bytes_of(&word).expect("bytes that are kept");
+        self.caller.lent.call(kind, &bytes)
     }
 
     fn put(&mut self, name: &str, place: usize, numbers: &[i128]) {
@@ -151,10 +173,16 @@ impl<W: Write> Script<W> {
     }
 
     fn made_book(&mut self) -> Made {
-        let (class, _) = self.chance.pick(&CLASSES);
         let large = self.chance.pick(&[40, 76, 512]);
         let small = self.chance.pick(&SMALL_ROSTERS);
         let roster = if self.chance.one_in(150) { large } else { small };
+        self.book_of(&[roster])
+    }
+
+    /// A book of any class with one of these rosters.
+    fn book_of(&mut self, rosters: &[usize]) -> Made {
+        let (class, _) = self.chance.pick(&CLASSES);
+        let roster = self.chance.pick(rosters);
         let mut book = make(self.chance.draw(), class, Some(roster)).expect("a class of the list");
         let most = self.chance.pick(&[1, 1, 2, 3, 32]);
         book.requirements.truncate(most);
@@ -173,7 +201,16 @@ impl<W: Write> Script<W> {
     }
 
     fn tally_words(&self) -> Vec<i128> {
-        self.lent.list("tally").numbers[..TALLY_WORDS].to_vec()
+        self.caller.lent.list("tally").numbers[..TALLY_WORDS].to_vec()
+    }
+
+    /// A book up to its units: the table of contents, the settings and the five frequency records.
+    fn begin(&mut self, made: &Made) {
+        self.call("contents", &made.bytes[..CONTENTS_SIZE]);
+        for records in 0..1 + REGIONS {
+            let (start, size, kind) = made.record(records);
+            self.call(kind, &made.bytes[start..start + size]);
+        }
     }
 
     /// The record with nothing after it, or with some of what follows; the last one alone.
@@ -190,12 +227,14 @@ impl<W: Write> Script<W> {
         self.call("contents", part(&made.bytes, 0, CONTENTS_SIZE));
         let disturbed_one_in = if made.units > 20 { 20 } else { 2 };
         let mut refused = 0;
-        for records in 0..made.records() {
+        let mut records = 0;
+        while records < made.records() {
             while self.chance.one_in(disturbed_one_in) {
                 self.disturb(&made, records);
             }
-            let honest = self.honest_part(&made, records);
-            refused += i32::from(self.call(made.record(records).2, &honest) != 0);
+            let (taken, reply) = self.step(&made, records);
+            records += taken;
+            refused += i32::from(reply != 0);
             if refused > 3 {
                 return;
             }
@@ -204,6 +243,27 @@ impl<W: Write> Script<W> {
             self.disturb(&made, made.records() - 1);
         }
         self.ask(&made);
+    }
+
+    /// The next record as it is, or one in four times several units by a run; answers how many records these are, and the
+    /// reply.
+    fn step(&mut self, made: &Made, records: usize) -> (usize, u8) {
+        let (_, _, turn) = made.record(records);
+        if turn == "unit" && self.chance.one_in(4) {
+            return self.take_by_run(made, records);
+        }
+        let honest = self.honest_part(made, records);
+        (1, self.call(turn, &honest))
+    }
+
+    /// The bytes of any record that this call takes, or of a run; None where the book has no unit.
+    fn any_part(&mut self, made: &Made, kind: &str) -> Option<Vec<u8>> {
+        if kind == "units" {
+            let first = made.any_of(&mut self.chance, "unit")?;
+            return Some(self.drawn_run(made, first));
+        }
+        let place = made.any_of(&mut self.chance, kind)?;
+        Some(self.honest_part(made, place))
     }
 
     /// An answer, mostly to a requirement of the book.
@@ -244,6 +304,9 @@ impl<W: Write> Script<W> {
     fn disturb(&mut self, made: &Made, records: usize) {
         let asked = self.answers && records >= 1 + REGIONS + made.units && self.chance.one_in(2);
         let (start, size, turn) = made.record(records);
+        if turn == "unit" && self.chance.one_in(4) {
+            return self.disturb_with_a_run(made, records);
+        }
         let kind = if asked { "answer" } else { turn };
         let honest = self.honest_part(made, records);
         if self.chance.one_in(10) {
@@ -297,8 +360,8 @@ impl<W: Write> Script<W> {
     fn call_with_another_record(&mut self, made: &Made, kind: &str) {
         let other = self.chance.pick(&RECORD_CALLS);
         let length = self.chance.place(400);
-        let bytes = match made.any_of(&mut self.chance, other) {
-            Some(place) if other != kind => self.honest_part(made, place),
+        let bytes = match self.any_part(made, other) {
+            Some(bytes) if other != kind => bytes,
             _ => (0..length).map(|_| self.chance.draw() as u8).collect(),
         };
         let before = self.tally_words();
@@ -308,7 +371,8 @@ impl<W: Write> Script<W> {
 
     fn call_out_of_turn(&mut self, made: &Made, kind: &str, honest: &[u8]) {
         let other = self.chance.pick(&RECORD_CALLS);
-        if other == kind {
+        let same_turn = other == kind || (kind == "unit" && other == "units");
+        if same_turn {
             // The table of contents begins a new chain, if its bytes are a table.
             let length = self.chance.pick(&[0, 8, CONTENTS_SIZE - 1, CONTENTS_SIZE, CONTENTS_SIZE + 1]);
             let damaged = damage(self.chance.draw(), &made.bytes);
@@ -319,16 +383,20 @@ impl<W: Write> Script<W> {
             self.put("tally", 0, &before);
             return;
         }
-        let own = made.any_of(&mut self.chance, other).map(|place| self.honest_part(made, place));
+        let own = self.any_part(made, other);
         let bytes = if self.chance.one_in(3) { None } else { own };
         self.call(other, &bytes.unwrap_or(honest.to_vec()));
     }
 
-    /// How long this list has to be for the call, if the tally is one that it takes; else as it is lent.
-    fn length_here(&self, kind: &str, name: &str) -> usize {
-        let tally = Tally::from_words(&self.tally_words());
-        let lent = self.lent.list(name).lent;
+    /// How long this list has to be for the call, of a run for any of its records, if the tally is one that it takes;
+    /// else as it is lent.
+    fn length_here(&mut self, kind: &str, name: &str, honest: &[u8]) -> usize {
+        let mut tally = Tally::from_words(&self.tally_words());
+        let lent = self.caller.lent.list(name).lent;
         if tally.in_range() && tally.has_turn(kind) {
+            if kind == "units" {
+                tally.records += self.chance.place(1 + honest.len() / UNIT_SIZE) as i128;
+            }
             length_for(kind, name, &tally).min(lent)
         } else {
             lent
@@ -336,13 +404,17 @@ impl<W: Write> Script<W> {
     }
 
     fn call_with_a_short_list(&mut self, kind: &str, honest: &[u8]) {
-        let name = self.chance.pick(lists_of(kind));
-        let lent = self.lent.list(name).lent;
+        let mut name = self.chance.pick(lists_of(kind));
+        // In mid-run a list ends that has something of every unit.
+        if kind == "units" && self.chance.one_in(2) {
+            name = self.chance.pick(&["numbers", "homes", "rows"]);
+        }
+        let lent = self.caller.lent.list(name).lent;
         if lent == 0 {
             return;
         }
         let any = self.chance.place(lent);
-        let least = self.length_here(kind, name);
+        let least = self.length_here(kind, name, honest);
         let one_short = least.saturating_sub(1);
         let longer = (least + 1).min(lent);
         let length = self.chance.pick(&[one_short, one_short, one_short, one_short, least, longer, any, any]);
@@ -386,7 +458,7 @@ impl<W: Write> Script<W> {
 
     /// What an answer finds in the other regions at the point of this sum, above zero or below.
     fn other_sums(&self, place: usize) -> i128 {
-        let sums = &self.lent.list("sums").numbers;
+        let sums = &self.caller.lent.list("sums").numbers;
         let others = (0..REGIONS).filter(|region| *region != place / SUMS_OF_A_REGION);
         others.map(|region| sums[SUMS_OF_A_REGION * region + place % SUMS_OF_A_REGION].abs()).sum()
     }
@@ -434,7 +506,7 @@ impl<W: Write> Script<W> {
 
     fn call_with_a_number_off(&mut self, kind: &str, honest: &[u8]) {
         let name = self.chance.pick(lists_of(kind));
-        let lent = self.lent.list(name).lent;
+        let lent = self.caller.lent.list(name).lent;
         if name == "tally" || lent == 0 {
             return;
         }
@@ -449,7 +521,7 @@ impl<W: Write> Script<W> {
         let any = self.chance.place(lent);
         let in_region = of_a_region * region + self.chance.place(of_a_region);
         let place = if in_region < lent && self.chance.one_in(2) { in_region } else { any };
-        let before = self.lent.list(name).numbers[place];
+        let before = self.caller.lent.list(name).numbers[place];
         let tally = self.tally_words();
         let off = self.number_off(name, place);
         self.put(name, place, &[off]);
@@ -474,7 +546,7 @@ impl<W: Write> Script<W> {
     /// The figures of one region, or of all five, with another interval number than the tally's.
     fn call_with_an_interval_off(&mut self, kind: &str, honest: &[u8]) {
         let tally = self.tally_words();
-        let before: Vec<i128> = self.lent.list("figures").numbers.clone();
+        let before: Vec<i128> = self.caller.lent.list("figures").numbers.clone();
         let off = self.interval_off(tally[7]);
         let one = self.chance.place(REGIONS);
         let regions = if self.chance.one_in(5) { 0..REGIONS } else { one..one + 1 };
@@ -578,8 +650,7 @@ impl<W: Write> Script<W> {
             let turn = records.min(made.records() - 1);
             for _ in 0..self.chance.between(1, 4) {
                 self.disturb(&made, turn);
-                let honest = self.honest_part(&made, turn);
-                self.call(made.record(turn).2, &honest);
+                self.step(&made, turn);
                 if turn >= 1 + REGIONS + made.units {
                     self.ask(&made);
                 }
@@ -588,7 +659,8 @@ impl<W: Write> Script<W> {
                 let any: Vec<i128> = (0..TALLY_WORDS).map(|_| self.any_number("tally")).collect();
                 self.put("tally", 0, &any);
                 let kind = self.chance.pick(&RECORD_CALLS);
-                let honest = self.honest_part(&made, turn);
+                let honest = if kind == "units" { self.any_part(&made, kind) } else { None };
+                let honest = honest.unwrap_or_else(|| self.honest_part(&made, turn));
                 self.call(kind, &honest);
             }
         }
@@ -623,7 +695,8 @@ impl<W: Write> Script<W> {
         self.ask(&made);
     }
 
-    /// Every limit once, then sequences until so many calls are made, with stored tallies between them besides.
+    /// Every limit once, then sequences until so many calls are made, with stored tallies and units by
+    /// runs between them besides.
     pub fn write(&mut self, calls: usize) {
         self.limits();
         let mut made = 0;
@@ -639,6 +712,9 @@ impl<W: Write> Script<W> {
             made += self.calls - before;
             if self.chance.one_in(4) {
                 self.stored();
+            }
+            if self.chance.one_in(2) {
+                self.by_runs();
             }
         }
     }

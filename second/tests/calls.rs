@@ -464,7 +464,7 @@ fn stored_tallies_are_tried_at_every_stage() {
         "the last unit",
         "a requirement",
     ];
-    for kind in ["unit", "answer", "member"] {
+    for kind in ["unit", "units", "answer", "member"] {
         for stage in told {
             assert_met(&met, &format!("stored {kind}, after {stage} of another number"), 11);
         }
@@ -481,20 +481,25 @@ fn stored_tallies_are_tried_at_every_stage() {
 
 #[test]
 fn a_refusal_changes_nothing_and_each_is_reached() {
-    let mut lent = Lent::default();
+    let mut caller = Caller::default();
     let mut reached = BTreeSet::new();
     for line in script(10_000, 2026).lines() {
-        let before = lent.clone();
-        let Some(answer) = script_line(&mut lent, line) else {
+        let before = caller.lent.clone();
+        let Some(answer) = caller.line(line) else {
             continue;
         };
         let mut words = answer.split(' ').map(str::to_string);
         let (kind, reply) = (words.next().expect("a kind"), words.next().expect("a reply"));
+        let same = before == caller.lent;
         if reply == "0" {
             // A record that is taken always counts.
-            assert!(before != lent || ["answer", "contents", "member"].contains(&kind.as_str()), "{line}");
+            let may_stay =
+                ["answer", "contents", "member"].contains(&kind.as_str()) || line == "call units -";
+            assert!(!same || may_stay, "{line}");
         } else {
-            assert!(before == lent, "{line}");
+            // Of a run that is refused the records before the refused one stay added.
+            let added = kind == "units" && !["0", "1"].contains(&words.next().expect("a place").as_str());
+            assert!(same != added, "{line}");
         }
         reached.insert(format!("{kind} {reply}"));
     }
@@ -503,6 +508,7 @@ fn a_refusal_changes_nothing_and_each_is_reached() {
         ("settings", vec![0, 1, 6, 11, 12]),
         ("frequency", vec![0, 1, 71, 72, 73, 74, 11, 12]),
         ("unit", vec![0, 1, 81, 82, 83, 84, 9, 11, 12]),
+        ("units", vec![0, 1, 81, 82, 83, 84, 9, 11, 12]),
         ("requirement", vec![0, 1, 4, 10, 11, 12]),
         ("answer", vec![0, 1, 10, 11, 12]),
         ("member", vec![0, 11, 12]),
@@ -525,12 +531,8 @@ fn kind_and_reply(answer: &str) -> (String, Refusal) {
 }
 
 fn replies(script: &str) -> BTreeSet<(String, Refusal)> {
-    let mut lent = Lent::default();
-    script
-        .lines()
-        .filter_map(|line| script_line(&mut lent, line))
-        .map(|answer| kind_and_reply(&answer))
-        .collect()
+    let mut caller = Caller::default();
+    script.lines().filter_map(|line| caller.line(line)).map(|answer| kind_and_reply(&answer)).collect()
 }
 
 /// Each script has each fault of a frequency record and of a unit at five places, and each t twice.
@@ -587,7 +589,7 @@ fn random_calls_are_refused_at_many_places() {
     let nowhere = |reply: &Refusal| reply.place == 0 && reply.t == 0;
     assert!(met
         .iter()
-        .filter(|(_, reply)| [0, 2, 3, 5, 11].contains(&reply.number))
+        .filter(|(kind, reply)| kind != "units" && [0, 2, 3, 5, 11].contains(&reply.number))
         .all(|(_, reply)| nowhere(reply)));
     assert!(met.iter().filter(|(kind, _)| kind == "contents").all(|(_, reply)| nowhere(reply)));
     assert!(met.iter().all(|(_, reply)| (reply.t > 0) == [74, 84].contains(&reply.number)));
@@ -601,11 +603,11 @@ fn random_calls_are_refused_at_many_places() {
 /// In random calls, too, units and answers meet measures of dropped points, of chains and of no chain.
 #[test]
 fn scripts_have_dropped_points() {
-    let mut lent = Lent::default();
+    let mut caller = Caller::default();
     let mut met: BTreeMap<String, usize> = BTreeMap::new();
     for line in script(10_000, 2026).lines() {
-        let measures = lent.list("measures").numbers.clone();
-        let Some(answer) = script_line(&mut lent, line) else {
+        let measures = caller.lent.list("measures").numbers.clone();
+        let Some(answer) = caller.line(line) else {
             continue;
         };
         let reply: Vec<&str> = answer.split(' ').take(2).collect();
@@ -614,7 +616,9 @@ fn scripts_have_dropped_points() {
             *met.entry(reply.join(" ")).or_default() += 1;
         }
     }
-    for (kind, least) in [("frequency 0", 500), ("unit 0", 300), ("answer 0", 500), ("member 0", 100)] {
+    let often =
+        [("frequency 0", 500), ("unit 0", 300), ("units 0", 200), ("answer 0", 500), ("member 0", 100)];
+    for (kind, least) in often {
         assert!(met.get(kind).is_some_and(|&calls| calls >= least), "{kind}: {met:?}");
     }
 }

@@ -4,7 +4,7 @@ use std::collections::BTreeSet;
 use std::fs;
 use std::path::Path;
 
-use second::boundary::{script_line, Lent};
+use second::boundary::Caller;
 use second::damage::damage;
 use second::doors::Doors;
 use second::lines;
@@ -54,9 +54,9 @@ fn of_records() -> BTreeSet<u8> {
 fn of_calls() -> BTreeSet<u8> {
     let mut script = Vec::new();
     Script::new(7, true, &mut script).write(3_000);
-    let mut lent = Lent::default();
+    let mut caller = Caller::default();
     let script = String::from_utf8(script).expect("words");
-    let answers = script.lines().filter_map(|line| script_line(&mut lent, line));
+    let answers = script.lines().filter_map(|line| caller.line(line));
     answers.filter_map(|answer| replied(&answer)).collect()
 }
 

@@ -464,6 +464,8 @@ fn replies_without_a_place() {
 fn replies_in_words() {
     assert_eq!(reply_in_words("unit", Ok(())), "0 0 0");
     assert_eq!(reply_in_words("unit", err(84, 5, 75)), "84 5 75");
+    assert_eq!(reply_in_words("units", err(84, 512, 75)), "84 512 75");
+    assert_eq!(reply_in_words("units", err(11, 513, 0)), "11 513 0");
     assert_eq!(reply_in_words("contents", err(2, 0, 0)), "2 0 0");
     assert_eq!(reply_in_words("requirement", err(4, 32, 0)), "4 32 0");
     assert_eq!(reply_in_words("answer", Ok(())), "0");

@@ -26,7 +26,7 @@ use Rattle.interval.specs.declared.Step.{Step}
 use Rattle.interval.specs.Lent.{Lent}
 use Rattle.interval.specs.Calls.{opened, settled, counted, unit-counted, settings-reply, frequency-reply, unit-reply, requirement-reply}
 use Rattle.chain.specs.Taken.{counts-in}
-use Rattle.chain.proofs.Taken.{step-refused}
+use Rattle.interval.proofs.Calls.{step-refused}
 use Rattle.chain.specs.Chain.{Refused, Chain, Means}
 use Rattle.chain.proofs.ChainTheorem.{chain}
 use Rattle.chain.specs.Long.{Long}

@@ -78,7 +78,7 @@ module _ {bs head : List ℕ} {part : ℕ → List ℕ} (hands : Hands bs head p
   hands-call {l₀} {n} {t} {l} {l′} {r} d h c =
       subst (λ (c : Counts). Call c (part-of bs n) n t l r l′) hands-counts (call-alike d (hands .records n h) c)
 
-taken-or-refused : {A : Type 0} (r : Step) {why : Located} → Taken r → Refused r why → A
+pub taken-or-refused : {A : Type 0} (r : Step) {why : Located} → Taken r → Refused r why → A
 taken-or-refused r e f = let z : _≡_ {A = ℕ} 0 1 = cc in absurd (omega arith)
 
 module _ (head : List ℕ) (part : ℕ → List ℕ) (l₀ : Lent) where

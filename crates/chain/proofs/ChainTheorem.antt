@@ -33,15 +33,13 @@ use Rattle.interval.specs.Calls.{fresh, opened, left, settled, counted, unit-co
 use Rattle.interval.specs.Promises.{ContentsPromise, SettingsPromise, FrequencyPromise, UnitPromise, RequirementPromise, region-kept, unit-kept}
 use Rattle.chain.specs.Long.{Long}
 use Rattle.chain.specs.Taken.{counts-in}
+use Rattle.interval.proofs.Calls.{step-taken, step-refused, left-refused}
 use Rattle.chain.proofs.Taken.{
   contents-is,
   settings-is,
   region-is,
   unit-is,
   requirement-is,
-  step-taken,
-  step-refused,
-  left-refused,
   settings-passed,
   frequency-passed,
   unit-passed,

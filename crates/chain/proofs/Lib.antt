@@ -9,10 +9,12 @@ pub mod Mixed
 pub mod BookRecords
 pub mod Alike
 pub mod Way
+pub mod Runs
 pub mod BookWay
 pub mod BookRefused
 pub mod KeptInRange
 pub mod AnswerIs
 pub mod BookChain
 pub mod Spelled
+pub mod BookRuns
 pub mod Answerable

@@ -65,7 +65,7 @@ module _
 
 -- ---- what the parts spell is handed on by them
 -- each record that was taken is as long as it has to be, and nothing follows the last
-record-long : (part : ℕ → List ℕ) (c : Counts) (m : ℕ) → RecordTaken part c m → record-size (c .units) m ≤ length (part m)
+pub record-long : (part : ℕ → List ℕ) (c : Counts) (m : ℕ) → RecordTaken part c m → record-size (c .units) m ≤ length (part m)
 unfolding settings frequency-record unit-record requirement-record
 record-long part c m w = go (decLt m 1) (decLt m before-units) (decLt m (before-units + c .units))
   where

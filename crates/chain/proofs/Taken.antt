@@ -113,38 +113,6 @@ requirement-is least last bs q e =
     let last = passed (not last || eqb (length bs) requirement-size) BytesFollow _ q (fields .1) in
     took (last .1)
 
--- ---- a step that took its record, and one that did not
-module _ {A : Type 0} (next : A → Tally) (t : Tally) where
-  pub step-taken : (reply : Reply A) {r : Step} → r ≡ stepped next reply t → r .taking ≡ k.the-variants.Taken →
-      (a : A) × (reply ≡ taken a) × (r .tally ≡ next a)
-  step-taken (taken a) e h = (a, refl, ap (λ (r : Step). r .tally) e)
-  step-taken (refused why) {r} e h =
-      let f : r .taking ≡ k.the-variants.Refused (located (next-place t) why) = ap (λ (r : Step). r .taking) e in
-      let z : _≡_ {A = ℕ} 0 1 = cc in
-      absurd (omega arith)
-
-  pub step-refused : (reply : Reply A) {r : Step} {why : Located} → r ≡ stepped next reply t → r .taking ≡ k.the-variants.Refused why →
-      (at (next-place t) reply ≡ refused why) × (r .tally ≡ t)
-  step-refused (taken a) {r} e h =
-      let f : r .taking ≡ k.the-variants.Taken = ap (λ (r : Step). r .taking) e in
-      let z : _≡_ {A = ℕ} 0 1 = cc in
-      absurd (omega arith)
-  step-refused (refused x) {r} {why} e h =
-      let f : r .taking ≡ k.the-variants.Refused (located (next-place t) x) = ap (λ (r : Step). r .taking) e in
-      let g : located (next-place t) x ≡ why = cc in
-      (ap refused g, ap (λ (r : Step). r .tally) e)
-
--- what is refused at a place is a refusal that names it
-pub named-at : {A : Type 0} (place : ℕ) (reply : Reply A) {why : Located} → at place reply ≡ refused why → (x : Refusal) × (located place x ≡ why)
-named-at place (taken a) e = let z : _≡_ {A = ℕ} 0 1 = cc in absurd (omega arith)
-named-at place (refused x) e = (x, cc)
-
--- what is refused at any place leaves what is lent as it was
-pub left-refused : {A L : Type 0} (write : A → L → L) (place : ℕ) (reply : Reply A) (old : L) {why : Located} → at place reply ≡ refused why →
-    left write reply old ≡ old
-left-refused write place (taken a) old e = let z : _≡_ {A = ℕ} 0 1 = cc in absurd (omega arith)
-left-refused write place (refused r) old e = refl
-
 -- ---- the tests of each call
 pub settings-passed : (t : Tally) (p : List ℕ) (s : Settings) → settings-reply t p ≡ taken s → (t .records ≡ 0) × (settings p ≡ taken s)
 unfolding settings-reply

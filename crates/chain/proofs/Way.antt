@@ -21,7 +21,8 @@ use Rattle.interval.specs.Lent.{Lent}
 use Rattle.interval.specs.Calls.{stopped-step, stepped, left, settled, counted, unit-counted, settings-reply, frequency-reply, unit-reply, requirement-reply}
 use Rattle.interval.specs.Promises.{FrequencyPromise, UnitPromise, region-kept, unit-kept}
 use Rattle.chain.specs.Taken.{counts-in}
-use Rattle.chain.proofs.Taken.{step-taken, step-refused, named-at, settings-passed, frequency-passed, unit-passed, requirement-passed}
+use Rattle.interval.proofs.Calls.{step-taken, step-refused, named-at}
+use Rattle.chain.proofs.Taken.{settings-passed, frequency-passed, unit-passed, requirement-passed}
 use Rattle.chain.specs.Chain.{
   Taken,
   Refused,

@@ -5,7 +5,9 @@ pub mod Chain
 pub mod BookRecords
 pub mod Alike
 pub mod Way
+pub mod Runs
 pub mod BookWay
+pub mod BookRuns
 pub mod Keeps
 pub mod BookChain
 pub mod Spelled

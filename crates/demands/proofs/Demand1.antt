@@ -1,15 +1,18 @@
 -- DEMAND 1: 'A book of arbitrary bytes, or a call at the wrong time, gets an answer or a numbered refusal. No entry relies on its caller's checks. A refusal
--- hands the tally back as it came and writes nothing.' No function that a firmware calls has a condition on what it is handed, so each answers, whatever the
+-- hands the tally back as it came and writes nothing.' For a run of units R-6 amends the last sentence: the records before the refused one stay added. No function that a firmware calls has a condition on what it is handed, so each answers, whatever the
 -- tally, the bytes and the lists are; here stands that its promise allows one answer alone, and what this is. First what is asked for, then the theorems.
 use mathlib.Core.Path.{_≡_, refl, sym, _∙_, ap}
-use mathlib.Core.List.{List}
+use mathlib.Core.Bool.{Bool, true, false, cond}
+use mathlib.Core.List.{List, []}
 use mathlib.Core.Logic.{_⊎_, inl, inr}
 use Prim.Native.Nat.{ℕ, _+_, _<_}
 use native.Mathlib.Omega.{arith}
-use lib.ListN.{getD}
+use lib.Dec.{eqb}
+use lib.ListN.{getD, length}
 use Rattle.rules.specs.declared.Refusal.{Refusal}
+use Rattle.rules.specs.declared.Refusal.the-variants.{EndsEarly}
 use Rattle.rules.specs.declared.Located.{Located}
-use Rattle.rules.specs.Refusals.{Reply, LocatedReply, taken, refused, located}
+use Rattle.rules.specs.Refusals.{Reply, LocatedReply, taken, refused, located, number}
 use Rattle.rules.specs.Book.{Requirement, Book}
 use Rattle.rules.specs.Contents.{Counts, contents}
 use Rattle.rules.specs.WholeBook.{book}
@@ -20,11 +23,15 @@ use Rattle.interval.specs.declared.Step.{Step}
 use Rattle.interval.specs.Lent.{Lent}
 use Rattle.interval.specs.Calls.{stopped-step, stepped, left, settled, counted, settings-reply, requirement-reply}
 use Rattle.interval.specs.Promises.{SettingsPromise, RequirementPromise}
+use Rattle.interval.specs.Run.{Ran, RunPromise, in-run, run-taken, whole}
+use Rattle.interval.proofs.RunLaws.{empty-run, ragged-run, run-only}
 use Rattle.chain.specs.Taken.{counts-in}
 use Rattle.chain.specs.Long.{Long}
 use Rattle.chain.specs.Chain.{Taken}
 use Rattle.chain.specs.Way.{Call}
 use Rattle.chain.proofs.Way.{call-only, refused-leaves, refused-names, any-frequency, any-unit}
+use Rattle.chain.specs.Runs.{RunOutcome, is-ragged, stops-behind, takes-all}
+use Rattle.chain.proofs.Runs.{run-outcome, singly-counts, singly-none}
 use Rattle.chain.specs.BookWay.{Hands}
 use Rattle.chain.proofs.BookRefused.{book-refused, book-way}
 use Rattle.chain.proofs.Mixed.{mixed-told}
@@ -34,6 +41,7 @@ use Rattle.kept.specs.Kept.{kept-answer}
 use Rattle.answer.specs.Promises.{Columns, AnswerPromise, answer-reply, shown, replied, with-lines}
 use Rattle.answer.proofs.Promises.{answer-only}
 use Rattle.dullavane.specs.Words.{held, said, taking-said, told, words-after}
+use Rattle.dullavane.specs.Runs.{UnitsCalled}
 use Rattle.dullavane.specs.Called.{Called}
 use Rattle.demands.specs.WordsChain.{
   Turn,
@@ -48,14 +56,16 @@ use Rattle.demands.specs.WordsChain.{
   frequency-called,
   unit-called,
   requirement-called,
+  words-added,
 }
-use Rattle.dullavane.proofs.WordsLaws.{said-some, unheld-said}
+use Rattle.dullavane.proofs.WordsLaws.{held-is, said-some, unheld-said}
 use Rattle.demands.specs.WordsCalls.{StepCall, settings-step, frequency-step, unit-step, requirement-step}
 use Rattle.demands.proofs.WordsCalls.{due-call, refused-call}
+use Rattle.demands.proofs.WordsRuns.{RunStepped, as-it-came, run-steps}
 use Rattle.demands.specs.OtherBook.{ToldApart}
 use Rattle.demands.proofs.OtherBook as other
 use Rattle.demands.proofs.WordsTheorem.{words-chain}
-use Rattle.demands.specs.Demand1.{AnswerOutcome, BookOutcome, OneAnswer, Outcome, WordsOutcome, gives, refuses, takes}
+use Rattle.demands.specs.Demand1.{AnswerOutcome, BookOutcome, OneAnswer, OneRun, Outcome, WordsOutcome, WordsRunOutcome, gives, refuses, takes}
 
 -- ---- the theorems
 -- each call is due at some record of some book, so that the laws of such calls hold of it
@@ -137,6 +147,72 @@ module _ {p ws : List ℕ} {l : Lent} {r : ℕ} {ws′ : List ℕ} {l′ : Lent}
       go : (r ≡ 0) ⊎ ((why : Located) × (r ≡ said why)) → WordsOutcome ws l r ws′ l′
       go (inl e) = takes e
       go (inr (why, e)) = let same = refused-call c (omega (arith, e, said-some why)) in refuses why e (same .0) (same .1)
+
+-- ---- runs of units
+pub every-run : (t : Tally) (run : List ℕ) (l : Lent) → OneRun t run l
+every-run t run l =
+    let promise : RunPromise t run l (run-taken t run l .step) (run-taken t run l .lent) = record { reply = refl; lent = refl } in
+    record { reply = _; lists = _; promised = promise; only = λ p. run-only p promise; outcome = run-outcome t run l promise }
+
+none-added : {ws ws′ : List ℕ} → ws′ ≡ ws → words-added ws ws′ ≡ 0
+none-added {ws} {ws′} f = let same : getD ws′ 2 0 ≡ getD ws 2 0 = ap (λ (us : List ℕ). getD us 2 0) f in omega (arith, same)
+
+module _ {ws run : List ℕ} {l : Lent} {r : ℕ} {ws′ : List ℕ} {l′ : Lent} where
+  -- on words that hold a tally
+  held-run : (t : Tally) → held ws ≡ taken t → RunStepped t ws run l r ws′ l′ → WordsRunOutcome ws l r ws′ l′
+  held-run t h s = go (run-outcome t run l (s .promise))
+    where
+      counts : t .records ≡ getD ws 2 0
+      counts = ap (λ (t : Tally). t .records) (held-is ws t h .0)
+
+      grown : (k : ℕ) → s .step .tally .records ≡ t .records + k → words-added ws ws′ ≡ k
+      grown k e = let now : getD ws′ 2 0 ≡ s .step .tally .records = ap (λ (us : List ℕ). getD us 2 0) (s .words) in omega (arith, now, e, counts)
+
+      go : RunOutcome t run l (s .step) l′ → WordsRunOutcome ws l r ws′ l′
+      go (takes-all w so-far e) = takes (s .reply ∙ ap taking-said e)
+      go (stops-behind k why w inside so-far call e) =
+          refuses (k + 1) why (s .reply ∙ ap taking-said e) (omega (arith, grown k (singly-counts so-far)))
+          (λ few. let first = singly-none so-far (omega arith) in (as-it-came t h s (first .0), first .1))
+      go (is-ragged w e f) =
+          let same : s .step .tally ≡ t = ap (λ (r : Step). r .tally) e in
+          let said-so = ap (λ (r : Step). taking-said (r .taking)) e in
+          refuses 0 EndsEarly (s .reply ∙ said-so) (omega (arith, grown 0 (omega (arith, ap (λ (t : Tally). t .records) same)))) (λ few. (as-it-came t h s same, f))
+
+  pub every-words-run : UnitsCalled ws run l r ws′ l′ → WordsRunOutcome ws l r ws′ l′
+  every-words-run c = go (held ws) refl
+    where
+      unheld : (x : Refusal) (w none : Bool) → r ≡ cond w (cond none 0 (said (in-run 1 x))) (said (in-run 0 EndsEarly)) → ws′ ≡ ws → l′ ≡ l →
+          WordsRunOutcome ws l r ws′ l′
+      unheld x true true e f g = takes e
+      unheld x true false e f g = refuses 1 x e (none-added f) (λ few. (f, g))
+      unheld x false none e f g = refuses 0 EndsEarly e (none-added f) (λ few. (f, g))
+
+      go : (y : Reply Tally) → held ws ≡ y → WordsRunOutcome ws l r ws′ l′
+      go (taken t) h = held-run t h (run-steps h c)
+      go (refused x) h = unheld x (whole run) (eqb (length run) 0) (rw h at (c .reply)) (rw h at (c .tally)) (rw h at (c .lent))
+
+  -- 'a run that is not a whole number of records is 1, before anything else'
+  pub ragged-run-refused : whole run ≡ false → UnitsCalled ws run l r ws′ l′ → (r ≡ number EndsEarly) × (ws′ ≡ ws) × (l′ ≡ l)
+  ragged-run-refused ragged c = go (held ws) refl
+    where
+      go : (y : Reply Tally) → held ws ≡ y → (r ≡ number EndsEarly) × (ws′ ≡ ws) × (l′ ≡ l)
+      go (taken t) h =
+          let s = run-steps h c in
+          let stops-first = ragged-run t run l ragged in
+          let step = s .promise .reply ∙ ap (λ (x : Ran). x .step) stops-first in
+          (s .reply ∙ ap told step, as-it-came t h s (ap (λ (x : Step). x .tally) step), s .promise .lent ∙ ap (λ (x : Ran). x .lent) stops-first)
+      go (refused x) h = (rw (h, ragged) at (c .reply), rw h at (c .tally), rw h at (c .lent))
+
+-- 'an empty run changes nothing and is accepted', whatever the words and the lists are
+pub empty-run-taken : {ws : List ℕ} {l : Lent} {r : ℕ} {ws′ : List ℕ} {l′ : Lent} → UnitsCalled ws [] l r ws′ l′ → (r ≡ 0) × (ws′ ≡ ws) × (l′ ≡ l)
+empty-run-taken {ws} {l} {r} {ws′} {l′} c = go (held ws) refl
+  where
+    go : (y : Reply Tally) → held ws ≡ y → (r ≡ 0) × (ws′ ≡ ws) × (l′ ≡ l)
+    go (taken t) h =
+        let s = run-steps h c in
+        let step = s .promise .reply ∙ ap (λ (x : Ran). x .step) (empty-run t l) in
+        (s .reply ∙ ap told step, as-it-came t h s (ap (λ (x : Step). x .tally) step), s .promise .lent ∙ ap (λ (x : Ran). x .lent) (empty-run t l))
+    go (refused x) h = (rw h at (c .reply), rw h at (c .tally), rw h at (c .lent))
 
 pub every-book :
     {bs head : List ℕ} {part : ℕ → List ℕ} (l₀ : Lent) → Hands bs head part →

@@ -4,9 +4,10 @@
 -- book,
 -- from its bytes to the last cent, name and standing, and nothing of it is refused. A caller hands parts on whole or cut behind their record (`Hands`: what
 -- stands behind a record does not matter), may make calls that are refused, of any bytes, anywhere in between, and may put a refused record right.
-use mathlib.Core.Path.{_≡_}
+use mathlib.Core.Path.{_≡_, subst}
 use mathlib.Core.List.{List}
 use Prim.Native.Nat.{ℕ, _+_, _≤_, _<_}
+use native.Mathlib.Omega.{arith}
 use lib.ListN.{length, getD}
 use Rattle.rules.specs.Refusals.{taken}
 use Rattle.rules.specs.Quantities.{most-units}
@@ -19,11 +20,16 @@ use Rattle.interval.specs.Lent.{Lent}
 use Rattle.chain.specs.Taken.{counts-in}
 use Rattle.chain.specs.Long.{Long}
 use Rattle.chain.specs.Chain.{Chain}
+use Rattle.chain.specs.BookRecords.{part-of}
 use Rattle.chain.specs.BookWay.{records-in, Hands}
+use Rattle.chain.proofs.BookWay.{hands-whole}
+use Rattle.chain.specs.BookRuns.{run-of}
+use Rattle.chain.proofs.BookRuns.{cut-out, cut-records}
 use Rattle.chain.specs.BookChain.{book-of}
 use Rattle.answer.proofs.BookAnswered as calls
 use Rattle.answer.specs.BookAnswered.{RulesAnswers, SpelledAnswered, BookAnswered}
 use Rattle.dullavane.specs.Words.{tally-words}
+use Rattle.dullavane.specs.Runs.{UnitsCalled}
 use Rattle.demands.specs.WordsChain.{WordsChain}
 use Rattle.demands.proofs.WordsTheorem.{words-chain}
 use Rattle.demands.specs.WordsAnswer.{WordsAnswers}
@@ -43,6 +49,21 @@ module _
   -- over C words, eight of them at least, in which the firmware holds the tally
   pub book-answered-over-words : (ws₀ : List ℕ) → tally-words ≤ length ws₀ → WordsBook b head part l₀ ws₀
   book-answered-over-words ws₀ long = words.words-book hands (λ _. lists-long) long bytes b e
+
+-- its units by runs, cut out of it anywhere and of any lengths, singly, or mixed: each run is taken, and the chain goes on behind it
+module _
+    {bs : List ℕ} (b : Book) (e : book bs ≡ taken b) (bytes : (i : ℕ) → getD bs i 0 < 256) (l₀ : Lent) (lists-long : Long l₀ (counts-in bs .units))
+    (ws₀ : List ℕ) (long : tally-words ≤ length ws₀) where
+  pub units-by-runs :
+      {n r : ℕ} (k : ℕ) {ws ws′ : List ℕ} {l l′ : Lent} → WordsChain bs (part-of bs) l₀ ws₀ n ws l → before-units ≤ n →
+      n + k ≤ before-units + counts-in bs .units → UnitsCalled ws (run-of bs n k) l r ws′ l′ → (r ≡ 0) × WordsChain bs (part-of bs) l₀ ws₀ (n + k) ws′ l′
+  units-by-runs {n} {r} k {ws} {ws′} {l} {l′} d first last c =
+      let takes = words.words-book (hands-whole bs) (λ _. lists-long) long bytes b e .takes in
+      let end = words-chain (takes .there .2) .chain in
+      let inside : n + k ≤ records-in bs = omega arith in
+      let same = cut-records bs n k first last end inside in
+      let went = takes .runs (omega (arith, same)) (omega (arith, same)) d (cut-out bs n k first last end inside) c in
+      (went .0, subst (λ (j : ℕ). WordsChain bs (part-of bs) l₀ ws₀ (n + j) ws′ l′) same (went .1))
 
 -- ---- OF WHATEVER WAS HANDED IN: a chain of calls that has ended took a book, the one that the parts spell which were taken; it was never there as a whole if
 -- a record was refused, put right and tried again. What is kept and what is answered is what the rules say of this book

@@ -9,5 +9,6 @@ pub mod WeekDefaults
 pub mod WordsAnswered
 pub mod WordsBook
 pub mod WordsCalls
+pub mod WordsRuns
 pub mod WordsLaws
 pub mod WordsTheorem

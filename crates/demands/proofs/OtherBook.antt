@@ -4,7 +4,7 @@ use mathlib.Core.Path.{_≡_, refl, _∙_, ap, subst}
 use mathlib.Core.Bool.{Bool, true, false, _&&_}
 use mathlib.Core.List.{List}
 use mathlib.Core.Logic.{_⊎_, inl, inr}
-use Prim.Native.Nat.{ℕ, _+_, _≤_}
+use Prim.Native.Nat.{ℕ, _+_, _≤_, _<_}
 use lib.Dec.{leb, ltb}
 use lib.ListN.{length}
 use borrow.Author.Tests.{le-leb}
@@ -19,6 +19,8 @@ use Rattle.interval.specs.Tally.{in-range, answer-turn, units-taken}
 use Rattle.interval.specs.Lent.{Lent, regions-long, rows-long}
 use Rattle.interval.specs.Calls.{left, unit-long}
 use Rattle.interval.specs.Promises.{UnitPromise}
+use Rattle.interval.specs.Run.{Ran, in-run, records-in, whole}
+use Rattle.interval.proofs.RunLaws.{first-refused}
 use Rattle.kept.specs.Kept.{kept-answer}
 use Rattle.chain.specs.Mixed.{Told}
 use Rattle.chain.proofs.Mixed.{told-unit}
@@ -26,12 +28,14 @@ use Rattle.answer.specs.declared.Answered.{Answered}
 use Rattle.answer.specs.declared.Row.{Row}
 use Rattle.answer.specs.Promises.{Columns, AnswerPromise, answer-reply, columns-long, replied, with-lines}
 use Rattle.answer.specs.Roster.{MemberPromise, member-long, member-reply, row-answer}
-use Rattle.dullavane.specs.Words.{held, told, words-after}
+use Rattle.dullavane.specs.Words.{held, said, told, words-after}
 use Rattle.dullavane.specs.Called.{Called}
 use Rattle.dullavane.specs.Promises.{UnitCalled}
+use Rattle.dullavane.specs.Runs.{UnitsCalled}
 use Rattle.dullavane.specs.Answers.{AnswerCalled, answered-after, answered-number, reply-words}
 use Rattle.dullavane.specs.Asked.{MemberCalled, asked-narrow, asked-tally, direction-of, in-turn, member-words, row-after, row-number}
 use Rattle.demands.proofs.WordsLaws.{is-stepped}
+use Rattle.demands.proofs.WordsRuns.{as-it-came, run-steps}
 use Rattle.demands.specs.OtherBook.{ToldApart}
 
 -- ---- a call returns 11 where its words do, and where the call below does
@@ -83,7 +87,7 @@ module _ (t : Tally) (l : Lent) (apart : Told t l) where
 -- ---- THE THEOREM
 module _ (stored : List ℕ) (t : Tally) (l : Lent) (h : held stored ≡ taken t) (apart : Told t l) where
   pub told-apart : ToldApart stored t l
-  told-apart = record { unit = unit; answer = answer; member = member }
+  told-apart = record { unit = unit; units = units; answer = answer; member = member }
     where
       unit :
           {p stored′ : List ℕ} {r : ℕ} {l′ : Lent} → unit-long (units-taken t + 1) l ≡ true → UnitCalled stored p l r stored′ l′ →
@@ -92,6 +96,15 @@ module _ (stored : List ℕ) (t : Tally) (l : Lent) (h : held stored ≡ taken t
         where
           refuses : (s : Step) → UnitPromise t p l s l′ → (told s ≡ number WrongState) × (words-after s stored ≡ stored) × (l′ ≡ l)
           refuses s w = let e = told-unit apart long w in (ap told (e .0), ap (λ (x : Step). words-after x stored) (e .0), e .1)
+
+      units :
+          {run stored′ : List ℕ} {r : ℕ} {l′ : Lent} → unit-long (units-taken t + 1) l ≡ true → whole run ≡ true → 0 < records-in run →
+          UnitsCalled stored run l r stored′ l′ → (r ≡ said (in-run 1 WrongState)) × (stored′ ≡ stored) × (l′ ≡ l)
+      units {run} long is-whole some c =
+          let s = run-steps h c in
+          let stops-first = first-refused t run l is-whole some (apart .unit run long) in
+          let step = s .promise .reply ∙ ap (λ (x : Ran). x .step) stops-first in
+          (s .reply ∙ ap told step, as-it-came t h s (ap (λ (x : Step). x .tally) step), s .promise .lent ∙ ap (λ (x : Ran). x .lent) stops-first)
 
       answer :
           {p reply reply′ : List ℕ} {old new : Columns} {r : ℕ} → ((regions-long l && rows-long (t .units) l) && columns-long (t .units) old) ≡ true →

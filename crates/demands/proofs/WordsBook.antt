@@ -1,8 +1,8 @@
 -- DEMAND 2 OVER WORDS: once a chain of C calls has all units in, dullavane_answer and dullavane_member give the rules' answer about the book that was taken, to
 -- the cent, with names and standings. Of a book that the format takes the C calls take every record; of one that it refuses they meet its refusal, number, place and t.
-use mathlib.Core.Path.{_≡_, refl, sym, _∙_, ap}
+use mathlib.Core.Path.{_≡_, refl, sym, _∙_, ap, subst⁻¹}
 use mathlib.Core.List.{List}
-use Prim.Native.Nat.{ℕ, _+_, _≤_, _<_}
+use Prim.Native.Nat.{ℕ, suc, _+_, _-_, _≤_, _<_}
 use native.Mathlib.Omega.{arith}
 use lib.ListN.{length, getD}
 use borrow.Author.Tests.{le-leb}
@@ -15,10 +15,13 @@ use Rattle.interval.specs.declared.Opened as o
 use Rattle.interval.specs.declared.Step.{Step}
 use Rattle.interval.specs.Tally.{before-units}
 use Rattle.interval.specs.Lent.{Lent}
+use Rattle.interval.specs.Run.{in-run, records-in as run-length}
 use Rattle.interval.specs.Calls.{opened}
 use Rattle.chain.specs.Taken.{counts-in}
 use Rattle.chain.specs.Long.{Long}
-use Rattle.chain.specs.Chain.{RecordTaken}
+use Rattle.chain.specs.Chain.{Chain, RecordTaken}
+use Rattle.chain.specs.Runs.{RunFrom}
+use Rattle.chain.proofs.BookRuns.{run-takes, run-stops}
 use Rattle.chain.specs.BookWay as below
 use Rattle.chain.proofs.BookWay as below-laws
 use Rattle.chain.specs.BookWay.{records-in, Hands, Takes, Stops, Meets}
@@ -30,19 +33,40 @@ use Rattle.chain.proofs.Answerable.{chain-answerable, units-answerable, ended-a
 use Rattle.answer.specs.BookAnswered.{Asks}
 use Rattle.dullavane.specs.Words.{tally-words, with-words, said, reply-said, taking-said, words-after}
 use Rattle.dullavane.specs.Promises.{ContentsCalled}
+use Rattle.dullavane.specs.Runs.{UnitsCalled}
 use Rattle.dullavane.proofs.Promises.{contents-opened}
-use Rattle.demands.specs.WordsChain.{Turn, Due, WordsCall, WordsChain}
+use Rattle.demands.specs.WordsChain.{Turn, of-unit, Due, WordsCall, WordsChain}
 use Rattle.demands.proofs.WordsLaws.{told-refused}
 use Rattle.demands.proofs.WordsCalls.{call-steps, due-call}
+use Rattle.demands.proofs.WordsRuns.{RunStepped, run-steps}
 use Rattle.demands.proofs.WordsTheorem.{words-chain, chain-words}
 use Rattle.demands.specs.WordsAnswer.{WordsAnswers}
 use Rattle.demands.proofs.WordsAnswered.{answerable-answered}
 use Rattle.demands.specs.WordsBook.{WordsMeets, WordsSpelled, WordsStops, WordsTakes, at-contents, at-record}
 
 module _ {head : List ℕ} {part : ℕ → List ℕ} {l₀ : Lent} {ws₀ : List ℕ} (long : tally-words ≤ length ws₀) where
+  -- wherever a run comes below, it comes over words
+  run-there :
+      {n m r : ℕ} {run ws ws′ : List ℕ} {l l′ : Lent} (d : WordsChain head part l₀ ws₀ n ws l) (s : RunStepped (words-chain d .tally) ws run l r ws′ l′) →
+      Chain head part l₀ m (s .step .tally) l′ → WordsChain head part l₀ ws₀ m ws′ l′
+  run-there {m = m} {l′ = l′} d s there =
+      let words = s .words ∙ ap (with-words (s .step .tally)) (words-chain d .words) in
+      subst⁻¹ (λ (us : List ℕ). WordsChain head part l₀ ws₀ m us l′) words (chain-words head part l₀ ws₀ long there)
+
   words-takes : {m : ℕ} → Takes head part l₀ m → WordsTakes head part l₀ ws₀ m
-  words-takes {m} w = record { each = each; there = let x = w .there in (with-words (x .0) ws₀, x .1, chain-words head part l₀ ws₀ long (x .2)) }
+  words-takes {m} w =
+      record { each = each; there = let x = w .there in (with-words (x .0) ws₀, x .1, chain-words head part l₀ ws₀ long (x .2)); runs = runs }
     where
+      runs :
+          {n r : ℕ} {run ws ws′ : List ℕ} {l l′ : Lent} → n + run-length run ≤ m → n + run-length run ≤ before-units + counts-in head .units →
+          WordsChain head part l₀ ws₀ n ws l → RunFrom part n (run-length run) run → UnitsCalled ws run l r ws′ l′ →
+          (r ≡ 0) × WordsChain head part l₀ ws₀ (n + run-length run) ws′ l′
+      runs inside last d from c =
+          let x = words-chain d in
+          let s = run-steps (x .held) c in
+          let takes = run-takes (x .chain) (s .promise) w inside last from in
+          (s .reply ∙ ap taking-said (takes .0), run-there d s (takes .1))
+
       each :
           {n r : ℕ} {ws ws′ : List ℕ} {l l′ : Lent} {turn : Turn} → n < m → WordsChain head part l₀ ws₀ n ws l → Due (counts-in head) n turn →
           WordsCall (part n) ws l r ws′ l′ turn → r ≡ 0
@@ -53,8 +77,24 @@ module _ {head : List ℕ} {part : ℕ → List ℕ} {l₀ : Lent} {ws₀ : List
 
   words-stops : {why : Located} {m : ℕ} → Stops head part l₀ why m → WordsStops head part l₀ ws₀ why m
   words-stops {why} {m} w =
-      record { inside = w .inside; before = words-takes (w .before); refuses = refuses; furthest = λ d. w .furthest (words-chain d .chain) }
+      record {
+        inside = w .inside;
+        before = words-takes (w .before);
+        refuses = refuses;
+        runs-refuse = runs-refuse;
+        furthest = λ d. w .furthest (words-chain d .chain);
+      }
     where
+      runs-refuse :
+          {n r : ℕ} {run ws ws′ : List ℕ} {l l′ : Lent} → n ≤ m → m < n + run-length run → Due (counts-in head) m of-unit →
+          WordsChain head part l₀ ws₀ n ws l → RunFrom part n (suc (m - n)) run → UnitsCalled ws run l r ws′ l′ →
+          (r ≡ said (in-run (m - n + 1) (why .refusal))) × WordsChain head part l₀ ws₀ m ws′ l′
+      runs-refuse begins inside due d from c =
+          let x = words-chain d in
+          let s = run-steps (x .held) c in
+          let stops = run-stops (x .chain) (s .promise) w begins inside (due .1) from in
+          (s .reply ∙ ap taking-said (stops .reply), run-there d s (stops .there))
+
       refuses :
           {r : ℕ} {ws ws′ : List ℕ} {l l′ : Lent} {turn : Turn} → WordsChain head part l₀ ws₀ m ws l → Due (counts-in head) m turn →
           WordsCall (part m) ws l r ws′ l′ turn → (r ≡ said why) × (ws′ ≡ ws) × (l′ ≡ l)

@@ -11,7 +11,7 @@ use Rattle.interval.specs.declared.Taking.{Taking}
 use Rattle.interval.specs.declared.Step.{Step}
 use Rattle.interval.specs.Lent.{Lent}
 use Rattle.interval.specs.Calls.{settled, counted, settings-reply, requirement-reply}
-use Rattle.chain.proofs.Taken.{step-refused}
+use Rattle.interval.proofs.Calls.{step-refused}
 use Rattle.chain.specs.Chain.{Refused}
 use Rattle.chain.proofs.ChainTheorem.{frequency-stays, unit-stays}
 use Rattle.chain.specs.Way.{Call, for-settings, for-frequency, for-unit, for-requirement}

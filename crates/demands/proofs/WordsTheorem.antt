@@ -1,9 +1,9 @@
 -- THE CHAIN OVER WORDS: a chain of C calls is a chain of the calls below (crates/chain, Chain); its words are those of the chain's tally, and words past the
 -- eighth stay. And the other way round.
-use mathlib.Core.Path.{_≡_, refl, sym, _∙_, ap, subst⁻¹}
+use mathlib.Core.Path.{_≡_, refl, sym, _∙_, ap, ap₂, subst, subst⁻¹}
 use mathlib.Core.Bool.{Bool, true, false}
 use mathlib.Core.List.{List}
-use Prim.Native.Nat.{ℕ, zero, suc, _≤_, _<_}
+use Prim.Native.Nat.{ℕ, zero, suc, _+_, _≤_, _<_}
 use native.Mathlib.Omega.{arith}
 use lib.Dec.{leb}
 use lib.ListN.{length}
@@ -28,14 +28,18 @@ use Rattle.chain.proofs.Taken.{contents-is}
 use Rattle.chain.specs.Chain as below
 use Rattle.chain.specs.Chain.{Taken, Refused, Chain, Means, the-settings}
 use Rattle.chain.proofs.ChainTheorem.{chain}
+use Rattle.chain.specs.Runs.{HandsRun, added}
+use Rattle.chain.proofs.Runs.{run-chain}
 use Rattle.dullavane.specs.Words.{tally-words, with-words, held, Narrow, reply-said, taking-said, told, words-left, words-after}
 use Rattle.dullavane.specs.Called.{Stepped}
 use Rattle.dullavane.specs.Promises.{contents-reply, ContentsCalled}
 use Rattle.dullavane.proofs.Promises.{contents-opened}
-use Rattle.demands.specs.WordsChain.{Turn, WordsCall, WordsChain, begun, took, refused-record, refused-contents}
+use Rattle.dullavane.specs.Runs.{UnitsCalled}
+use Rattle.demands.specs.WordsChain.{Turn, WordsCall, WordsChain, begun, took, took-run, refused-record, refused-contents, words-added}
 use Rattle.dullavane.proofs.WordsLaws.{said-some}
 use Rattle.demands.proofs.WordsLaws.{told-taken, words-hold}
 use Rattle.demands.specs.WordsCalls.{StepCall, settings-step, frequency-step, unit-step, requirement-step}
+use Rattle.demands.proofs.WordsRuns.{run-steps}
 use Rattle.demands.proofs.WordsCalls.{refused-call, call-steps, step-calls, refused-stays}
 
 -- ---- the tally of a chain is within its widths, so its words hold it
@@ -130,10 +134,21 @@ module _ {head : List ℕ} {part : ℕ → List ℕ} {l₀ : Lent} where
         let words = s .words ∙ ap (λ (k : Taking). words-left k t ws) took ∙ ap (with-words t) (x .words) in
         tallied (one-more (x .chain) (s .call) took) words (x .long)
 
+    next-run :
+        {n r : ℕ} {run ws ws′ : List ℕ} {l l′ : Lent} → Tallied head part l₀ ws₀ n ws l → UnitsCalled ws run l r ws′ l′ →
+        HandsRun part n (words-added ws ws′) run → Tallied head part l₀ ws₀ (n + words-added ws ws′) ws′ l′
+    next-run {n} {run = run} {ws} {ws′} {l} {l′} x c hands =
+        let s = run-steps (x .held) c in
+        let t = s .step .tally in
+        let grown : words-added ws ws′ ≡ added (x .tally) t = ap₂ (λ (us vs : List ℕ). words-added us vs) (x .words) (s .words) in
+        let chain = run-chain (x .chain) (s .promise) (subst (λ (k : ℕ). HandsRun part n k run) grown hands) in
+        tallied (subst⁻¹ (λ (k : ℕ). Chain head part l₀ (n + k) t l′) grown chain) (s .words ∙ ap (with-words t) (x .words)) (x .long)
+
     pub words-chain : {n : ℕ} {ws : List ℕ} {l : Lent} → WordsChain head part l₀ ws₀ n ws l → Tallied head part l₀ ws₀ n ws l
     words-chain (begun c) = let x = contents-taken c in tallied (below.begun (x .promise)) (x .words) (x .long)
     words-chain (took d c) = next (words-chain d) c
     words-chain (refused-record d c h) = let e = refused-call c h in rw (e .0, e .1) (words-chain d)
+    words-chain (took-run d c hands) = next-run (words-chain d) c hands
     words-chain (refused-contents d c h) = rw (contents-kept c h) (words-chain d)
 
 -- ---- the next call in a chain, of any bytes: it is the call below on the chain's tally, and that one is it; its number is 0 or the refusal's

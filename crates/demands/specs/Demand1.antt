@@ -1,7 +1,7 @@
 -- What proofs/Demand1.antt speaks of.
 use mathlib.Core.Path.{_≡_}
 use mathlib.Core.List.{List}
-use Prim.Native.Nat.{ℕ}
+use Prim.Native.Nat.{ℕ, _-_, _≤_}
 use Rattle.rules.specs.declared.Refusal.{Refusal}
 use Rattle.rules.specs.declared.Located.{Located}
 use Rattle.rules.specs.Refusals.{taken, refused}
@@ -12,13 +12,15 @@ use Rattle.interval.specs.declared.Step.{Step}
 use Rattle.interval.specs.Lent.{Lent}
 use Rattle.interval.specs.Calls.{refused-step}
 use Rattle.chain.specs.Chain.{Taken}
+use Rattle.interval.specs.Run.{in-run, RunPromise}
+use Rattle.chain.specs.Runs.{RunOutcome}
 use Rattle.chain.specs.BookWay.{records-in, Takes, Meets}
 use Rattle.answer.specs.declared.Answer.{Answer}
 use Rattle.answer.specs.declared.Answered.{Answered}
 use Rattle.answer.specs.declared.Answered.the-variants.{Given, Refused}
 use Rattle.answer.specs.Promises.{Columns}
 use Rattle.dullavane.specs.Words.{said}
-use Rattle.demands.specs.WordsChain.{Turn}
+use Rattle.demands.specs.WordsChain.{Turn, words-added}
 use Rattle.demands.specs.WordsCalls.{StepCall}
 
 -- ---- a call that takes a record, with any tally t, any bytes p and any lists l: 'an answer or a numbered refusal'. The record is taken, or the refusal stands
@@ -44,6 +46,23 @@ pub data AnswerOutcome (old : Columns) (r : Answered) (new : Columns) : Type 0 w
 pub data WordsOutcome (ws : List ℕ) (l : Lent) (r : ℕ) (ws′ : List ℕ) (l′ : Lent) : Type 0 where
   takes : r ≡ 0 → WordsOutcome ws l r ws′ l′
   refuses : (why : Located) → r ≡ said why → ws′ ≡ ws → l′ ≡ l → WordsOutcome ws l r ws′ l′
+
+-- ---- a run of units (02, R-6, which amends the demand for it): with any tally, any bytes and any lists there is one answer that its promise allows. A refusal
+-- leaves what the records before the refused one have left, each taken as a single call takes it
+pub record OneRun (t : Tally) (run : List ℕ) (l : Lent) : Type 0 where
+  pub reply : Step
+  pub lists : Lent
+  pub promised : RunPromise t run l reply lists
+  pub only : {r : Step} {l′ : Lent} → RunPromise t run l r l′ → (r ≡ reply) × (l′ ≡ lists)
+  pub outcome : RunOutcome t run l reply lists
+
+-- from C on any words: 0, or a refusal with number, place in the run and t. As many records were added as stand before that place, which the third word counts;
+-- where none does, words and lists are as they came
+pub data WordsRunOutcome (ws : List ℕ) (l : Lent) (r : ℕ) (ws′ : List ℕ) (l′ : Lent) : Type 0 where
+  takes : r ≡ 0 → WordsRunOutcome ws l r ws′ l′
+  refuses :
+      (place : ℕ) (why : Refusal) → r ≡ said (in-run place why) → words-added ws ws′ ≡ place - 1 → (place ≤ 1 → (ws′ ≡ ws) × (l′ ≡ l)) →
+      WordsRunOutcome ws l r ws′ l′
 
 -- ---- 'a book of arbitrary bytes': handed on whole or cut, with whatever refused calls in between, the calls take it to its end where the format takes it, and
 -- meet the refusal of the format where it does not

@@ -3,7 +3,7 @@
 use mathlib.Core.Path.{_≡_}
 use mathlib.Core.Bool.{true, _&&_}
 use mathlib.Core.List.{List}
-use Prim.Native.Nat.{ℕ, _+_, _≤_}
+use Prim.Native.Nat.{ℕ, _+_, _≤_, _<_}
 use lib.ListN.{length}
 use Rattle.rules.specs.declared.Refusal.the-variants.{WrongState}
 use Rattle.rules.specs.Refusals.{number}
@@ -11,9 +11,12 @@ use Rattle.interval.specs.declared.Tally.{Tally}
 use Rattle.interval.specs.Tally.{units-taken}
 use Rattle.interval.specs.Lent.{Lent, regions-long, rows-long}
 use Rattle.interval.specs.Calls.{unit-long}
+use Rattle.interval.specs.Run.{in-run, records-in, whole}
 use Rattle.answer.specs.Promises.{Columns, columns-long}
 use Rattle.answer.specs.Roster.{member-long}
+use Rattle.dullavane.specs.Words.{said}
 use Rattle.dullavane.specs.Promises.{UnitCalled}
+use Rattle.dullavane.specs.Runs.{UnitsCalled}
 use Rattle.dullavane.specs.Answers.{reply-words, AnswerCalled}
 use Rattle.dullavane.specs.Asked.{member-words, MemberCalled}
 
@@ -21,6 +24,9 @@ pub record ToldApart (stored : List ℕ) (t : Tally) (l : Lent) : Type 0 where
   pub unit :
       {p stored′ : List ℕ} {r : ℕ} {l′ : Lent} → unit-long (units-taken t + 1) l ≡ true → UnitCalled stored p l r stored′ l′ →
       (r ≡ number WrongState) × (stored′ ≡ stored) × (l′ ≡ l)
+  pub units :
+      {run stored′ : List ℕ} {r : ℕ} {l′ : Lent} → unit-long (units-taken t + 1) l ≡ true → whole run ≡ true → 0 < records-in run →
+      UnitsCalled stored run l r stored′ l′ → (r ≡ said (in-run 1 WrongState)) × (stored′ ≡ stored) × (l′ ≡ l)
   pub answer :
       {p reply reply′ : List ℕ} {old new : Columns} {r : ℕ} → ((regions-long l && rows-long (t .units) l) && columns-long (t .units) old) ≡ true →
       reply-words ≤ length reply → AnswerCalled stored p l old reply r new reply′ → (r ≡ number WrongState) × (reply′ ≡ reply) × (new ≡ old)

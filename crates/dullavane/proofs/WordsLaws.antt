@@ -13,8 +13,8 @@ use Rattle.rules.specs.declared.Refusal.{Refusal}
 use Rattle.rules.specs.declared.Located.{Located}
 use Rattle.rules.specs.Refusals.{taken, refused, number, point, located, unless}
 use Rattle.laws.proofs.RefusalLaws.{tellable}
-use Rattle.interval.specs.declared.Taking as k
-use Rattle.dullavane.specs.Words.{Held, Narrow, held, reply-number, said, tally-of, tally-words, words-fit}
+use Rattle.interval.specs.declared.Tally.{Tally}
+use Rattle.dullavane.specs.Words.{Held, Narrow, held, reply-number, said, tally-of, tally-words, with-words, words-fit}
 
 pub narrowed : (ws : List ℕ) → words-fit ws ≡ true → Narrow ws
 unfolding words-fit
@@ -87,6 +87,27 @@ unheld-said ws x e = go (leb tally-words (length ws)) (words-fit ws) (sym (held-
     go true true f = let z : _≡_ {A = ℕ} 0 1 = cc in absurd (omega arith)
     go true false f = let s : WrongState ≡ x = cc in subst (λ (x : Refusal). number x ≡ said (located 0 x)) s refl
     go false b f = let s : TooShort ≡ x = cc in subst (λ (x : Refusal). number x ≡ said (located 0 x)) s refl
+
+-- ---- words that hold a tally are its words
+pub held-is : (ws : List ℕ) (t : Tally) → held ws ≡ taken t → (t ≡ tally-of ws) × (tally-words ≤ length ws)
+held-is ws t e = go (leb tally-words (length ws)) (words-fit ws) refl (sym (held-by ws refl refl) ∙ e)
+  where
+    go : (a b : Bool) → leb tally-words (length ws) ≡ a → unless a TooShort (unless b WrongState (taken (tally-of ws))) ≡ taken t →
+        (t ≡ tally-of ws) × (tally-words ≤ length ws)
+    go true true l f = (cc, leb-true _ _ l)
+    go true false l f = let z : _≡_ {A = ℕ} 0 1 = cc in absurd (omega arith)
+    go false b l f = let z : _≡_ {A = ℕ} 0 1 = cc in absurd (omega arith)
+
+pub same-words : (ws : List ℕ) → tally-words ≤ length ws → with-words (tally-of ws) ws ≡ ws
+same-words (a ∷ b ∷ c ∷ d ∷ e ∷ f ∷ g ∷ h ∷ ws) long = refl
+same-words (a ∷ b ∷ c ∷ d ∷ e ∷ f ∷ g ∷ []) long = absurd (omega arith)
+same-words (a ∷ b ∷ c ∷ d ∷ e ∷ f ∷ []) long = absurd (omega arith)
+same-words (a ∷ b ∷ c ∷ d ∷ e ∷ []) long = absurd (omega arith)
+same-words (a ∷ b ∷ c ∷ d ∷ []) long = absurd (omega arith)
+same-words (a ∷ b ∷ c ∷ []) long = absurd (omega arith)
+same-words (a ∷ b ∷ []) long = absurd (omega arith)
+same-words (a ∷ []) long = absurd (omega arith)
+same-words [] long = absurd (omega arith)
 
 -- eight stores in a row
 pub eight-stores : (ws : List ℕ) (a b c d e f g h : ℕ) → 8 ≤ length ws → set (set (set (set (set (set (set (set ws 0 a) 1 b) 2 c) 3 d) 4 e) 5 f) 6 g) 7 h ≡

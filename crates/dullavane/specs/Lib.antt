@@ -2,6 +2,7 @@
 pub mod Words
 pub mod Called
 pub mod Promises
+pub mod Runs
 pub mod Asked
 pub mod Answers
 pub mod Weekly

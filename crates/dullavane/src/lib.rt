@@ -1,11 +1,12 @@
 // dullavane: the calls as the firmware makes them from C. Only numbers and lists cross over; the tally stands in eight lent words. A call answers 0, or the
-// refusal, the calls that take a book with its place and t, and then nothing lent has changed.
+// refusal, the calls that take a book with its place and t, and then nothing lent has changed but by the records that a run added before it.
 ghost use Rattle.interval.specs.Lent.{Lent, lent-frequency, lent-unit, lent-answer, lent-member};
 ghost use Rattle.answer.specs.Promises.{columns};
 ghost use Rattle.dullavane.specs.Answers.{AnswerCalled};
 ghost use Rattle.dullavane.specs.Asked.{MemberCalled};
 ghost use Rattle.dullavane.specs.Verdicts.{SheetCalled};
 ghost use Rattle.dullavane.specs.Weekly.{WeekCalled, WeeksCalled, WeekAddCalled, WeekReadCalled};
+ghost use Rattle.dullavane.specs.Runs.{UnitsCalled};
 ghost use Rattle.dullavane.specs.Promises.{ContentsCalled, SettingsCalled, FrequencyCalled, UnitCalled, RequirementCalled};
 use answer::roster::member;
 use asked::asked_refusal;
@@ -21,7 +22,11 @@ use interval::settings::settings;
 use rules::Refusal;
 use rules::locate;
 use rules::refusal_number;
+use runs::FIRST_PLACE;
+use runs::tell_run;
+use runs::unheld_told;
 use sheets::sheet;
+use units::run::run;
 use units::unit::unit;
 use verdicts::VERDICT_WORDS;
 use verdicts::tell_verdict;
@@ -45,6 +50,7 @@ use words::tell;
 use words::words_refusal;
 
 mod asked;
+mod runs;
 mod verdicts;
 mod weekly;
 mod words;
@@ -142,6 +148,43 @@ pub extern "C" fn dullavane_unit(
         rows,
     );
     tell(step, tally)
+}
+
+// Takes a run of units up to the first refused one, which is named by its place in the run; the records before it stay added. Refuses 1 for a run that is not
+// whole, before anything else, then record by record what the unit call refuses. An empty run changes nothing.
+#[no_mangle]
+pub extern "C" fn dullavane_units(
+    tally: &mut [u32],
+    records: &[u8],
+    measures: &[i32],
+    sums: &mut [i64],
+    figures: &[i64],
+    numbers: &mut [u16],
+    homes: &mut [u8],
+    rows: &mut [i64],
+) -> u64
+    ensures { λ r. ⌜
+        UnitsCalled (now (tally .entry)) (now (records .entry))
+        (lent-unit (now (measures .entry)) (now (sums .entry)) (now (figures .entry)) (now (numbers .entry)) (now (homes .entry)) (now (rows .entry))) r
+        (now (tally .exit))
+        (lent-unit (now (measures .entry)) (now (sums .exit)) (now (figures .entry)) (now (numbers .exit)) (now (homes .exit)) (now (rows .exit)))
+        ⌝ }
+{
+    let refusal = words_refusal(tally);
+    if refusal != 0 {
+        return unheld_told(records, refusal as u64 + FIRST_PLACE);
+    }
+    let step = run(
+        tally_in(tally),
+        records,
+        measures,
+        sums,
+        figures,
+        numbers,
+        homes,
+        rows,
+    );
+    tell_run(step, tally)
 }
 
 // Takes a requirement. Refuses 12 for the tally's words, 11, then 1 and 10, then, with the last one, 4.

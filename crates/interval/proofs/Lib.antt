@@ -2,4 +2,5 @@ pub mod Calls
 pub mod HeldLaws
 pub mod LentLaws
 pub mod Promises
+pub mod RunLaws
 pub mod TallyLaws

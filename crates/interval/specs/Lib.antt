@@ -3,3 +3,4 @@ pub mod Tally
 pub mod Lent
 pub mod Calls
 pub mod Promises
+pub mod Run

@@ -1,5 +1,6 @@
 pub mod PointsLaws
 pub mod RangeLaws
 pub mod RowsLaws
+pub mod RunAnswer
 pub mod TestedLaws
 pub mod UnitAnswer

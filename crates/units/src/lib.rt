@@ -4,5 +4,6 @@ mod deviation;
 mod lent;
 mod points;
 mod range;
+pub mod run;
 mod tested;
 pub mod unit;

@@ -3,7 +3,7 @@
 
 use std::io::{BufWriter, Write};
 
-use second::boundary::{script_line, Lent};
+use second::boundary::Caller;
 use second::script::Script;
 
 const USAGE: &str = "usage: calls script COUNT [SEED [answers]] | calls model";
@@ -16,12 +16,14 @@ fn main() -> std::io::Result<()> {
             let count = words.get(1).and_then(|word| word.parse().ok()).expect(USAGE);
             let seed = words.get(2).map_or(0, |word| word.parse().expect(USAGE));
             let answers = words.get(3).is_some_and(|word| word == "answers");
-            Script::new(seed, answers, &mut out).write(count);
+            let mut script = Script::new(seed, answers, &mut out);
+            script.write(count);
+            script.runs();
         }
         Some("model") => {
-            let mut lent = Lent::default();
+            let mut caller = Caller::default();
             for line in std::io::stdin().lines() {
-                if let Some(answer) = script_line(&mut lent, &line?) {
+                if let Some(answer) = caller.line(&line?) {
                     writeln!(out, "{answer}")?;
                 }
             }

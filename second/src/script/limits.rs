@@ -35,7 +35,7 @@ impl<W: Write> Script<W> {
     /// All that is lent as it was, the lengths too.
     fn restore(&mut self, before: &Lent) {
         for (name, ..) in NAMES {
-            let (was, is) = (before.list(name), self.lent.list(name).clone());
+            let (was, is) = (before.list(name), self.caller.lent.list(name).clone());
             let differs = |place: &usize| was.numbers[*place] != is.numbers[*place];
             if let Some(first) = (0..was.numbers.len()).find(differs) {
                 let last = (0..was.numbers.len()).rfind(differs).unwrap_or(first);
@@ -49,7 +49,7 @@ impl<W: Write> Script<W> {
 
     /// One call with some lent numbers off and so many bytes, and everything as it was before.
     fn cut_trial(&mut self, honest: &Honest, what: &str, off: &[Off], bytes: usize) {
-        let before = self.lent.clone();
+        let before = self.caller.lent.clone();
         for &(name, place, number) in off {
             self.put(name, place, &[number]);
         }
@@ -105,7 +105,7 @@ impl<W: Write> Script<W> {
         let tally = Tally::from_words(&self.tally_words());
         for &name in lists_of(honest.kind) {
             let least = length_for(honest.kind, name, &tally);
-            let before = self.lent.clone();
+            let before = self.caller.lent.clone();
             for (what, length) in [("one short", least - 1), ("exact", least), ("one longer", least + 1)] {
                 self.say(format!("lend {name} {length}"));
                 self.trial(honest, &format!("{name} {what}"), &[]);
@@ -262,7 +262,7 @@ impl<W: Write> Script<W> {
         let honest = &Honest { kind: "member", part: words.map(u32::to_le_bytes).concat() };
         self.lengths(honest);
         self.intervals(honest);
-        let region = self.lent.list("homes").numbers[row] as usize / 2;
+        let region = self.caller.lent.list("homes").numbers[row] as usize / 2;
         let other = (region + 1 + self.chance.place(REGIONS - 1)) % REGIONS;
         let own = FIGURES_OF_A_REGION * region;
         self.around(honest, "its home", ("homes", row), (0, 9));

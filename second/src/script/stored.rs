@@ -49,7 +49,7 @@ impl<W: Write> Script<W> {
     }
 
     /// The next record of a book, as it is.
-    fn take(&mut self, made: &Made, records: usize) -> u8 {
+    pub(super) fn take(&mut self, made: &Made, records: usize) -> u8 {
         let bytes = self.honest_part(made, records);
         self.call(made.record(records).2, &bytes)
     }
@@ -76,9 +76,17 @@ impl<W: Write> Script<W> {
             let direction = self.chance.between(0, 1) as u32;
             return (first.tallies[asked].clone(), [row, direction, set].map(u32::to_le_bytes).concat());
         }
-        let record_kind = if kind == "answer" { "requirement" } else { kind };
+        let record_kind = match kind {
+            "answer" => "requirement",
+            "units" => "unit",
+            _ => kind,
+        };
         let place = made.any_of(&mut self.chance, record_kind).expect("a record of this kind");
         let tally = if kind == "answer" { asked } else { place };
+        if kind == "units" {
+            let count = self.chance.pick(&[1, 2, 3, 5, 13]);
+            return (first.tallies[place].clone(), made.run(place, count).to_vec());
+        }
         let mut bytes = self.honest_part(made, place);
         if self.chance.one_in(5) {
             bytes.truncate(bytes.len() / 2);
@@ -93,15 +101,20 @@ impl<W: Write> Script<W> {
         let kinds: &[&str] = match (first.made.units, self.answers) {
             (0, true) => &["answer"],
             (0, false) => &["requirement"],
-            (_, true) => &["unit", "member", "answer"],
-            (_, false) => &["unit"],
+            (_, true) => &["unit", "units", "member", "answer"],
+            (_, false) => &["unit", "units"],
         };
         let seldom = self.chance.pick(&["frequency", "requirement"]);
         let often = self.chance.pick(kinds);
         let kind = if self.chance.one_in(15) { seldom } else { often };
         let (tally, bytes) = self.stored_call(first, kind);
+        self.store();
         self.put("tally", 0, &tally);
         let reply = self.call(kind, &bytes);
+        // A run can add more to the sums than the next book's units leave room for.
+        if kind == "units" {
+            self.recall();
+        }
         self.put("tally", 0, &now);
         if told {
             let number = if first.made.interval == next.interval { "the same" } else { "another" };
@@ -121,7 +134,7 @@ impl<W: Write> Script<W> {
         let mut told = true;
         let mut refused = 0;
         for records in 0..next.records() {
-            for _ in 0..self.chance.between(1, 2) {
+            for _ in 0..self.chance.between(1, 3) {
                 told = self.hand_in(&first, &next, told);
             }
             refused += i32::from(self.take(&next, records) != 0);
