@@ -10,6 +10,9 @@ use types.Run.{OneOf, miss}
 use denote.Enum.Declared.{tagOf}
 use Rattle.rules.specs.declared.Located.{Located}
 use Rattle.rules.specs.Quantities.{most-units, most-requirements}
+use Rattle.rules.specs.Refusals.{taken}
+use Rattle.rules.specs.Book.{Book}
+use Rattle.rules.specs.WholeBook.{book}
 use Rattle.rules.specs.Contents.{Counts, contents-size}
 use Rattle.interval.specs.declared.Tally.{Tally}
 use Rattle.interval.specs.declared.Step.{Step}
@@ -23,6 +26,10 @@ use Rattle.chain.specs.Alike.{Alike}
 use Rattle.chain.proofs.Alike.{whole}
 use Rattle.chain.specs.Way.{Call, reads}
 use Rattle.chain.proofs.Way.{chain-takes, chain-way, way-alike, way-chain}
+use Rattle.chain.specs.BookWay.{records-in}
+use Rattle.chain.specs.Keeps.{BookMeans}
+use Rattle.chain.specs.Spelled.{spelled}
+use Rattle.chain.proofs.Spelled.{chain-book}
 use Rattle.intake.specs.Turns.{TurnPromise, counts-of}
 use Rattle.intake.proofs.Turns.{turn-calls}
 use Rattle.intake.specs.declared.whole.Next as n
@@ -112,3 +119,11 @@ room-for end l₀ l (n.the-variants.Taken t) w = came-fits w .1
 room-for end l₀ l n.the-variants.Ended w = tt
 room-for end l₀ l (n.the-variants.Refused why) w = tt
 room-for end l₀ l n.the-variants.Failed w = tt
+
+-- ---- WHAT CAME: a book that was taken to its end is one that the format takes, and what is kept of it is what the rules say of it
+pub came-book :
+    {l₀ : Lent} {t : Tally} {l : Lent} (c : Came l₀ (book-end t) t l) → (b : Book) × (book (spelled (c .head) (c .part)) ≡ taken b) × BookMeans b t l
+came-book {l₀} {t} {l} c =
+    let m = chain (c .chain) in
+    let all : book-end t ≡ records-in (c .head) = ap₂ (λ (u q : ℕ). before-units + u + q) (m .units) (m .requirements) in
+    chain-book (subst (λ (k : ℕ). Chain (c .head) (c .part) l₀ k t l) all (c .chain))

@@ -164,6 +164,7 @@ pub fn take_book(
         (lent-unit (now (measures .entry)) (now (sums .entry)) (now (figures .entry)) (now (numbers .entry)) (now (homes .entry)) (now (rows .entry))) r
         (lent-unit (now (measures .exit)) (now (sums .exit)) (now (figures .exit)) (now (numbers .exit)) (now (homes .exit)) (now (rows .exit)))
         ⌝ }
+    ensures { λ r. ⌜ RoomFor 32 r ⌝ }
 {
     let listed = take_units(file, bytes, measures, sums, figures, numbers, homes, rows);
     take_requirements(file, listed, alone, bytes)

@@ -120,22 +120,21 @@ loop-less c = omega arith
 loop-again : tie.Need-loop-again Inv-loop μ-loop
 loop-again c =
     let a = c .before .before .before in
-    let l = turn a in
-    (
+    let l = turn a in (
       omega arith,
       omega arith,
       λ l₀ lists w.
-      let i = l .before .loop .inv .2 l₀ lists w in
-      let t = l .before .loop .tally in
-      let inside : t .records < book-end t = omega (arith, i .rest, l .loop-test .taken) in
-      let more =
-      came-next (i .came) inside (TurnPromise.as-requirement (i .begun) (a .requirement .ensures) refl) (c .before .enum-told .given .1) in
-      let m = more .1 in
-      record {
-        came = more .0;
-        begun = omega (arith, m .records, m .units, i .begun);
-        rest = omega (arith, m .records, m .units, m .requirements, i .rest, l .loop-test .taken);
-      },
+          let i = l .before .loop .inv .2 l₀ lists w in
+          let t = l .before .loop .tally in
+          let inside : t .records < book-end t = omega (arith, i .rest, l .loop-test .taken) in
+          let more =
+          came-next (i .came) inside (TurnPromise.as-requirement (i .begun) (a .requirement .ensures) refl) (c .before .enum-told .given .1) in
+          let m = more .1 in
+          record {
+            came = more .0;
+            begun = omega (arith, m .records, m .units, i .begun);
+            rest = omega (arith, m .records, m .units, m .requirements, i .rest, l .loop-test .taken);
+          },
     )
 
 same-length-3 : tie.Need-same-length-3 Inv-loop μ-loop
