@@ -38,8 +38,8 @@
        dullavane_settings      once                          0         8 bytes
        dullavane_frequency     five times, regions 0 to 4    1 to 5    368 bytes each
        dullavane_unit          tally[0] times                6 ..      372 bytes each
-       dullavane_units         or so: runs of them, of any   6 ..      372 bytes a unit, and no byte more
-                               lengths, singles between
+       dullavane_units         or in their place: runs of    6 ..      372 bytes a unit, and no byte more
+                               any lengths, mixed with them
        dullavane_requirement   tally[1] times                          24 bytes each; keep them for the answers
        dullavane_answer        after the last unit, for any requirement, in any order, as often as wanted
        dullavane_member        likewise, for any row: who stands in it

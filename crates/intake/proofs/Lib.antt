@@ -1,2 +1,2 @@
--- Laws of the definitions in specs/
 pub mod Turns
+pub mod Came

@@ -12,9 +12,6 @@ pub const MEMBERS: usize = 513;
 // All requirements of 24 bytes, and the byte that may follow the last. The records before them are read into their place.
 pub const RECORDS: usize = 769;
 
-// How many requirements these bytes have room for.
-pub const ROOM: u16 = 32;
-
 // How many bytes came, fewer than asked for where the input has ended; or the reading failed.
 pub struct Filled {
     pub count: usize,

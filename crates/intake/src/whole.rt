@@ -2,8 +2,10 @@
 // differ in what they do with one that was taken.
 ghost use Prim.Native.Nat.{_≤_};
 ghost use lib.ListN.{length};
+ghost use Rattle.interval.specs.Tally.{units-end, book-end};
+ghost use Rattle.interval.specs.Lent.{Lent, lent-unit};
+ghost use Rattle.intake.specs.Came.{TakenTo, RoomFor};
 use super::RECORDS;
-use super::ROOM;
 use super::UNITS;
 use super::input::fill_from;
 use super::turn::size;
@@ -33,6 +35,7 @@ pub enum Next {
 // The table of contents.
 fn open(file: i32, bytes: &mut [u8]) -> Next
     requires { ⌜ 769 ≤ length (now bytes) ⌝ }
+    ensures { λ r. ⌜ ((l : Lent) → TakenTo (λ _. 0) l r l) ⌝ }
 {
     let got = fill_from(file, &mut bytes[0..CONTENTS]);
     if got.failed {
@@ -61,6 +64,11 @@ fn take_units(
     rows: &mut [i64; ROWS_LENGTH],
 ) -> Next
     requires { ⌜ 769 ≤ length (now bytes) ⌝ }
+    ensures { λ r. ⌜
+        TakenTo units-end
+        (lent-unit (now (measures .entry)) (now (sums .entry)) (now (figures .entry)) (now (numbers .entry)) (now (homes .entry)) (now (rows .entry))) r
+        (lent-unit (now (measures .exit)) (now (sums .exit)) (now (figures .exit)) (now (numbers .exit)) (now (homes .exit)) (now (rows .exit)))
+        ⌝ }
 {
     let opened = open(file, bytes);
     let Next::Taken(fresh) = opened else {
@@ -108,25 +116,16 @@ fn asked(left: u16, alone: bool) -> usize
     REQUIREMENT
 }
 
-// A book announces no more requirements than there is room for.
-fn within_room(requirements: u16) -> u16
-    ensures { λ r. ⌜ r ≤ 32 ⌝ }
-{
-    if ROOM < requirements {
-        return ROOM;
-    }
-    requirements
-}
-
-// The requirements are kept, one after the other.
+// The requirements are kept, one after the other. A book announces no more than there is room for.
 fn take_requirements(file: i32, next: Next, alone: bool, bytes: &mut [u8]) -> Next
-    requires { ⌜ 769 ≤ length (now bytes) ⌝ }
+    requires { ⌜ (769 ≤ length (now bytes)) × RoomFor 32 next ⌝ }
+    ensures { λ r. ⌜ ((l₀ l : Lent) → TakenTo units-end l₀ next l → TakenTo book-end l₀ r l) ⌝ }
 {
     let Next::Taken(listed) = next else {
         return next;
     };
     let mut tally = listed;
-    let mut left = within_room(tally.requirements);
+    let mut left = tally.requirements;
     let mut start: usize = 0;
     while left > 0 {
         let end = start + asked(left, alone);
@@ -159,7 +158,14 @@ pub fn take_book(
     numbers: &mut [u16; UNITS],
     homes: &mut [u8; UNITS],
     rows: &mut [i64; ROWS_LENGTH],
-) -> Next {
+) -> Next
+    ensures { λ r. ⌜
+        TakenTo book-end
+        (lent-unit (now (measures .entry)) (now (sums .entry)) (now (figures .entry)) (now (numbers .entry)) (now (homes .entry)) (now (rows .entry))) r
+        (lent-unit (now (measures .exit)) (now (sums .exit)) (now (figures .exit)) (now (numbers .exit)) (now (homes .exit)) (now (rows .exit)))
+        ⌝ }
+    ensures { λ r. ⌜ RoomFor 32 r ⌝ }
+{
     let listed = take_units(file, bytes, measures, sums, figures, numbers, homes, rows);
     take_requirements(file, listed, alone, bytes)
 }

@@ -9,7 +9,6 @@ use answer::roster::member;
 use book::REQUIREMENT;
 use intake::MEMBERS;
 use intake::RECORDS;
-use intake::ROOM;
 use intake::UNITS;
 use interval::FIGURES_LENGTH;
 use interval::ROWS_LENGTH;
@@ -162,16 +161,7 @@ fn print_members(
     output::residual(standing, shares, text)
 }
 
-// A book announces no more requirements than there is room for.
-fn within_room(requirements: u16) -> u16
-    ensures { λ r. ⌜ r ≤ 32 ⌝ }
-{
-    if ROOM < requirements {
-        return ROOM;
-    }
-    requirements
-}
-
+// A taken book announces no more requirements than its bytes have room for.
 pub(crate) fn print_book(
     tally: Tally,
     bytes: &[u8; RECORDS],
@@ -187,12 +177,14 @@ pub(crate) fn print_book(
     used: &mut [i64; MEMBERS],
     unused: &mut [i64; MEMBERS],
     text: &mut [u8; LINE],
-) {
+)
+    requires { ⌜ tally .requirements ≤ 32 ⌝ }
+{
     let whole = &bytes[..];
     if !output::interval(tally.interval, text) {
         return;
     }
-    let mut left = within_room(tally.requirements);
+    let mut left = tally.requirements;
     let mut start: usize = 0;
     while left > 0 {
         let end = start + REQUIREMENT;

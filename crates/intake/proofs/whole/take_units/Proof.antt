@@ -1,24 +1,42 @@
--- The bytes keep their length, and the records left fall.
-use mathlib.Core.Path.{_≡_}
+-- Each turn of the loop is one record more of a chain, or its refusal; the records left fall.
+use mathlib.Core.Path.{_≡_, subst}
+use Prim.Native.Nat.{ℕ, _+_, _<_}
 use native.Mathlib.Omega.{arith}
 use lib.ListN.{length}
 use borrow.Author.Needs.{needs}
+use Rattle.interval.specs.Tally.{units-end, book-end}
+use Rattle.interval.specs.Lent.{Lent, lent-unit}
+use Rattle.intake.specs.declared.whole.Next.{Next}
+use Rattle.intake.specs.Came.{Came, TakenTo}
+use Rattle.intake.proofs.Came.{came-here, came-next, came-records, came-stops, not-taken}
 use Rattle.intake.proofs.whole.take_units.Statement.{statement}
 use Rattle.intake.proofs.whole.take_units.Tie as tie
 
 abbrev Inv-loop : tie.InvT-loop
 Inv-loop file bytes₀ measures₀ sums₀ figures₀ numbers₀ homes₀ rows₀ tally₀ left₀ bytes
     measures sums figures numbers homes rows tally left =
-    length bytes ≡ length bytes₀
+    (length bytes ≡ length bytes₀)
+    × Came (lent-unit measures₀ sums₀ figures₀ numbers₀ homes₀ rows₀) (tally .records) tally (lent-unit measures sums figures numbers homes rows)
+    × (tally .records + left ≡ units-end tally)
 
 abbrev μ-loop : tie.MeasureT-loop
 μ-loop file bytes₀ measures₀ sums₀ figures₀ numbers₀ homes₀ rows₀ tally₀ left₀ bytes measures
     sums figures numbers homes rows tally left =
     left
 
+abbrev lent : tie.Start Inv-loop μ-loop → Lent
+lent s = let a = s .args in lent-unit (a .measures .now) (a .sums .now) (a .figures .now) (a .numbers .now) (a .homes .now) (a .rows .now)
+
 -- the call's start, behind which the bytes are as the reading left them
 abbrev asked-in : tie.After-take Inv-loop μ-loop → tie.After-slice-known3 Inv-loop μ-loop
 asked-in c = c .before .before .before .before .before .before .before .before .before .before
+
+abbrev turn : tie.After-take Inv-loop μ-loop → tie.In-loop Inv-loop μ-loop
+turn c = asked-in c .before .before .before .before .before
+
+-- the book goes on
+inside : (c : tie.After-take Inv-loop μ-loop) → let t = turn c .before .loop .tally in t .records < book-end t
+inside c = let l = turn c in omega (arith, l .loop-test .taken, l .before .loop .inv .2)
 
 open-requires : tie.Need-open-requires Inv-loop μ-loop
 open-requires c κs = search needs
@@ -30,7 +48,10 @@ same-length : tie.Need-same-length Inv-loop μ-loop
 same-length c = omega arith
 
 returns : tie.Need-returns Inv-loop μ-loop
-returns c = search needs
+returns c =
+    let a = c .before .before .before in
+    let l = lent (a .before .before .before) in
+    not-taken (λ _. 0) units-end l l (a .open .result) (c .match .keys2) (a .open .ensures l)
 
 cast-left : tie.Need-cast-left Inv-loop μ-loop
 cast-left c = search needs
@@ -42,7 +63,12 @@ add-left : tie.Need-add-left Inv-loop μ-loop
 add-left c = omega arith
 
 loop-holds : tie.Need-loop-holds Inv-loop μ-loop
-loop-holds c = omega arith
+loop-holds c =
+    let o = c .before .before in
+    let a = o .before .before .before .before in
+    let l = lent (a .before .before .before) in
+    let came = subst (λ (x : Next). TakenTo (λ _. 0) l x l) (o .opened .given .1) (a .open .ensures l) in
+    (omega arith, came-here came, omega (arith, came-records came))
 
 size-requires : tie.Need-size-requires Inv-loop μ-loop
 size-requires c κs = search needs
@@ -85,10 +111,12 @@ same-length-3 c =
     let a = asked-in (c .before .before .before) in
     let l = a .before .before .before .before .before .before in
     let o = l .before .before .before .before .before .before .before in
-    omega (arith, a .before .bytes2 .given, a .before .before .fill-from .kept, l .loop .inv, o .open .kept)
+    omega (arith, a .before .bytes2 .given, a .before .before .fill-from .kept, l .loop .inv .0, o .open .kept)
 
 returns-3 : tie.Need-returns-3 Inv-loop μ-loop
-returns-3 c = search needs
+returns-3 c =
+    let a = c .before .before .before in
+    came-stops (turn a .before .loop .inv .1) (inside a) (a .take .ensures) (c .before .taking .given .1)
 
 enum-told : tie.Need-enum-told Inv-loop μ-loop
 enum-told c = search needs
@@ -101,14 +129,26 @@ loop-less c = omega (arith, asked-in (c .before .before .before) .before .before
 
 loop-again : tie.Need-loop-again Inv-loop μ-loop
 loop-again c =
-    let a = asked-in (c .before .before .before) in
-    omega (arith, a .before .bytes2 .given, a .before .before .fill-from .kept, a .before .before .before .before .before .before .loop .inv)
+    let t = c .before .before .before in
+    let a = asked-in t in
+    let l = turn t in
+    let i = l .before .loop .inv in
+    let more = came-next (i .1) (inside t) (t .take .ensures) (c .before .enum-told .given .1) in
+    let m = more .1 in (
+      omega (arith, a .before .bytes2 .given, a .before .before .fill-from .kept, i .0),
+      more .0,
+      omega (arith, m .records, m .units, i .2, l .loop-test .taken),
+    )
 
 same-length-4 : tie.Need-same-length-4 Inv-loop μ-loop
 same-length-4 c = omega arith
 
 returns-4 : tie.Need-returns-4 Inv-loop μ-loop
-returns-4 c = search needs
+returns-4 c =
+    let l = c .before .loop in
+    let all : l .tally .records ≡ units-end (l .tally) = omega (arith, l .inv .2, c .loop-test .left) in
+    let l₀ = lent (c .before .before .before .before .before .before .before .before .before .before .before) in
+    subst (λ (k : ℕ). Came l₀ k (l .tally) (lent-unit (l .measures) (l .sums) (l .figures) (l .numbers) (l .homes) (l .rows))) all (l .inv .1)
 
 pub take-units-spec : {M : Type 1} → statement M
 take-units-spec =

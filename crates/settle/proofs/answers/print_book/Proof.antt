@@ -28,9 +28,6 @@ interval-requires c κs = search needs
 returns : tie.Need-returns Inv-loop μ-loop
 returns c = search needs
 
-within-room-requires : tie.Need-within-room-requires Inv-loop μ-loop
-within-room-requires c κs = search needs
-
 loop-holds : tie.Need-loop-holds Inv-loop μ-loop
 loop-holds c = omega arith
 
@@ -75,7 +72,6 @@ print-book-spec =
     μ-loop
     interval-requires
     returns
-    within-room-requires
     loop-holds
     add-end
     sub-part
