@@ -5,13 +5,14 @@ use mathlib.Core.Path.{_≡_, refl, sym, _∙_, ap}
 use mathlib.Core.Bool.{Bool, true, false, cond}
 use mathlib.Core.List.{List, []}
 use mathlib.Core.Logic.{_⊎_, inl, inr}
-use Prim.Native.Nat.{ℕ, _+_, _<_}
+use Prim.Native.Nat.{ℕ, _+_, _≤_, _<_}
 use native.Mathlib.Omega.{arith}
 use lib.Dec.{eqb}
 use lib.ListN.{getD, length}
 use Rattle.rules.specs.declared.Refusal.{Refusal}
 use Rattle.rules.specs.declared.Refusal.the-variants.{EndsEarly}
 use Rattle.rules.specs.declared.Located.{Located}
+use Rattle.rules.specs.Quantities.{most-units}
 use Rattle.rules.specs.Refusals.{Reply, LocatedReply, taken, refused, located, number}
 use Rattle.rules.specs.Book.{Requirement, Book}
 use Rattle.rules.specs.Contents.{Counts, contents}
@@ -58,10 +59,10 @@ use Rattle.demands.specs.WordsChain.{
   requirement-called,
   words-added,
 }
-use Rattle.dullavane.proofs.WordsLaws.{held-is, said-some, unheld-said}
+use Rattle.dullavane.proofs.WordsLaws.{Apart, held-is, said-some, told-apart, unheld-said}
 use Rattle.demands.specs.WordsCalls.{StepCall, settings-step, frequency-step, unit-step, requirement-step}
 use Rattle.demands.proofs.WordsCalls.{due-call, refused-call}
-use Rattle.demands.proofs.WordsRuns.{RunStepped, as-it-came, run-steps}
+use Rattle.demands.proofs.WordsRuns.{RunStepped, as-it-came, run-steps, singly-few}
 use Rattle.demands.specs.OtherBook.{ToldApart}
 use Rattle.demands.proofs.OtherBook as other
 use Rattle.demands.proofs.WordsTheorem.{words-chain}
@@ -149,6 +150,9 @@ module _ {p ws : List ℕ} {l : Lent} {r : ℕ} {ws′ : List ℕ} {l′ : Lent}
       go (inr (why, e)) = let same = refused-call c (omega (arith, e, said-some why)) in refuses why e (same .0) (same .1)
 
 -- ---- runs of units
+pub run-apart : (place : ℕ) (why : Refusal) → place ≤ most-units + 1 → Apart (in-run place why)
+run-apart place why few = told-apart (in-run place why) (omega arith)
+
 pub every-run : (t : Tally) (run : List ℕ) (l : Lent) → OneRun t run l
 every-run t run l =
     let promise : RunPromise t run l (run-taken t run l .step) (run-taken t run l .lent) = record { reply = refl; lent = refl } in
@@ -171,12 +175,12 @@ module _ {ws run : List ℕ} {l : Lent} {r : ℕ} {ws′ : List ℕ} {l′ : Len
       go : RunOutcome t run l (s .step) l′ → WordsRunOutcome ws l r ws′ l′
       go (takes-all w so-far e) = takes (s .reply ∙ ap taking-said e)
       go (stops-behind k why w inside so-far call e) =
-          refuses (k + 1) why (s .reply ∙ ap taking-said e) (omega (arith, grown k (singly-counts so-far)))
+          refuses (k + 1) why (s .reply ∙ ap taking-said e) (omega (arith, singly-few so-far)) (omega (arith, grown k (singly-counts so-far)))
           (λ few. let first = singly-none so-far (omega arith) in (as-it-came t h s (first .0), first .1))
       go (is-ragged w e f) =
           let same : s .step .tally ≡ t = ap (λ (r : Step). r .tally) e in
           let said-so = ap (λ (r : Step). taking-said (r .taking)) e in
-          refuses 0 EndsEarly (s .reply ∙ said-so) (omega (arith, grown 0 (omega (arith, ap (λ (t : Tally). t .records) same)))) (λ few. (as-it-came t h s same, f))
+          refuses 0 EndsEarly (s .reply ∙ said-so) (omega arith) (omega (arith, grown 0 (omega (arith, ap (λ (t : Tally). t .records) same)))) (λ few. (as-it-came t h s same, f))
 
   pub every-words-run : UnitsCalled ws run l r ws′ l′ → WordsRunOutcome ws l r ws′ l′
   every-words-run c = go (held ws) refl
@@ -184,8 +188,8 @@ module _ {ws run : List ℕ} {l : Lent} {r : ℕ} {ws′ : List ℕ} {l′ : Len
       unheld : (x : Refusal) (w none : Bool) → r ≡ cond w (cond none 0 (said (in-run 1 x))) (said (in-run 0 EndsEarly)) → ws′ ≡ ws → l′ ≡ l →
           WordsRunOutcome ws l r ws′ l′
       unheld x true true e f g = takes e
-      unheld x true false e f g = refuses 1 x e (none-added f) (λ few. (f, g))
-      unheld x false none e f g = refuses 0 EndsEarly e (none-added f) (λ few. (f, g))
+      unheld x true false e f g = refuses 1 x e (omega arith) (none-added f) (λ few. (f, g))
+      unheld x false none e f g = refuses 0 EndsEarly e (omega arith) (none-added f) (λ few. (f, g))
 
       go : (y : Reply Tally) → held ws ≡ y → WordsRunOutcome ws l r ws′ l′
       go (taken t) h = held-run t h (run-steps h c)

@@ -1,9 +1,10 @@
 -- What proofs/Demand1.antt speaks of.
 use mathlib.Core.Path.{_≡_}
 use mathlib.Core.List.{List}
-use Prim.Native.Nat.{ℕ, _-_, _≤_}
+use Prim.Native.Nat.{ℕ, _+_, _-_, _≤_}
 use Rattle.rules.specs.declared.Refusal.{Refusal}
 use Rattle.rules.specs.declared.Located.{Located}
+use Rattle.rules.specs.Quantities.{most-units}
 use Rattle.rules.specs.Refusals.{taken, refused}
 use Rattle.rules.specs.Book.{Book}
 use Rattle.rules.specs.WholeBook.{book}
@@ -56,12 +57,13 @@ pub record OneRun (t : Tally) (run : List ℕ) (l : Lent) : Type 0 where
   pub only : {r : Step} {l′ : Lent} → RunPromise t run l r l′ → (r ≡ reply) × (l′ ≡ lists)
   pub outcome : RunOutcome t run l reply lists
 
--- from C on any words: 0, or a refusal with number, place in the run and t. As many records were added as stand before that place, which the third word counts;
+-- from C on any words: 0, or a refusal with number, place in the run and t, which the header's macros take apart, since no place is past 513. As many records were added as stand before that place, which the third word counts;
 -- where none does, words and lists are as they came
 pub data WordsRunOutcome (ws : List ℕ) (l : Lent) (r : ℕ) (ws′ : List ℕ) (l′ : Lent) : Type 0 where
   takes : r ≡ 0 → WordsRunOutcome ws l r ws′ l′
   refuses :
-      (place : ℕ) (why : Refusal) → r ≡ said (in-run place why) → words-added ws ws′ ≡ place - 1 → (place ≤ 1 → (ws′ ≡ ws) × (l′ ≡ l)) →
+      (place : ℕ) (why : Refusal) → r ≡ said (in-run place why) → place ≤ most-units + 1 → words-added ws ws′ ≡ place - 1 →
+      (place ≤ 1 → (ws′ ≡ ws) × (l′ ≡ l)) →
       WordsRunOutcome ws l r ws′ l′
 
 -- ---- 'a book of arbitrary bytes': handed on whole or cut, with whatever refused calls in between, the calls take it to its end where the format takes it, and
