@@ -1,6 +1,7 @@
 -- DEMAND 1: 'A book of arbitrary bytes, or a call at the wrong time, gets an answer or a numbered refusal. No entry relies on its caller's checks. A refusal
--- hands the tally back as it came and writes nothing.' For a run of units R-6 amends the last sentence: the records before the refused one stay added. No function that a firmware calls has a condition on what it is handed, so each answers, whatever the
--- tally, the bytes and the lists are; here stands that its promise allows one answer alone, and what this is. First what is asked for, then the theorems.
+-- hands the tally back as it came and writes nothing.' For a run of units R-6 amends the last sentence: the records before the refused one stay added. No
+-- function that a firmware calls has a condition on what it is handed, so each answers, whatever the tally, the bytes and the lists are; here stands that its
+-- promise allows one answer alone, and what this is. First what is asked for, then the theorems.
 use mathlib.Core.Path.{_≡_, refl, sym, _∙_, ap}
 use mathlib.Core.Bool.{Bool, true, false, cond}
 use mathlib.Core.List.{List, []}

@@ -55,7 +55,8 @@ as-it-came {ws} t h s e =
     s .words ∙ ap (λ (t : Tally). with-words t ws) (e ∙ is .0) ∙ same-words ws (is .1)
 
 -- ---- a run adds at most 512 records: it is a unit's turn before the first, and before the last there is still a unit to come
-unit-few : (t : Tally) (p : List ℕ) (l : Lent) (u : Unit) → unit-reply t p l ≡ taken u → (before-units ≤ t .records) × (t .records < before-units + most-units)
+unit-few :
+    (t : Tally) (p : List ℕ) (l : Lent) (u : Unit) → unit-reply t p l ≡ taken u → (before-units ≤ t .records) × (t .records < before-units + most-units)
 unfolding unit-reply
 unit-few t p l u e =
     let turn = both (in-range t) (unit-turn t) (passed (in-range t && unit-turn t) WrongState _ u e .0) in
