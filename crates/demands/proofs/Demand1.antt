@@ -181,7 +181,8 @@ module _ {ws run : List ℕ} {l : Lent} {r : ℕ} {ws′ : List ℕ} {l′ : Len
       go (is-ragged w e f) =
           let same : s .step .tally ≡ t = ap (λ (r : Step). r .tally) e in
           let said-so = ap (λ (r : Step). taking-said (r .taking)) e in
-          refuses 0 EndsEarly (s .reply ∙ said-so) (omega arith) (omega (arith, grown 0 (omega (arith, ap (λ (t : Tally). t .records) same)))) (λ few. (as-it-came t h s same, f))
+          refuses 0 EndsEarly (s .reply ∙ said-so) (omega arith)
+          (omega (arith, grown 0 (omega (arith, ap (λ (t : Tally). t .records) same)))) (λ few. (as-it-came t h s same, f))
 
   pub every-words-run : UnitsCalled ws run l r ws′ l′ → WordsRunOutcome ws l r ws′ l′
   every-words-run c = go (held ws) refl

@@ -57,8 +57,8 @@ pub record OneRun (t : Tally) (run : List ℕ) (l : Lent) : Type 0 where
   pub only : {r : Step} {l′ : Lent} → RunPromise t run l r l′ → (r ≡ reply) × (l′ ≡ lists)
   pub outcome : RunOutcome t run l reply lists
 
--- from C on any words: 0, or a refusal with number, place in the run and t, which the header's macros take apart, since no place is past 513. As many records were added as stand before that place, which the third word counts;
--- where none does, words and lists are as they came
+-- from C on any words: 0, or a refusal with number, place in the run and t, which the header's macros take apart, since no place is past 513. As many records
+-- were added as stand before that place, which the third word counts; where none does, words and lists are as they came
 pub data WordsRunOutcome (ws : List ℕ) (l : Lent) (r : ℕ) (ws′ : List ℕ) (l′ : Lent) : Type 0 where
   takes : r ≡ 0 → WordsRunOutcome ws l r ws′ l′
   refuses :
