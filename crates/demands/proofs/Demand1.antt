@@ -10,6 +10,7 @@ use Prim.Native.Nat.{ℕ, _+_, _≤_, _<_}
 use native.Mathlib.Omega.{arith}
 use lib.Dec.{eqb}
 use lib.ListN.{getD, length}
+use borrow.Author.Tests.{eqb-true}
 use Rattle.rules.specs.declared.Refusal.{Refusal}
 use Rattle.rules.specs.declared.Refusal.the-variants.{EndsEarly}
 use Rattle.rules.specs.declared.Located.{Located}
@@ -25,7 +26,7 @@ use Rattle.interval.specs.declared.Step.{Step}
 use Rattle.interval.specs.Lent.{Lent}
 use Rattle.interval.specs.Calls.{stopped-step, stepped, left, settled, counted, settings-reply, requirement-reply}
 use Rattle.interval.specs.Promises.{SettingsPromise, RequirementPromise}
-use Rattle.interval.specs.Run.{Ran, RunPromise, in-run, run-taken, whole}
+use Rattle.interval.specs.Run.{Ran, RunPromise, in-run, records-in, run-taken, whole}
 use Rattle.interval.proofs.RunLaws.{empty-run, ragged-run, run-only}
 use Rattle.chain.specs.Taken.{counts-in}
 use Rattle.chain.specs.Long.{Long}
@@ -164,7 +165,7 @@ none-added {ws} {ws′} f = let same : getD ws′ 2 0 ≡ getD ws 2 0 = ap (λ (
 
 module _ {ws run : List ℕ} {l : Lent} {r : ℕ} {ws′ : List ℕ} {l′ : Lent} where
   -- on words that hold a tally
-  held-run : (t : Tally) → held ws ≡ taken t → RunStepped t ws run l r ws′ l′ → WordsRunOutcome ws l r ws′ l′
+  held-run : (t : Tally) → held ws ≡ taken t → RunStepped t ws run l r ws′ l′ → WordsRunOutcome ws run l r ws′ l′
   held-run t h s = go (run-outcome t run l (s .promise))
     where
       counts : t .records ≡ getD ws 2 0
@@ -173,8 +174,8 @@ module _ {ws run : List ℕ} {l : Lent} {r : ℕ} {ws′ : List ℕ} {l′ : Len
       grown : (k : ℕ) → s .step .tally .records ≡ t .records + k → words-added ws ws′ ≡ k
       grown k e = let now : getD ws′ 2 0 ≡ s .step .tally .records = ap (λ (us : List ℕ). getD us 2 0) (s .words) in omega (arith, now, e, counts)
 
-      go : RunOutcome t run l (s .step) l′ → WordsRunOutcome ws l r ws′ l′
-      go (takes-all w so-far e) = takes (s .reply ∙ ap taking-said e)
+      go : RunOutcome t run l (s .step) l′ → WordsRunOutcome ws run l r ws′ l′
+      go (takes-all w so-far e) = takes (s .reply ∙ ap taking-said e) (grown (records-in run) (singly-counts so-far))
       go (stops-behind k why w inside so-far call e) =
           refuses (k + 1) why (s .reply ∙ ap taking-said e) (omega (arith, singly-few so-far)) (omega (arith, grown k (singly-counts so-far)))
           (λ few. let first = singly-none so-far (omega arith) in (as-it-came t h s (first .0), first .1))
@@ -184,18 +185,18 @@ module _ {ws run : List ℕ} {l : Lent} {r : ℕ} {ws′ : List ℕ} {l′ : Len
           refuses 0 EndsEarly (s .reply ∙ said-so) (omega arith)
           (omega (arith, grown 0 (omega (arith, ap (λ (t : Tally). t .records) same)))) (λ few. (as-it-came t h s same, f))
 
-  pub every-words-run : UnitsCalled ws run l r ws′ l′ → WordsRunOutcome ws l r ws′ l′
+  pub every-words-run : UnitsCalled ws run l r ws′ l′ → WordsRunOutcome ws run l r ws′ l′
   every-words-run c = go (held ws) refl
     where
-      unheld : (x : Refusal) (w none : Bool) → r ≡ cond w (cond none 0 (said (in-run 1 x))) (said (in-run 0 EndsEarly)) → ws′ ≡ ws → l′ ≡ l →
-          WordsRunOutcome ws l r ws′ l′
-      unheld x true true e f g = takes e
-      unheld x true false e f g = refuses 1 x e (omega arith) (none-added f) (λ few. (f, g))
-      unheld x false none e f g = refuses 0 EndsEarly e (omega arith) (none-added f) (λ few. (f, g))
+      unheld : (x : Refusal) (w none : Bool) → eqb (length run) 0 ≡ none → r ≡ cond w (cond none 0 (said (in-run 1 x))) (said (in-run 0 EndsEarly)) →
+          ws′ ≡ ws → l′ ≡ l → WordsRunOutcome ws run l r ws′ l′
+      unheld x true true z e f g = takes e (omega (arith, none-added f, eqb-true (length run) 0 z))
+      unheld x true false z e f g = refuses 1 x e (omega arith) (none-added f) (λ few. (f, g))
+      unheld x false none z e f g = refuses 0 EndsEarly e (omega arith) (none-added f) (λ few. (f, g))
 
-      go : (y : Reply Tally) → held ws ≡ y → WordsRunOutcome ws l r ws′ l′
+      go : (y : Reply Tally) → held ws ≡ y → WordsRunOutcome ws run l r ws′ l′
       go (taken t) h = held-run t h (run-steps h c)
-      go (refused x) h = unheld x (whole run) (eqb (length run) 0) (rw h at (c .reply)) (rw h at (c .tally)) (rw h at (c .lent))
+      go (refused x) h = unheld x (whole run) (eqb (length run) 0) refl (rw h at (c .reply)) (rw h at (c .tally)) (rw h at (c .lent))
 
   -- 'a run that is not a whole number of records is 1, before anything else'
   pub ragged-run-refused : whole run ≡ false → UnitsCalled ws run l r ws′ l′ → (r ≡ number EndsEarly) × (ws′ ≡ ws) × (l′ ≡ l)

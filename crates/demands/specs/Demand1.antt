@@ -13,7 +13,7 @@ use Rattle.interval.specs.declared.Step.{Step}
 use Rattle.interval.specs.Lent.{Lent}
 use Rattle.interval.specs.Calls.{refused-step}
 use Rattle.chain.specs.Chain.{Taken}
-use Rattle.interval.specs.Run.{in-run, RunPromise}
+use Rattle.interval.specs.Run.{in-run, records-in as records-of-run, RunPromise}
 use Rattle.chain.specs.Runs.{RunOutcome}
 use Rattle.chain.specs.BookWay.{records-in, Takes, Meets}
 use Rattle.answer.specs.declared.Answer.{Answer}
@@ -57,14 +57,14 @@ pub record OneRun (t : Tally) (run : List ℕ) (l : Lent) : Type 0 where
   pub only : {r : Step} {l′ : Lent} → RunPromise t run l r l′ → (r ≡ reply) × (l′ ≡ lists)
   pub outcome : RunOutcome t run l reply lists
 
--- from C on any words: 0, or a refusal with number, place in the run and t, which the header's macros take apart, since no place is past 513. As many records
--- were added as stand before that place, which the third word counts; where none does, words and lists are as they came
-pub data WordsRunOutcome (ws : List ℕ) (l : Lent) (r : ℕ) (ws′ : List ℕ) (l′ : Lent) : Type 0 where
-  takes : r ≡ 0 → WordsRunOutcome ws l r ws′ l′
+-- from C on any words: 0, and every record was added, or a refusal with number, place in the run and t, which the header's macros take apart, since no place
+-- is past 513. As many records were added as stand before that place, which the third word counts; where none does, words and lists are as they came
+pub data WordsRunOutcome (ws run : List ℕ) (l : Lent) (r : ℕ) (ws′ : List ℕ) (l′ : Lent) : Type 0 where
+  takes : r ≡ 0 → words-added ws ws′ ≡ records-of-run run → WordsRunOutcome ws run l r ws′ l′
   refuses :
       (place : ℕ) (why : Refusal) → r ≡ said (in-run place why) → place ≤ most-units + 1 → words-added ws ws′ ≡ place - 1 →
       (place ≤ 1 → (ws′ ≡ ws) × (l′ ≡ l)) →
-      WordsRunOutcome ws l r ws′ l′
+      WordsRunOutcome ws run l r ws′ l′
 
 -- ---- 'a book of arbitrary bytes': handed on whole or cut, with whatever refused calls in between, the calls take it to its end where the format takes it, and
 -- meet the refusal of the format where it does not
