@@ -1,7 +1,7 @@
 -- The number that counts is handed back as it came.
 use mir.Facts.{toZ-ofZ}
-use Rattle.answer.proofs.sizes.if_counted.Statement.{statement}
-use Rattle.answer.proofs.sizes.if_counted.Tie as tie
+use Rattle.answer.proofs.counts.if_counted.Statement.{statement}
+use Rattle.answer.proofs.counts.if_counted.Tie as tie
 
 returns : tie.Need-returns
 returns c = rw (c .if1 .taken) (toZ-ofZ (c .before .fits .x))
