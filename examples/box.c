@@ -8,18 +8,20 @@ int putchar(int c);
 
 /* How many units are handed on in one call. It need not divide their number: the last run of a book is shorter. */
 #ifndef RUN
-#define RUN 5
+#define RUN 4
 #endif
 
 enum { UNITS = DULLAVANE_MOST_UNITS, MEMBERS = UNITS + 1, UNIT = DULLAVANE_UNIT_SIZE, REQUIREMENT = DULLAVANE_REQUIREMENT_SIZE };
 
-/* All that is lent, 64,616 bytes in all with the bytes that are read. */
+/* All that is lent, 65,268 bytes in all with the bytes that are read. */
 static uint32_t tally[DULLAVANE_TALLY_WORDS];
 static int32_t measures[DULLAVANE_MEASURES];
 static int64_t sums[DULLAVANE_SUMS], figures[DULLAVANE_FIGURES];
 static uint16_t numbers[UNITS];
 static uint8_t homes[UNITS];
 static int64_t rows[DULLAVANE_ROW * UNITS];
+static uint16_t groups[UNITS];
+/* While units are taken, the first column holds the deviations of a group. */
 static int64_t performances[MEMBERS], factors[MEMBERS], payments[MEMBERS], used[MEMBERS], unused[MEMBERS];
 
 /* The requirements' bytes are kept until they are answered. The other records come before them and are read into the same bytes. */
@@ -53,9 +55,11 @@ static uint64_t placed_in_book(uint64_t no) {
 static uint64_t take_units(void) {
     uint32_t left = tally[0] - units_taken();
     uint64_t want = UNIT * (uint64_t)(left < RUN ? left : RUN), n = take(bytes, want), whole = n - n % UNIT;
-    uint64_t no = dullavane_units(LENT(tally), bytes, whole, LENT(measures), LENT(sums), LENT(figures), LENT(numbers), LENT(homes), LENT(rows));
+    uint64_t no = dullavane_units(LENT(tally), bytes, whole, LENT(measures), LENT(sums), LENT(figures), LENT(numbers), LENT(homes), LENT(rows),
+                                  LENT(groups), LENT(performances));
     if (!no && n < want) {
-        no = dullavane_unit(LENT(tally), bytes + whole, n - whole, LENT(measures), LENT(sums), LENT(figures), LENT(numbers), LENT(homes), LENT(rows));
+        no = dullavane_unit(LENT(tally), bytes + whole, n - whole, LENT(measures), LENT(sums), LENT(figures), LENT(numbers), LENT(homes), LENT(rows),
+                            LENT(groups), LENT(performances));
     }
     return no ? placed_in_book(no) : 0;
 }

@@ -58,9 +58,11 @@
        74  a point of a frequency record (t): out of range, or a bad point that does not hold 0
        81  a unit's header: region, kind, start or end
        82  a default of a unit
-       83  the quality bytes of a unit: one of the last five bits or of the two bytes after them is not zero
+       83  the quality bytes of a unit: one of the last five bits is not zero
        84  a reading of a unit (t): out of range, or a bad reading that does not hold 0
         9  a unit's number does not rise
+       16  a unit's group: its number stood before and was left, or it is in another region than the group's units before, or one of its six defaults is
+           not 0 though it is not the group's first
        10  a field of a requirement breaks its rule, or its number does not rise
        11  not this call's turn; or the tally, or a lent number that the call reads, is out of range: none that these calls leave is; or a region's
            figures are of another interval than the tally
@@ -80,13 +82,24 @@
                       at point t (0 to 74), at 150 r + 75 + t that of the deviations below zero
        figures        50 int64_t, 10 a region: interval number of its book, generation, raise           400
                       reliable (1 or 0), lower reliable, six defaults
-       numbers        N uint16_t, a unit's number, in the order of the book                           1,024
-       homes          N uint8_t, 2 x region, 1 more where no reading is bad                             512
+       numbers        N uint16_t, in the order of the book: a unit's number, a group's primary's      1,024
+       homes          N uint8_t, 2 x region, 1 more where no reading is bad; 10 passed over             512
        rows           8 N int64_t, 8 a unit: performance for raise, for lower, six defaults          32,768
+       groups         N uint16_t, a unit's group number, 0 for none                                   1,024
+       deviations     75 int64_t, while units are taken: the summed deviations, at the 75 points, of    600
+                      the group that was taken last
    and for the answers
        performances, factors, payments, used, unused    N + 1 int64_t each                           20,520
        reply          DULLAVANE_REPLY_WORDS uint64_t
-   None of them is scratch: what is kept of a book is needed as long as the book is, and columns and reply hold the answer given last.
+   None of them is scratch: what is kept of a book is needed as long as the book is, and columns and reply hold the answer given last. Groups and deviations
+   alone are needed no longer than units are taken: their memory may be another list's afterwards, a column's say.
+
+   A GROUP (bytes 70 and 71 of a unit's record, 0 for none) is one member: its units stand next to each other in one region, the first is its primary, and
+   the group goes by the primary's number and defaults. Row, number and home of a unit of a group are those of the group up to this unit: performances and
+   summed deviations are added up over its units, each with its own kind's sign, and a bad unit makes the group bad. So the group's are those of its last
+   unit. When a unit joins a group, the home of the unit before is set to 10: that row is passed over, and stands for no member. A member's number of
+   units is 1 more than how many rows right before its own are passed over. The sums of a region hold a group's summed deviations, above or below zero,
+   as long as the group is good: each unit moves them from the group's part before to its part after, and a bad unit takes it out.
 
    DEFAULTS FROM SEVEN DAYS OF RECORD (the Procedure, 6.4.1) are worked out by four calls of their own, which need no tally: the sum of
    min(0, performance) over the live intervals of a week, divided by their number, to the nearest whole number, halves away from zero; 0 where
@@ -123,6 +136,7 @@ enum {
     DULLAVANE_SUMS = 750,
     DULLAVANE_FIGURES = 50,
     DULLAVANE_ROW = 8,
+    DULLAVANE_PASSED_OVER = 10,
     DULLAVANE_MOST_UNITS = 512,
     DULLAVANE_MOST_REQUIREMENTS = 32,
     DULLAVANE_CONTENTS_SIZE = 56,
@@ -150,8 +164,8 @@ enum {
     DULLAVANE_REPLY_WORDS
 };
 
-/* The words of a row: 1 where its unit is a member of the requirement and 0 where it is not, the unit's number, its standing. A unit that is no
-   member has 0 in all three. */
+/* The words of a row: 1 where it is a member's of the requirement and 0 where it is not, the member's number, its standing. A row that is passed over, or of
+   another region, has 0 in all three. */
 enum { DULLAVANE_IS_MEMBER, DULLAVANE_NUMBER, DULLAVANE_STANDING, DULLAVANE_MEMBER_WORDS };
 
 /* What a lent measure says of its point: whether the point is dropped from performance, and FM, -5,000,000 to 5,000,000. A good frequency point is dropped
@@ -188,13 +202,17 @@ uint64_t dullavane_frequency(uint32_t *tally, uint64_t tally_words, const uint8_
                              int32_t *measures, uint64_t measures_length, int64_t *sums, uint64_t sums_length,
                              int64_t *figures, uint64_t figures_length);
 
-/* Takes a unit: adds its deviations to its region's sums if no reading is bad, and writes its number, its home and its row. When k units are taken,
-   numbers and homes have to be longer than k, and rows at least 8 k + 8. Refuses 12, 11, 12, 11 (figures of another interval; a measure or a sum of the
-   region that the record names is out of range), 1, 81, 82, 83, 84, 9. */
+/* Takes a unit: adds its deviations to its region's sums if no reading is bad, and writes its number, its home, its row and its group number; with a group
+   number other than 0 it moves the group's part of the sums instead, and writes the group's 75 summed deviations. When k units are taken, numbers, homes and
+   groups have to be longer than k, rows at least 8 k + 8, deviations at least 75. Refuses 12, 11, 12, 11 (figures of another interval; a measure or a sum of
+   the region that the record names is out of range; and where the record names the group of the unit before, whatever is wrong with it otherwise: that unit's
+   home is 10 or more, one of its performances is over 5,625,000,000,000,000 k either way, one of its defaults breaks the rule of a unit's default, or one of
+   the 75 deviations is over 15,000,000 k either way), 1, 81, 82, 83, 84, 9, 16. A record that ends before byte 72 names no group. */
 uint64_t dullavane_unit(uint32_t *tally, uint64_t tally_words, const uint8_t *part, uint64_t part_bytes,
                         const int32_t *measures, uint64_t measures_length, int64_t *sums, uint64_t sums_length,
                         const int64_t *figures, uint64_t figures_length, uint16_t *numbers, uint64_t numbers_length,
-                        uint8_t *homes, uint64_t homes_length, int64_t *rows, uint64_t rows_length);
+                        uint8_t *homes, uint64_t homes_length, int64_t *rows, uint64_t rows_length,
+                        uint16_t *groups, uint64_t groups_length, int64_t *deviations, uint64_t deviations_length);
 
 /* Takes a run of whole unit records, one after the other: tally and lists are as after so many calls of dullavane_unit, and a refusal is the one that such a
    call would give at its record, with its place in the run. The records before it stay added, and none after it is looked at. An empty run is taken and
@@ -203,17 +221,19 @@ uint64_t dullavane_unit(uint32_t *tally, uint64_t tally_words, const uint8_t *pa
 uint64_t dullavane_units(uint32_t *tally, uint64_t tally_words, const uint8_t *run, uint64_t run_bytes,
                          const int32_t *measures, uint64_t measures_length, int64_t *sums, uint64_t sums_length,
                          const int64_t *figures, uint64_t figures_length, uint16_t *numbers, uint64_t numbers_length,
-                         uint8_t *homes, uint64_t homes_length, int64_t *rows, uint64_t rows_length);
+                         uint8_t *homes, uint64_t homes_length, int64_t *rows, uint64_t rows_length,
+                         uint16_t *groups, uint64_t groups_length, int64_t *deviations, uint64_t deviations_length);
 
 /* Takes a requirement. Nothing of it is kept but its number's successor: keep its 24 bytes for dullavane_answer. With the last one the book ends.
    Refuses 12, 11, 1, 10, and with the last one 4. */
 uint64_t dullavane_requirement(uint32_t *tally, uint64_t tally_words, const uint8_t *part, uint64_t part_bytes);
 
 /* Answers a requirement, from its 24 bytes and what the calls have left in the lists; it may be asked again, and changes nothing but the five columns and
-   the reply. Each column has one number for every member, in this order: the units of the requirement's regions as they stand in the book, then one
+   the reply. Each column has one number for every member, in this order: the units and groups of the requirement's regions as they stand in the book, then one
    residual; numbers past those stay. In performances 1 MWHz is 7,500,000,000, factors are billionths, payments, used and unused are cents, and charges
    are negative. Homes have to be tally[0] long, rows 8 x tally[0], each column tally[0] + 1. Refuses 12, 11 (also before the last unit), 12, 11
-   (figures of another interval; a lent number is out of range), 1, 10. */
+   (figures of another interval; a lent number is out of range: a home is at most 10, a performance at most 5,625,000,000,000,000 either way for each of
+   1 + the rows right before it that are passed over), 1, 10. */
 uint32_t dullavane_answer(const uint32_t *tally, uint64_t tally_words, const uint8_t *part, uint64_t part_bytes,
                           const int32_t *measures, uint64_t measures_length, const int64_t *sums, uint64_t sums_length,
                           const int64_t *figures, uint64_t figures_length, const uint8_t *homes, uint64_t homes_length,

@@ -13,14 +13,16 @@ extern int printf(const char *form, ...);
 extern void exit(int status);
 extern int strcmp(const char *a, const char *b);
 
-enum { TALLY, MEASURES, SUMS, FIGURES, NUMBERS, HOMES, ROWS, PERFORMANCES, FACTORS, PAYMENTS, USED, UNUSED, REPLY, MEMBER, LISTS };
+enum {
+    TALLY, MEASURES, SUMS, FIGURES, NUMBERS, HOMES, ROWS, GROUPS, DEVIATIONS, PERFORMANCES, FACTORS, PAYMENTS, USED, UNUSED, REPLY, MEMBER, LISTS
+};
 /* The longest word is a run of some more than 512 units in hexadecimal. */
 enum { MOST = 8 * 512 + 64, BEHIND = 3, LONGEST_WORD = 1 << 20, MOST_BYTES = LONGEST_WORD / 2 };
 
 /* A list: the bytes of one of its numbers, whether they have a sign, how many are lent, how many stand there. */
 static struct list { const char *name; u32 width, sign; u64 lent, there; } lists[LISTS] = {
     {"tally", 4, 0, 0, 0}, {"measures", 4, 1, 0, 0}, {"sums", 8, 1, 0, 0}, {"figures", 8, 1, 0, 0}, {"numbers", 2, 0, 0, 0},
-    {"homes", 1, 0, 0, 0}, {"rows", 8, 1, 0, 0}, {"performances", 8, 1, 0, 0}, {"factors", 8, 1, 0, 0},
+    {"homes", 1, 0, 0, 0}, {"rows", 8, 1, 0, 0}, {"groups", 2, 0, 0, 0}, {"deviations", 8, 1, 0, 0}, {"performances", 8, 1, 0, 0}, {"factors", 8, 1, 0, 0},
     {"payments", 8, 1, 0, 0}, {"used", 8, 1, 0, 0}, {"unused", 8, 1, 0, 0}, {"reply", 8, 0, 0, 0}, {"member", 4, 0, 0, 0}};
 static u64 room[LISTS][MOST];
 /* All that was lent when it was last stored. */
@@ -148,7 +150,7 @@ static u32 part_word(u64 place, u64 bytes) {
 #define LENT_AS(type, list) (type *)room[list], lists[list].lent
 #define TALLY_AND_PART LENT_AS(u32, TALLY), part, bytes
 #define SERIES_AND_FIGURES LENT_AS(i32, MEASURES), LENT_AS(i64, SUMS), LENT_AS(i64, FIGURES)
-#define UNIT_LISTS SERIES_AND_FIGURES, LENT_AS(u16, NUMBERS), LENT_AS(u8, HOMES), LENT_AS(i64, ROWS)
+#define UNIT_LISTS SERIES_AND_FIGURES, LENT_AS(u16, NUMBERS), LENT_AS(u8, HOMES), LENT_AS(i64, ROWS), LENT_AS(u16, GROUPS), LENT_AS(i64, DEVIATIONS)
 #define COLUMNS LENT_AS(i64, PERFORMANCES), LENT_AS(i64, FACTORS), LENT_AS(i64, PAYMENTS), LENT_AS(i64, USED), LENT_AS(i64, UNUSED)
 
 /* Prints a call's reply and what its lists hold after it: of a call that takes a book number, place and t, of the others, which take no record of a body, the
@@ -164,7 +166,7 @@ static void print_call(const char *kind, u64 reply, int takes_a_book, const int 
 
 static void call(void) {
     static const int tally[] = {TALLY}, frequency[] = {TALLY, MEASURES, SUMS, FIGURES};
-    static const int unit[] = {TALLY, MEASURES, SUMS, FIGURES, NUMBERS, HOMES, ROWS}, member[] = {TALLY, FIGURES, NUMBERS, HOMES, MEMBER};
+    static const int unit[] = {TALLY, MEASURES, SUMS, FIGURES, NUMBERS, HOMES, ROWS, GROUPS, DEVIATIONS}, member[] = {TALLY, FIGURES, NUMBERS, HOMES, MEMBER};
     static const int answer[] = {TALLY, MEASURES, SUMS, FIGURES, HOMES, ROWS, PERFORMANCES, FACTORS, PAYMENTS, USED, UNUSED, REPLY};
     next_word();
     char kind = word[0];

@@ -87,7 +87,7 @@ each("unit", 5, unit, "end", 8, 4, *power)
 for i, name in enumerate(six):
     each("unit", 5, unit, name, 12 + 8 * i, 8, -5_625 * 10**12 - 1, -5_625 * 10**12, 0, 1)
 each("unit", 5, unit, "last quality byte", 69, 1, 7, 8, 15, 135)
-each("unit", 5, unit, "zero bytes", 70, 2, 0, 1, 256)
+each("unit", 5, unit, "group", 70, 2, 0, 1, 256, 65535)
 for name, place in (("first reading", 72), ("last reading", 368)):
     each("unit", 5, unit, name, place, 4, *power, 0)
     each("unit", 5, bad, name + ", bad,", place, 4, -1, 0, 1)

@@ -2,9 +2,10 @@
 
 use crate::book::{Book, Refusal, Requirement};
 use crate::members::{members, Member};
-use crate::performance::{region_views, RegionView};
+use crate::performance::{roster_views, RegionView};
 use crate::quantities::*;
 use crate::rcr::rcr;
+use crate::roster::{grouped, RosterMember};
 use crate::share::{share, Shared};
 
 /// One member's line of the listing.
@@ -85,17 +86,19 @@ fn charge(total: i128, numbers: &[i128]) -> Result<Shared, Refusal> {
     Ok(Shared { amounts, unplaced: shared.unplaced })
 }
 
-pub fn settle_requirement(
+/// A requirement settled by an RCR that is worked out already.
+pub fn settle_with_rcr(
     requirement: &Requirement,
     book: &Book,
+    roster: &[RosterMember],
     views: &[RegionView],
+    rcr: i128,
 ) -> Result<Settled, Refusal> {
-    let members = members(requirement, book, views);
+    let members = members(requirement, book, roster, views);
     let payment_performances: Vec<i128> = members.iter().map(|m| m.payment_performance).collect();
     let used_performances: Vec<i128> = members.iter().map(|m| m.used_performance).collect();
     let unused_defaults: Vec<i128> = members.iter().map(|m| m.unused_default).collect();
 
-    let rcr = rcr(requirement, book, views);
     let pool = payment_pool(requirement.price, rcr, &payment_performances);
     let used_pool = used_pool(requirement, views);
     let unused_pool = requirement.cost - used_pool;
@@ -129,11 +132,31 @@ pub fn settle_requirement(
     })
 }
 
-/// The book settled with what is known of its regions.
-pub fn settle_by_views(book: &Book, views: &[RegionView]) -> Result<Vec<Settled>, Refusal> {
-    book.requirements.iter().map(|requirement| settle_requirement(requirement, book, views)).collect()
+pub fn settle_requirement(
+    requirement: &Requirement,
+    book: &Book,
+    roster: &[RosterMember],
+    views: &[RegionView],
+) -> Result<Settled, Refusal> {
+    settle_with_rcr(requirement, book, roster, views, rcr(requirement, book, roster, views))
 }
 
+/// The book settled with what is known of its members and of its regions.
+pub fn settle_roster(
+    book: &Book,
+    roster: &[RosterMember],
+    views: &[RegionView],
+) -> Result<Vec<Settled>, Refusal> {
+    book.requirements.iter().map(|requirement| settle_requirement(requirement, book, roster, views)).collect()
+}
+
+/// The book settled with what is known of its regions.
+pub fn settle_by_views(book: &Book, views: &[RegionView]) -> Result<Vec<Settled>, Refusal> {
+    settle_roster(book, &grouped(&book.units), views)
+}
+
+/// The book with its roster grouped once.
 pub fn settle_book(book: &Book) -> Result<Vec<Settled>, Refusal> {
-    settle_by_views(book, &region_views(book))
+    let roster = grouped(&book.units);
+    settle_roster(book, &roster, &roster_views(book, &roster))
 }

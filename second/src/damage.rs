@@ -122,7 +122,7 @@ fn spoil_frequency(chance: &mut Chance, record: &mut [u8]) {
 }
 
 fn spoil_unit(chance: &mut Chance, record: &mut [u8]) {
-    match chance.place(22) {
+    match chance.place(24) {
         0 => record[2] = chance.pick(&[5, 6, 255]),
         1 => record[3] = chance.pick(&[2, 3, 255]),
         2 => put(record, 4, 4, beyond(chance, -POWER_LIMIT, POWER_LIMIT)),
@@ -131,10 +131,11 @@ fn spoil_unit(chance: &mut Chance, record: &mut [u8]) {
             let value = beyond(chance, UNIT_DEFAULT_LOWEST, 0);
             put(record, 12 + 8 * chance.place(6), 8, value);
         }
-        6 | 7 => spoil_spare(chance, record, 60),
-        8 => record[chance.pick(&[70, 71])] = chance.pick(&[1, 128, 255]),
+        6..=8 => spoil_spare(chance, record, 60),
         // A fault unless it is the first unit.
         9 | 10 => put(record, 0, 2, 0),
+        // A fault only where the group stood before.
+        11 => record[chance.pick(&[70, 71])] = chance.pick(&[0, 1, 2, 255]),
         _ => spoil_points(chance, record, &UNIT_VALUES),
     }
 }
@@ -282,7 +283,7 @@ fn unit_field(chance: &mut Chance, layout: &Layout) -> Field {
         3 => around(at + 4, 4, -POWER_LIMIT, POWER_LIMIT),
         4 => around(at + 8, 4, -POWER_LIMIT, POWER_LIMIT),
         5 => around(at + 12 + 8 * chance.place(6), 8, UNIT_DEFAULT_LOWEST, 0),
-        6 => Field { at: at + 70, width: 2, values: vec![1, 256, 65_535, 0] },
+        6 => Field { at: at + 70, width: 2, values: vec![1, 2, 256, 65_535, 0] },
         _ => {
             let mut field = around(at + 72 + 4 * chance.place(POINTS), 4, -POWER_LIMIT, POWER_LIMIT);
             field.values.push(0);
@@ -355,6 +356,56 @@ fn disturb_numbers(chance: &mut Chance, bytes: &mut [u8], first: usize, size: us
     bytes[here..here + 2].copy_from_slice(&b);
     if chance.one_in(2) {
         bytes[next..next + 2].copy_from_slice(&a);
+    }
+}
+
+/// Another region than this; an earlier damage may have left any byte.
+fn next_region(region: u8) -> u8 {
+    (region % REGIONS as u8 + 1) % REGIONS as u8
+}
+
+/// A unit given the group of the one before or of an earlier one, taken out of its group, moved to another region, or with a default; many of
+/// these are refused with 16, and both sides of that are met.
+fn disturb_groups(chance: &mut Chance, bytes: &mut [u8], layout: &Layout) {
+    if layout.units < 2 || layout.unit(layout.units) > bytes.len() {
+        return;
+    }
+    let place = 1 + chance.place(layout.units - 1);
+    let earlier = chance.place(place);
+    let at = layout.unit(place);
+    let group_at = |place: usize| layout.unit(place) + 70;
+    match chance.place(10) {
+        0..=2 => bytes.copy_within(group_at(place - 1)..group_at(place - 1) + 2, group_at(place)),
+        3..=5 => bytes.copy_within(group_at(earlier)..group_at(earlier) + 2, group_at(place)),
+        6 => put(bytes, group_at(place), 2, 0),
+        7 => bytes[at + 2] = next_region(bytes[at + 2]),
+        _ => {
+            let value = chance.pick(&[-1, -1, UNIT_DEFAULT_LOWEST, 0]);
+            put(bytes, at + 12 + 8 * chance.place(6), 8, value);
+        }
+    }
+}
+
+/// A fault of a group, and often one more in the same record, which is told first.
+fn spoil_group(chance: &mut Chance, bytes: &mut [u8], layout: &Layout) {
+    if layout.units < 2 || layout.unit(layout.units) > bytes.len() {
+        return;
+    }
+    let place = 1 + chance.place(layout.units - 1);
+    let at = layout.unit(place);
+    let any = chance.between(1, 65_535);
+    let group = chance.pick(&[1, 2, 255, 256, 65_535, any]);
+    let before = if place > 1 && chance.one_in(2) { place - 2 } else { place - 1 };
+    put(bytes, layout.unit(before) + 70, 2, group);
+    put(bytes, at + 70, 2, group);
+    if before + 1 == place && chance.one_in(2) {
+        bytes[at + 2] = next_region(bytes[layout.unit(before) + 2]);
+    } else if before + 1 == place {
+        bytes[at + 2] = bytes[layout.unit(before) + 2];
+        put(bytes, at + 12 + 8 * chance.place(6), 8, chance.pick(&[-1, UNIT_DEFAULT_LOWEST]));
+    }
+    if chance.one_in(3) {
+        spoil_unit(chance, &mut bytes[at..at + UNIT_SIZE]);
     }
 }
 
@@ -439,7 +490,7 @@ fn spoil_two_records(chance: &mut Chance, bytes: &mut [u8], layout: &Layout) {
 }
 
 fn damage_once(chance: &mut Chance, bytes: &mut Vec<u8>, layout: &Layout) {
-    match chance.place(30) {
+    match chance.place(36) {
         0 => flip_bit(chance, bytes, usize::MAX),
         1 => flip_bit(chance, bytes, FREQUENCIES_AT),
         2..=4 => any_field(chance, bytes, layout),
@@ -457,7 +508,9 @@ fn damage_once(chance: &mut Chance, bytes: &mut Vec<u8>, layout: &Layout) {
         10 => disturb_numbers(chance, bytes, layout.requirement(0), REQUIREMENT_SIZE, layout.requirements),
         11 => disturb_quality(chance, bytes, layout),
         12 => shift_records(chance, bytes, layout),
-        13..=25 => spoil_record(chance, bytes, layout),
+        13..=27 => spoil_record(chance, bytes, layout),
+        28 | 29 => disturb_groups(chance, bytes, layout),
+        30 | 31 => spoil_group(chance, bytes, layout),
         _ => spoil_two_records(chance, bytes, layout),
     }
 }

@@ -134,6 +134,9 @@ fn frequency_in_words(record: &FrequencyRecord) -> String {
 fn unit_in_words(unit: &Unit) -> String {
     let kind = if unit.load { "load" } else { "generation" };
     let mut parts = vec![format!("region {}, {kind}, start {}, end {}", unit.region, unit.start, unit.end)];
+    if unit.group != 0 {
+        parts.push(format!("group {}", unit.group));
+    }
     parts.extend(defaults_in_words(&unit.defaults));
     if unit.good != [true; POINTS] {
         parts.push(bad_points(&unit.good));

@@ -2,7 +2,7 @@
 //! request, and the closing of each share. Nothing here calls the share itself, nor asks `dropped` which points
 //! are kept.
 
-use crate::book::{Book, FrequencyRecord, Unit};
+use crate::book::{Book, FrequencyRecord, Requirement, Unit};
 use crate::cents::{settle_book, Line, Settled};
 use crate::deviation::{unit_deviations, unit_is_good};
 use crate::members::Name;
@@ -145,14 +145,31 @@ fn over_the_kept(
     sum
 }
 
-/// In a region whose residual is live, good units and residual add up to zero: in deviation at every point, dropped
-/// or kept, in performance over the kept points.
-fn region_closes(direction: Direction, record: &FrequencyRecord, units: &[&Unit], view: &RegionView) -> Held {
+/// The units of the member that a unit belongs to: itself, or all of its group, wherever they stand.
+fn members_units<'a>(all: &'a [Unit], unit: &'a Unit) -> Vec<&'a Unit> {
+    if unit.group == 0 {
+        return vec![unit];
+    }
+    all.iter().filter(|other| other.group == unit.group).collect()
+}
+
+/// In a region whose residual is live, the units of good members and the residual add up to zero: in deviation at every point,
+/// dropped or kept, in performance over the kept points.
+fn region_closes(
+    direction: Direction,
+    record: &FrequencyRecord,
+    all_units: &[Unit],
+    view: &RegionView,
+) -> Held {
+    let units: Vec<&Unit> = all_units.iter().filter(|unit| unit.region == record.region).collect();
     if view.residual_standing(direction) != Standing::Live {
         return Ok(());
     }
-    let good: Vec<[i128; POINTS]> =
-        units.iter().filter(|unit| unit_is_good(unit)).map(|unit| unit_deviations(unit)).collect();
+    let good: Vec<[i128; POINTS]> = units
+        .iter()
+        .filter(|unit| members_units(all_units, unit).iter().all(|unit| unit_is_good(unit)))
+        .map(|unit| unit_deviations(unit))
+        .collect();
     for point in 0..POINTS {
         let sum = good.iter().map(|unit| unit[point]).sum::<i128>() + view.residual_deviations[point];
         hold(sum == 0, || format!("deviations at point {point} add up to {sum}"))?;
@@ -164,16 +181,15 @@ fn region_closes(direction: Direction, record: &FrequencyRecord, units: &[&Unit]
 
 fn regions_close(book: &Book, views: &[RegionView]) -> Held {
     for (record, view) in book.frequencies.iter().zip(views) {
-        let units: Vec<&Unit> = book.units.iter().filter(|unit| unit.region == record.region).collect();
         for direction in Direction::BOTH {
-            region_closes(direction, record, &units, view)?;
+            region_closes(direction, record, &book.units, view)?;
         }
     }
     Ok(())
 }
 
-/// Every live member's performance is the sum over the kept points: a unit's own, and for the residual that of the
-/// residual deviations of its regions.
+/// Every live member's performance is the sum over the kept points: a unit's own, a group's that of its units one by one, and
+/// for the residual that of the residual deviations of its regions.
 fn performances_are_over_the_kept(
     book: &Book,
     views: &[RegionView],
@@ -187,7 +203,8 @@ fn performances_are_over_the_kept(
         let expected: i128 = match line.member.name {
             Name::Unit(number) => {
                 let unit = book.units.iter().find(|unit| unit.number == number).expect("a unit of the book");
-                sum(unit.region, &unit_deviations(unit))
+                let units = members_units(&book.units, unit);
+                units.iter().map(|unit| sum(unit.region, &unit_deviations(unit))).sum()
             }
             Name::Residual => set.iter().map(|&region| sum(region, &views[region].residual_deviations)).sum(),
         };
@@ -221,6 +238,20 @@ pub fn split_unit(unit: &Unit, part: i128) -> (Unit, Unit) {
     (one, other)
 }
 
+/// The first unit of each member.
+fn primaries(units: &[Unit]) -> impl Iterator<Item = &Unit> {
+    let is_primary =
+        |place: usize| place == 0 || units[place].group == 0 || units[place - 1].group != units[place].group;
+    units.iter().enumerate().filter(move |(place, _)| is_primary(*place)).map(|(_, unit)| unit)
+}
+
+/// Each member of the requirement's regions has its line, by the number of its primary, and then comes the residual.
+fn lines_are_the_members(book: &Book, requirement: &Requirement, settled: &Settled) -> Held {
+    let members = primaries(&book.units).filter(|unit| requirement.includes(unit.region));
+    let names = members.map(|unit| Name::Unit(unit.number)).chain([Name::Residual]);
+    hold(settled.lines.iter().map(|line| line.member.name).eq(names), || "other members".to_string())
+}
+
 /// Whether deviations at all points, and performances, which are over the kept ones, stay when one unit is drawn as
 /// two.
 fn split_keeps(book: &Book, all: &[Settled], place: usize, part: i128) -> Held {
@@ -235,7 +266,7 @@ fn split_keeps(book: &Book, all: &[Settled], place: usize, part: i128) -> Held {
         let old: Vec<i128> = before.lines.iter().map(|line| line.member.payment_performance).collect();
         let mut new: Vec<i128> = after.lines.iter().map(|line| line.member.payment_performance).collect();
         if requirement.includes(book.units[place].region) {
-            let earlier = book.units[..place].iter().filter(|unit| requirement.includes(unit.region));
+            let earlier = primaries(&book.units[..place]).filter(|unit| requirement.includes(unit.region));
             let here = earlier.count();
             let second = new.remove(here + 1);
             new[here] += second;
@@ -245,9 +276,10 @@ fn split_keeps(book: &Book, all: &[Settled], place: usize, part: i128) -> Held {
     Ok(())
 }
 
-/// Splits one good unit of the book, if there is room for one more.
+/// Splits one good ungrouped unit of the book, if there is room for one more.
 pub fn splits_close(book: &Book, all: &[Settled], turn: usize) -> Held {
-    let good: Vec<usize> = (0..book.units.len()).filter(|&place| unit_is_good(&book.units[place])).collect();
+    let can_be_split = |unit: &Unit| unit.group == 0 && unit_is_good(unit);
+    let good: Vec<usize> = (0..book.units.len()).filter(|&place| can_be_split(&book.units[place])).collect();
     if good.is_empty() || book.units.len() == 512 {
         return Ok(());
     }
@@ -264,6 +296,7 @@ pub fn check(book: &Book, all: &[Settled]) -> Held {
             named("used and unused pool are not the cost".to_string())
         })?;
         let set: Vec<usize> = (0..REGIONS).filter(|&region| requirement.includes(region)).collect();
+        lines_are_the_members(book, requirement, settled).map_err(named)?;
         performances_are_over_the_kept(book, &views, settled, &set).map_err(named)?;
         shares_close(settled).map_err(named)?;
         payments_close(settled).map_err(named)?;

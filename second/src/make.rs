@@ -4,6 +4,7 @@
 use crate::book::*;
 use crate::cents::settle_book;
 use crate::chance::Chance;
+use crate::groups::{self, Spread};
 use crate::measure::next_measure;
 use crate::quantities::*;
 use crate::rules::dropping_tells;
@@ -14,7 +15,7 @@ use crate::write::*;
 /// Sizes that are no round numbers, and the limits around 512.
 pub const ROSTERS: [usize; 10] = [0, 1, 5, 7, 13, 76, 477, 509, 511, 512];
 
-pub const CLASSES: [(&str, &str); 21] = [
+pub const CLASSES: [(&str, &str); 26] = [
     ("plain", "walking frequencies, readings near the trajectory, few bad units"),
     ("limits", "every field at or next to one of its limits"),
     ("badpoints", "bad frequency points around the limit, bad readings first, last, all"),
@@ -36,7 +37,20 @@ pub const CLASSES: [(&str, &str); 21] = [
     ("runs", "long runs of dropped points, up to all 75, with bad points among them"),
     ("patchy", "dropped points in some regions, none in the others"),
     ("keptties", "equal remainders of different weights over the kept points"),
+    ("groups", "units of every trait joined to groups, next to ungrouped ones, at the end, or all in one"),
+    ("sidebyside", "groups alone, one next to the other, with numbers unused between and without"),
+    ("cancels", "groups of generators and loads that cancel, or but for one cMW"),
+    ("badgroups", "groups with a bad unit first, last or between, around the percent rule of members"),
+    ("cut", "a book of another class, its units cut into groups that do as they did"),
 ];
+
+/// The classes of books that have groups.
+pub const GROUPED: [&str; 5] = ["groups", "sidebyside", "cancels", "badgroups", "cut"];
+
+/// The classes of books that have none.
+pub fn ungrouped() -> Vec<&'static str> {
+    CLASSES.iter().map(|(class, _)| *class).filter(|class| !GROUPED.contains(class)).collect()
+}
 
 /// The classes of books in which the rule of the share and the one before request R-9 mostly differ.
 pub const UNEQUAL: [&str; 3] = ["unequal", "standins", "keptties"];
@@ -562,7 +576,7 @@ fn draw_readings(chance: &mut Chance, style: Readings, equal: i128, unit: &mut U
 }
 
 /// Rising numbers that leave room for those still to come.
-fn rising_numbers(chance: &mut Chance, count: usize) -> Vec<i128> {
+pub(crate) fn rising_numbers(chance: &mut Chance, count: usize) -> Vec<i128> {
     let mut numbers = Vec::new();
     let mut lowest = chance.pick(&[0, 1, 1]);
     for place in 0..count {
@@ -574,7 +588,7 @@ fn rising_numbers(chance: &mut Chance, count: usize) -> Vec<i128> {
     numbers
 }
 
-fn make_bad(chance: &mut Chance, unit: &mut Unit) {
+pub(crate) fn make_bad(chance: &mut Chance, unit: &mut Unit) {
     match chance.place(5) {
         0 => unit.good[0] = false,
         1 => unit.good[POINTS - 1] = false,
@@ -742,6 +756,45 @@ fn unequal_book(chance: &mut Chance, kind: Kind, roster: usize) -> Book {
     unequal::book(chance, kind, &units, &requirements)
 }
 
+/// The traits that units are drawn with before they are joined.
+const JOINED: [&str; 7] = ["plain", "plain", "mixed", "heavy", "limits", "vacant", "swings"];
+
+/// A book whose units are drawn and then joined to groups.
+fn joined_book(chance: &mut Chance, class: &str, roster: usize) -> Book {
+    // A region that is unreliable has no RCR, and shows nothing of the percent rule.
+    let joined = chance.pick(&JOINED);
+    let traits_class = if class == "badgroups" && !chance.one_in(4) { "percent" } else { joined };
+    let traits = traits_of(traits_class).expect("a class that is drawn");
+    // Bad units are chosen by member, once there are members.
+    let bad_units = if class == "groups" { traits.bad_units.clone() } else { vec![BadUnits::None] };
+    let percents =
+        if class == "badgroups" { vec![0, 20, 25, 40, 50, 99, 100] } else { traits.percents.clone() };
+    let mut book = drawn_book(chance, &Traits { bad_units, percents, ..traits }, roster);
+    let spread = match class {
+        "sidebyside" => Spread::SideBySide,
+        "badgroups" if !chance.one_in(6) => Spread::Among,
+        _ => groups::draw_spread(chance),
+    };
+    // Several members are needed for the percent rule to have two sides.
+    let largest = if class == "badgroups" { chance.pick(&[2, 3, 3, roster.max(1)]) } else { roster.max(1) };
+    groups::join(chance, &mut book.units, spread, largest);
+    if class == "cancels" {
+        groups::cancel(chance, &mut book.units);
+    }
+    if class == "badgroups" || (class == "sidebyside" && chance.one_in(4)) {
+        groups::spoil_members(chance, book.settings.bad_unit_percent, &mut book.units);
+    }
+    book
+}
+
+/// A book of any class without groups, cut into groups.
+fn cut_book(chance: &mut Chance, roster: usize) -> Book {
+    let class = chance.pick(&ungrouped());
+    let members = chance.pick(&[1, 2, 3, 5, 7, 13, 76, roster]).min(roster);
+    let book = make(chance.draw(), class, Some(members)).expect("a class of the list");
+    groups::cut(chance, &book, roster).0
+}
+
 /// The book of a seed and a class; without a roster the seed picks one.
 pub fn make(seed: u64, class: &str, roster: Option<usize>) -> Option<Book> {
     let class_place = CLASSES.iter().position(|(name, _)| *name == class)? as u64;
@@ -752,6 +805,8 @@ pub fn make(seed: u64, class: &str, roster: Option<usize>) -> Option<Book> {
         "unequal" => unequal_book(chance, Kind::Live, roster),
         "standins" => unequal_book(chance, Kind::StandingIn, roster),
         "keptties" => unequal_book(chance, Kind::LiveOverKept, roster),
+        "cut" => cut_book(chance, roster),
+        _ if GROUPED.contains(&class) => joined_book(chance, class, roster),
         _ if DROPPING.contains(&class) => dropping_book(chance, &traits_of(class)?, roster),
         _ => drawn_book(chance, &traits_of(class)?, roster),
     })

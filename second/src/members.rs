@@ -1,12 +1,13 @@
-//! Members: the units of a requirement's regions in roster order, then one residual.
+//! Members: the units and groups of a requirement's regions in roster order, then one residual.
 
-use crate::book::{Book, Requirement, Unit};
-use crate::deviation::unit_deviations;
+use crate::book::{Book, Requirement};
 use crate::performance::*;
 use crate::quantities::*;
+use crate::roster::RosterMember;
 
 #[derive(Clone, Copy, Debug, PartialEq, Eq)]
 pub enum Name {
+    /// An ungrouped unit's number, or a group's: that of its primary.
     Unit(i128),
     Residual,
 }
@@ -28,16 +29,16 @@ fn live_or(standing: Standing, live: i128, default: i128) -> i128 {
     }
 }
 
-/// A unit as a member, live or by its defaults.
-pub fn unit_member(direction: Direction, unit: &Unit, view: &RegionView) -> Member {
-    let standing = view.unit_standing(direction, unit);
-    let live = view.performance(direction, &unit_deviations(unit));
+/// A unit or a group as a member, live or by its defaults.
+pub fn unit_member(direction: Direction, of: &RosterMember, view: &RegionView) -> Member {
+    let standing = view.member_standing(direction, of.good);
+    let live = view.performance(direction, &of.deviations);
     Member {
-        name: Name::Unit(unit.number),
+        name: Name::Unit(of.number),
         standing,
-        payment_performance: live_or(standing, live, direction.payment_default(&unit.defaults)),
-        used_performance: live_or(standing, live, direction.used_default(&unit.defaults)),
-        unused_default: direction.unused_default(&unit.defaults),
+        payment_performance: live_or(standing, live, direction.payment_default(&of.defaults)),
+        used_performance: live_or(standing, live, direction.used_default(&of.defaults)),
+        unused_default: direction.unused_default(&of.defaults),
     }
 }
 
@@ -86,13 +87,17 @@ pub fn joined_residual(residuals: &[Member]) -> Member {
     joined
 }
 
-pub fn members(requirement: &Requirement, book: &Book, views: &[RegionView]) -> Vec<Member> {
+pub fn members(
+    requirement: &Requirement,
+    book: &Book,
+    roster: &[RosterMember],
+    views: &[RegionView],
+) -> Vec<Member> {
     let direction = requirement.direction;
-    let mut all: Vec<Member> = book
-        .units
+    let mut all: Vec<Member> = roster
         .iter()
-        .filter(|unit| requirement.includes(unit.region))
-        .map(|unit| unit_member(direction, unit, &views[unit.region]))
+        .filter(|member| requirement.includes(member.region))
+        .map(|member| unit_member(direction, member, &views[member.region]))
         .collect();
     let residuals: Vec<Member> = (0..REGIONS)
         .filter(|&region| requirement.includes(region))

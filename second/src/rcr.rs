@@ -1,9 +1,9 @@
 //! RCR (001, 7): the largest helpful deviation of a requirement, in 75ths of a cMW.
 
-use crate::book::{Book, Requirement, Unit};
-use crate::deviation::{unit_deviations, unit_is_good};
+use crate::book::{Book, Requirement};
 use crate::performance::RegionView;
 use crate::quantities::*;
+use crate::roster::RosterMember;
 
 /// The sum of generation times FM over the requirement's regions at a point.
 pub fn weighted_measure(requirement: &Requirement, book: &Book, views: &[RegionView], point: usize) -> i128 {
@@ -31,25 +31,30 @@ fn has_right_sign(direction: Direction, measure: i128) -> bool {
     }
 }
 
-/// The two exceptions: an unreliable region, or too many bad units.
-fn stands_down(requirement: &Requirement, book: &Book, views: &[RegionView], units: &[&Unit]) -> bool {
+/// The two exceptions: an unreliable region, or too many bad members.
+fn stands_down(
+    requirement: &Requirement,
+    book: &Book,
+    views: &[RegionView],
+    members: &[&RosterMember],
+) -> bool {
     let unreliable = (0..REGIONS)
         .any(|region| requirement.includes(region) && !views[region].reliable(requirement.direction));
-    let bad = units.iter().filter(|unit| !unit_is_good(unit)).count() as i128;
-    unreliable || 100 * bad > book.settings.bad_unit_percent * units.len() as i128
+    let bad = members.iter().filter(|member| !member.good).count() as i128;
+    unreliable || 100 * bad > book.settings.bad_unit_percent * members.len() as i128
 }
 
-pub fn rcr(requirement: &Requirement, book: &Book, views: &[RegionView]) -> i128 {
-    let units: Vec<&Unit> = book.units.iter().filter(|unit| requirement.includes(unit.region)).collect();
-    if stands_down(requirement, book, views, &units) {
+pub fn rcr(requirement: &Requirement, book: &Book, roster: &[RosterMember], views: &[RegionView]) -> i128 {
+    let members: Vec<&RosterMember> =
+        roster.iter().filter(|member| requirement.includes(member.region)).collect();
+    if stands_down(requirement, book, views, &members) {
         return 0;
     }
-    let good: Vec<[i128; POINTS]> =
-        units.iter().filter(|unit| unit_is_good(unit)).map(|unit| unit_deviations(unit)).collect();
+    let good: Vec<&RosterMember> = members.into_iter().filter(|member| member.good).collect();
     let mut largest = 0;
     for point in 0..POINTS {
         if has_right_sign(requirement.direction, weighted_measure(requirement, book, views, point)) {
-            let deviations: Vec<i128> = good.iter().map(|unit| unit[point]).collect();
+            let deviations: Vec<i128> = good.iter().map(|member| member.deviations[point]).collect();
             largest = largest.max(helpful_sum(requirement.direction, &deviations));
         }
     }

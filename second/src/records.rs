@@ -42,14 +42,15 @@ fn frequency_in_numbers(record: FrequencyRecord) -> String {
 
 fn unit_in_numbers(unit: Unit) -> String {
     format!(
-        "{} {} {} {} {} {} {}",
+        "{} {} {} {} {} {} {} {}",
         unit.number,
         unit.region,
         i128::from(unit.load),
         unit.start,
         unit.end,
         joined(unit.defaults),
-        marks(&unit.good)
+        marks(&unit.good),
+        unit.group
     )
 }
 

@@ -5,11 +5,12 @@ use std::fmt::{self, Write};
 
 use crate::book::{read_first_book, Book, Refusal};
 use crate::members::{region_residual, unit_member, Member};
-use crate::performance::{region_views, Standing};
+use crate::performance::{roster_views, Standing};
 use crate::quantities::*;
+use crate::roster::grouped;
 use crate::week::{member_week, Interval, WeekDefault, Whose, INTERVALS_LIMIT};
 
-/// Different unit numbers that a week can have.
+/// Different numbers of units and groups that a week can have; a group's is its primary's.
 pub const NUMBERS_LIMIT: usize = 512;
 pub const REGION_NAMES: [&str; REGIONS] = ["QLD1", "NSW1", "VIC1", "SA1", "TAS1"];
 /// It says how far it is each time that so many books are through.
@@ -34,10 +35,13 @@ impl fmt::Display for RefusedAt {
 #[derive(Clone, Debug, Default)]
 struct Record {
     weeks: [Vec<Interval>; 2],
+    /// The most units that it was of in a book; a residual is of none.
+    most_units: usize,
 }
 
 impl Record {
-    fn take(&mut self, member_of: impl Fn(Direction) -> Member) {
+    fn take(&mut self, units: usize, member_of: impl Fn(Direction) -> Member) {
+        self.most_units = self.most_units.max(units);
         for (week, direction) in self.weeks.iter_mut().zip(Direction::BOTH) {
             let member = member_of(direction);
             // A live member's payment performance is its own.
@@ -45,7 +49,9 @@ impl Record {
         }
     }
 
-    fn line(&self, name: &str, whose: Whose) -> Result<String, Refusal> {
+    /// The week is that of its most units: in each book it kept to the limit of those that it had there.
+    fn line(&self, name: &str) -> Result<String, Refusal> {
+        let whose = Whose::from_number(self.most_units as i128)?;
         let [raise, lower] = &self.weeks;
         let words = |WeekDefault { live, default }| format!("{live} {default}");
         let raise = words(member_week(whose, raise)?);
@@ -54,8 +60,8 @@ impl Record {
     }
 }
 
-/// What is kept of the books so far. A unit that a book does not have is not live there, so nothing is
-/// noted of it.
+/// What is kept of the books so far, of units and groups by their number. One that a book does not have is not live there, so
+/// nothing is noted of it.
 #[derive(Clone, Debug, Default)]
 struct Records {
     units: BTreeMap<i128, Record>,
@@ -65,13 +71,15 @@ struct Records {
 impl Records {
     /// A book without a refusal of its own; one more number than there may be is refusal 5.
     fn take(&mut self, book: &Book) -> Result<(), Refusal> {
-        let views = region_views(book);
-        for unit in &book.units {
-            let view = &views[unit.region];
-            self.units.entry(unit.number).or_default().take(|direction| unit_member(direction, unit, view));
+        let roster = grouped(&book.units);
+        let views = roster_views(book, &roster);
+        for member in &roster {
+            let view = &views[member.region];
+            let record = self.units.entry(member.number).or_default();
+            record.take(member.units, |direction| unit_member(direction, member, view));
         }
         for (region, residual) in self.residuals.iter_mut().enumerate() {
-            residual.take(|direction| region_residual(direction, book, &views, region));
+            residual.take(0, |direction| region_residual(direction, book, &views, region));
         }
         if self.units.len() > NUMBERS_LIMIT {
             return Err(Refusal::of(5));
@@ -79,14 +87,14 @@ impl Records {
         Ok(())
     }
 
-    /// A line a unit in rising number, then one a region.
+    /// A line a unit or group in rising number, then one a region.
     fn lines(&self) -> Result<String, Refusal> {
         let mut out = String::new();
         for (number, record) in &self.units {
-            out += &record.line(&format!("unit {number}"), Whose::Unit)?;
+            out += &record.line(&format!("unit {number}"))?;
         }
         for (name, record) in REGION_NAMES.iter().zip(&self.residuals) {
-            out += &record.line(&format!("residual {name}"), Whose::Residual)?;
+            out += &record.line(&format!("residual {name}"))?;
         }
         Ok(out)
     }

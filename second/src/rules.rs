@@ -6,13 +6,13 @@
 use std::collections::BTreeSet;
 use std::fmt::Write;
 
-use crate::book::{Book, Refusal, Unit};
+use crate::book::{Book, Refusal};
 use crate::cents::{negative_weights, positive_weights, settle_book, settle_by_views, Line, Settled};
 use crate::describe::series;
-use crate::deviation::unit_deviations;
 use crate::listing::name_of;
 use crate::performance::{performance_over_all, region_views, RegionView, Standing};
 use crate::quantities::*;
+use crate::roster::{grouped, RosterMember};
 use crate::share::{share, share_earlier_first};
 
 /// A requirement's shares, the two signs of factors and payments apart.
@@ -120,6 +120,19 @@ pub fn dropping_tells(book: &Book, settled: &[Settled]) -> bool {
     dropped_in(book) > 0 && over_all_points(book).as_deref() != Ok(settled)
 }
 
+/// The same book with no unit in a group, as before request R-5.
+pub fn without_groups(book: &Book) -> Book {
+    let mut book = book.clone();
+    book.units.iter_mut().for_each(|unit| unit.group = 0);
+    book
+}
+
+/// Whether a figure of the book's listing, or a line, is another one without its groups.
+pub fn grouping_tells(book: &Book, settled: &[Settled]) -> bool {
+    book.units.iter().any(|unit| unit.group != 0)
+        && settle_book(&without_groups(book)).as_deref() != Ok(settled)
+}
+
 /// A live party's performance over the kept points and over all of them.
 fn performances_in_words(
     name: &str,
@@ -141,11 +154,11 @@ fn region_in_words(book: &Book, region: usize, view: &RegionView) -> String {
             .unwrap();
     }
     for direction in Direction::BOTH {
-        let of_region = |unit: &&Unit| unit.region == region;
-        for unit in book.units.iter().filter(of_region) {
-            if view.unit_standing(direction, unit) == Standing::Live {
-                let name = format!("unit {}", unit.number);
-                out += &performances_in_words(&name, direction, view, &unit_deviations(unit));
+        let of_region = |member: &&RosterMember| member.region == region;
+        for member in grouped(&book.units).iter().filter(of_region) {
+            if view.member_standing(direction, member.good) == Standing::Live {
+                let name = format!("unit {}", member.number);
+                out += &performances_in_words(&name, direction, view, &member.deviations);
             }
         }
         if view.residual_standing(direction) == Standing::Live {

@@ -1,8 +1,9 @@
 //! Scripts of random calls for the model in `boundary` and for the library's own boundary: chains over
 //! made books that are disturbed on the way, their units one at a time and by runs (`runs`), tallies and lent numbers of
 //! any kind, tallies that were stored while the next book was begun over their lists (`stored`), once every limit
-//! (`limits`), and runs of every length, refused at every place (`places`).
+//! (`limits`) and those of groups (`groups`), and runs of every length, refused at every place (`places`).
 
+mod groups;
 mod limits;
 mod places;
 mod runs;
@@ -15,7 +16,7 @@ use crate::book::*;
 use crate::boundary::*;
 use crate::chance::Chance;
 use crate::damage::{damage, spoil_once_or_twice, Kind};
-use crate::make::{make, CLASSES};
+use crate::make::{make, ungrouped, CLASSES, GROUPED};
 use crate::quantities::*;
 use crate::write::to_bytes;
 
@@ -179,9 +180,16 @@ impl<W: Write> Script<W> {
         self.book_of(&[roster])
     }
 
+    /// Any class, one in three times one with groups.
+    fn any_class(&mut self) -> &'static str {
+        let (any, _) = self.chance.pick(&CLASSES);
+        let grouped = self.chance.pick(&GROUPED);
+        self.chance.pick(&[any, any, grouped])
+    }
+
     /// A book of any class with one of these rosters.
     fn book_of(&mut self, rosters: &[usize]) -> Made {
-        let (class, _) = self.chance.pick(&CLASSES);
+        let class = self.any_class();
         let roster = self.chance.pick(rosters);
         let mut book = make(self.chance.draw(), class, Some(roster)).expect("a class of the list");
         let most = self.chance.pick(&[1, 1, 2, 3, 32]);
@@ -226,11 +234,13 @@ impl<W: Write> Script<W> {
         self.lend_all(made.units, &EXACT_OR_MORE);
         self.call("contents", part(&made.bytes, 0, CONTENTS_SIZE));
         let disturbed_one_in = if made.units > 20 { 20 } else { 2 };
+        // A wrong unit that is taken after all spoils the sums and the group: in half of the chains it is taken back.
+        let kept_clean = self.chance.one_in(2);
         let mut refused = 0;
         let mut records = 0;
         while records < made.records() {
             while self.chance.one_in(disturbed_one_in) {
-                self.disturb(&made, records);
+                self.disturb_and_take_back(&made, records, kept_clean);
             }
             let (taken, reply) = self.step(&made, records);
             records += taken;
@@ -243,6 +253,15 @@ impl<W: Write> Script<W> {
             self.disturb(&made, made.records() - 1);
         }
         self.ask(&made);
+    }
+
+    fn disturb_and_take_back(&mut self, made: &Made, records: usize, take_back: bool) {
+        if !take_back {
+            return self.disturb(made, records);
+        }
+        self.store();
+        self.disturb(made, records);
+        self.recall();
     }
 
     /// The next record as it is, or one in four times several units by a run; answers how many records these are, and the
@@ -407,7 +426,7 @@ impl<W: Write> Script<W> {
         let mut name = self.chance.pick(lists_of(kind));
         // In mid-run a list ends that has something of every unit.
         if kind == "units" && self.chance.one_in(2) {
-            name = self.chance.pick(&["numbers", "homes", "rows"]);
+            name = self.chance.pick(&["numbers", "homes", "rows", "groups"]);
         }
         let lent = self.caller.lent.list(name).lent;
         if lent == 0 {
@@ -479,8 +498,14 @@ impl<W: Write> Script<W> {
                 let together = if place < SUMS_OF_A_REGION * REGIONS { self.other_sums(place) } else { 0 };
                 self.chance.pick(&[limit, limit - together])
             }
-            "homes" => 9,
-            "rows" if place % NUMBERS_OF_A_ROW < 2 => PERFORMANCE_LIMIT,
+            "homes" => self.chance.pick(&[9, PASSED_OVER]),
+            // A unit that joins a group is held to so much a unit taken, a row of an answer to so much a unit of its own.
+            "rows" if place % NUMBERS_OF_A_ROW < 2 => {
+                let taken = tally.units_taken().clamp(1, UNITS_LIMIT);
+                PERFORMANCE_LIMIT * self.chance.pick(&[1, 2, taken, taken])
+            }
+            "deviations" => DEVIATION_LIMIT * tally.units_taken().clamp(0, UNITS_LIMIT),
+            "groups" => i128::from(u16::MAX),
             "rows" => -UNIT_DEFAULT_LOWEST,
             "figures" => match place % FIGURES_OF_A_REGION {
                 0 => tally.interval,
@@ -611,20 +636,53 @@ impl<W: Write> Script<W> {
             self.put("figures", FIGURES_OF_A_REGION * region, &figures);
         }
         self.likely_rows(made.units);
+        self.likely_groups(made, tally);
     }
 
+    /// Rows of units and of groups, the largest of them within what so many units can have.
     fn likely_rows(&mut self, units: usize) {
         let bad_one_in = self.chance.pick(&[3, 10, 100]);
-        let homes: Vec<i128> = (0..units)
-            .map(|_| 2 * self.chance.between(0, 4) + i128::from(!self.chance.one_in(bad_one_in)))
-            .collect();
-        self.put("homes", 0, &homes);
-        let mut rows = Vec::new();
+        let passed_one_in = self.chance.pick(&[2, 3, 10, 1_000]);
+        let (mut homes, mut rows) = (Vec::new(), Vec::new());
+        let mut of_units = 1;
         for _ in 0..units {
-            rows.extend((0..2).map(|_| self.chance.pick(&[1, -1]) * self.chance.any_size(PERFORMANCE_LIMIT)));
+            let home = 2 * self.chance.between(0, 4) + i128::from(!self.chance.one_in(bad_one_in));
+            let is_passed_over = self.chance.one_in(passed_one_in);
+            homes.push(if is_passed_over { PASSED_OVER } else { home });
+            let most = PERFORMANCE_LIMIT * of_units;
+            for _ in 0..2 {
+                let size = self.chance.any_size(most);
+                rows.push(self.chance.pick(&[1, -1]) * self.chance.pick(&[size, size, size, most]));
+            }
             rows.extend((0..6).map(|_| -self.chance.any_size(-UNIT_DEFAULT_LOWEST)));
+            of_units = if is_passed_over { of_units + 1 } else { 1 };
         }
+        self.put("homes", 0, &homes);
         self.put("rows", 0, &rows);
+    }
+
+    /// The group numbers of the book, mostly, and summed deviations within what so many units can have; the home before a unit
+    /// that joins is mostly one of its region.
+    fn likely_groups(&mut self, made: &Made, tally: &Tally) {
+        let records: Vec<Vec<u8>> =
+            made.run(1 + REGIONS, made.units).chunks(UNIT_SIZE).map(<[u8]>::to_vec).collect();
+        let mut groups: Vec<i128> =
+            records.iter().map(|record| i128::from(record[70]) + 256 * i128::from(record[71])).collect();
+        for _ in 0..self.chance.pick(&[0, 0, 0, 1, 3]).min(groups.len()) {
+            let (one, other) = (self.chance.place(groups.len()), self.chance.place(groups.len()));
+            groups[one] = self.chance.pick(&[groups[other], 0, 1, 65_535]);
+        }
+        self.put("groups", 0, &groups);
+        let taken = tally.units_taken().clamp(0, made.units as i128);
+        let most = DEVIATION_LIMIT * taken;
+        let deviations: Vec<i128> =
+            (0..POINTS).map(|_| self.chance.pick(&[1, -1]) * self.chance.any_size(most)).collect();
+        self.put("deviations", 0, &deviations);
+        let taken = taken as usize;
+        if taken > 0 && taken < made.units && self.chance.one_in(2) {
+            let home = 2 * i128::from(records[taken][2]) + self.chance.between(0, 1);
+            self.put("homes", taken - 1, &[home]);
+        }
     }
 
     /// Only the interval numbers as the tally has them, over lists as they are.
@@ -692,13 +750,30 @@ impl<W: Write> Script<W> {
         let sizes = [0; 2].map(|_| self.chance.pick(&[PERFORMANCE_LIMIT, -PERFORMANCE_LIMIT]));
         let row = [&sizes[..], &[UNIT_DEFAULT_LOWEST; 6]].concat();
         self.put("rows", 0, &row.repeat(units));
+        if self.chance.one_in(2) {
+            self.heaviest_groups(units, sizes);
+        }
         self.ask(&made);
+    }
+
+    /// The same as groups of so many units, each as heavy as its units together; the last row is passed over where they do not end with it.
+    fn heaviest_groups(&mut self, units: usize, sizes: [i128; 2]) {
+        let of = self.chance.pick(&[2, 5, 7, 13, 76, 511, units]);
+        for row in 0..units {
+            let in_group = row % of;
+            let [raise, lower] = sizes.map(|size| size * (in_group as i128 + 1));
+            self.put("rows", NUMBERS_OF_A_ROW * row, &[raise, lower]);
+            if in_group + 1 < of {
+                self.put("homes", row, &[PASSED_OVER]);
+            }
+        }
     }
 
     /// Every limit once, then sequences until so many calls are made, with stored tallies and units by
     /// runs between them besides.
     pub fn write(&mut self, calls: usize) {
         self.limits();
+        self.group_limits();
         let mut made = 0;
         while made < calls {
             let before = self.calls;
@@ -710,10 +785,10 @@ impl<W: Write> Script<W> {
                 self.arbitrary();
             }
             made += self.calls - before;
-            if self.chance.one_in(4) {
+            if self.chance.one_in(2) {
                 self.stored();
             }
-            if self.chance.one_in(2) {
+            if !self.chance.one_in(4) {
                 self.by_runs();
             }
         }

@@ -9,6 +9,7 @@ use crate::book::{read_book, Refusal};
 use crate::listing::name_of;
 use crate::members::{members, Member};
 use crate::performance::region_views;
+use crate::roster::grouped;
 use crate::sheet::{judge, Side, Verdict};
 
 /// The number that a word stands for; None where it is no whole number within i64.
@@ -78,7 +79,7 @@ pub fn members_of(book: &[u8], requirement: i128) -> Result<Option<Vec<Member>>,
     let book = read_book(book)?;
     let views = region_views(&book);
     let found = book.requirements.iter().find(|found| found.number == requirement);
-    Ok(found.map(|found| members(found, &book, &views)))
+    Ok(found.map(|found| members(found, &book, &grouped(&book.units), &views)))
 }
 
 /// The performances that the members' factors are made of: payment defaults where they stand in.

@@ -149,8 +149,9 @@ fn unit_fields(ts: &[usize]) -> Vec<Field> {
             let at = at + 12 + 8 * nth;
             all.push(signed("unit default", at, 8, -5_625_000_000_000_000, 0, refused(82, place)));
         }
-        all.push(unsigned("zero byte", at + 70, 1, 0, 0, refused(83, place)));
-        all.push(unsigned("zero byte", at + 71, 1, 0, 0, refused(83, place)));
+        // Alone in its group a unit may have any number there.
+        all.push(unsigned("group", at + 70, 2, 0, 65_535, refused(16, place)));
+        all.push(unsigned("group's second byte", at + 71, 1, 0, 255, refused(16, place)));
         for &t in ts {
             let refusal = refused(84, place).at_t(t);
             all.push(signed("reading", at + 68 + 4 * t, 4, -100_000, 100_000, refusal));
@@ -316,7 +317,7 @@ pub fn far_trials() -> Vec<Trial> {
         let mut fields = vec![
             (at + 2, 1, 5, refused(81, place)),
             (at + 52, 8, 1, refused(82, place)),
-            (at + 71, 1, 1, refused(83, place)),
+            (at + 69, 1, 0x87, refused(83, place)),
             (at + 72, 4, 100_001, refused(84, place).at_t(1)),
             (at + 368, 4, -100_001, refused(84, place).at_t(75)),
         ];
@@ -342,6 +343,73 @@ pub fn far_trials() -> Vec<Trial> {
         resized(&whole, whole.len() + 1),
         refused(4, requirements),
     );
+    all
+}
+
+/// The small book's units in these groups, without defaults but for the first.
+fn in_groups(groups: [i128; UNITS]) -> Book {
+    let mut book = small_book();
+    for (unit, group) in book.units.iter_mut().zip(groups) {
+        unit.group = group;
+    }
+    book.units[1..].iter_mut().for_each(|unit| unit.defaults = [0; 6]);
+    book
+}
+
+/// Both sides of each case of refusal 16: groups that return and such that do not, regions and defaults of every unit of a group.
+pub fn group_trials() -> Vec<Trial> {
+    let mut all = Vec::new();
+    let mut push = |name: String, book: &Book, place: usize| {
+        let refusal = (place > 0).then(|| refused(16, place));
+        all.push(Trial { name, bytes: to_bytes(book), refusal });
+    };
+    let rosters = [
+        ([7, 7, 7, 7, 7, 7], 0),
+        ([7, 7, 0, 9, 9, 9], 0),
+        ([7, 7, 8, 8, 9, 9], 0),
+        ([9, 8, 7, 6, 5, 4], 0),
+        ([0, 0, 0, 0, 65_535, 65_535], 0),
+        ([1, 256, 257, 512, 2, 0], 0),
+        ([7, 0, 7, 0, 0, 0], 3),
+        ([7, 9, 7, 0, 0, 0], 3),
+        ([7, 7, 0, 0, 0, 7], 6),
+        ([0, 7, 9, 9, 9, 7], 6),
+        ([7, 9, 0, 9, 7, 0], 4),
+        ([65_535, 1, 1, 1, 65_535, 1], 5),
+    ];
+    for (groups, place) in rosters {
+        push(format!("groups {groups:?}"), &in_groups(groups), place);
+    }
+    let groups = [0, 7, 7, 7, 9, 9];
+    for place in 2..=UNITS {
+        let is_primary = groups[place - 1] != groups[place - 2];
+        let mut book = in_groups(groups);
+        book.units[place - 1].region = 3;
+        // Behind a primary in another region the next one is wrong.
+        push(
+            format!("another region at unit {place} of groups"),
+            &book,
+            if is_primary { place + 1 } else { place },
+        );
+        for default in 0..6 {
+            let mut book = in_groups(groups);
+            book.units[place - 1].defaults[default] = -1;
+            push(
+                format!("default {default} at unit {place} of groups"),
+                &book,
+                if is_primary { 0 } else { place },
+            );
+        }
+    }
+    for (group, place) in [(0, 0), (1, 512), (255, 512), (256, 0), (512, 0)] {
+        let mut book = in_groups([0; UNITS]);
+        let unit = book.units[1].clone();
+        let group_of = |number: usize| if number == 512 { group } else { number.div_ceil(2) as i128 };
+        book.units = (1..=512)
+            .map(|number| Unit { number: number as i128, group: group_of(number), ..unit.clone() })
+            .collect();
+        push(format!("the last of 512 units in group {group}"), &book, place);
+    }
     all
 }
 
@@ -428,13 +496,35 @@ fn wrong_unit(place: usize) -> Vec<Wrong> {
         wrong(at + 12, 8, 1, refused(82, place)),
         wrong(at + 52, 8, 1, refused(82, place)),
         wrong(at + 69, 1, 0x0F, refused(83, place)),
-        wrong(at + 70, 1, 1, refused(83, place)),
-        wrong(at + 71, 1, 1, refused(83, place)),
+        wrong(at + 69, 1, 0x87, refused(83, place)),
     ];
     all.extend(wrong_points(at + 60, at + 72, 100_001, refused(84, place)));
     if place > 1 {
-        // Number 0 does not rise: first in the record, tested last.
+        // Number 0 does not rise: first in the record, tested after all of it.
         all.push(wrong(at, 2, 0, refused(9, place)));
+        all.extend(wrong_group(place));
+    }
+    all
+}
+
+/// What makes a unit's group wrong, tested last of all: it joins the group of the unit before with a default or in another
+/// region, or returns to a group that was left.
+fn wrong_group(place: usize) -> Vec<Wrong> {
+    // None of the small book's units has a group; those of two faults are different ones.
+    let (joined, left) = (512 + place as i128, 768 + place as i128);
+    let group_of = |place: usize, group: i128| (unit_at(place) + 70, 2, group);
+    let of = |group: i128, more: Vec<(usize, usize, i128)>| {
+        let puts = [vec![group_of(place, group)], more].concat();
+        Wrong { puts, refusal: refused(16, place) }
+    };
+    // The units of the small book hold a default; without it the region of the unit before is wrong alone.
+    let no_default = (unit_at(place) + 28, 8, 0);
+    let mut all = vec![
+        of(joined, vec![group_of(place - 1, joined), no_default, (unit_at(place - 1) + 2, 1, 4)]),
+        of(joined, vec![group_of(place - 1, joined)]),
+    ];
+    if place > 2 {
+        all.push(of(left, vec![group_of(place - 2, left)]));
     }
     all
 }
@@ -580,6 +670,7 @@ pub fn all() -> Vec<Trial> {
     all.extend(quality_trials(&TS));
     all.extend(count_trials());
     all.extend(far_trials());
+    all.extend(group_trials());
     all.extend(order_trials());
     all.extend(cut_trials());
     all.extend(cut_and_wrong(&few_wrongs(), false));

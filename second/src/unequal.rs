@@ -11,6 +11,7 @@ use crate::members::members;
 use crate::performance::{region_views, RegionView};
 use crate::quantities::*;
 use crate::rcr::rcr;
+use crate::roster::{grouped, RosterMember};
 use crate::rules::{differ, shares_of};
 use crate::swings::{self, Swings};
 use crate::write::*;
@@ -175,8 +176,13 @@ struct Weights {
     unused: Vec<i128>,
 }
 
-fn weights_of(requirement: &Requirement, book: &Book, views: &[RegionView]) -> Weights {
-    let members = members(requirement, book, views);
+fn weights_of(
+    requirement: &Requirement,
+    book: &Book,
+    roster: &[RosterMember],
+    views: &[RegionView],
+) -> Weights {
+    let members = members(requirement, book, roster, views);
     Weights {
         payment: members.iter().map(|member| member.payment_performance).collect(),
         used: negative_weights(&members.iter().map(|member| member.used_performance).collect::<Vec<_>>()),
@@ -244,14 +250,15 @@ fn draw_requirements(
     moduli: [i128; 3],
 ) -> Vec<Requirement> {
     let home = book.units.iter().fold(0, |set, unit| set | 1 << unit.region);
+    let roster = grouped(&book.units);
     let views = region_views(book);
     let mut all = Vec::new();
     for &number in numbers {
         let any = chance.between(1, 31) as u8;
         let set = if chance.one_in(8) || home == 0 { any } else { home | any & chance.pick(&[0, 31]) };
         let mut requirement = base_requirement(number, set, chance.pick(&Direction::BOTH));
-        let weights = weights_of(&requirement, book, &views);
-        let rcr = rcr(&requirement, book, &views);
+        let weights = weights_of(&requirement, book, &roster, &views);
+        let rcr = rcr(&requirement, book, &roster, &views);
         requirement.price = telling_price(chance, rcr, &weights.payment, moduli[0]);
         draw_cost(chance, &mut requirement, &weights, [moduli[1], moduli[2]]);
         all.push(requirement);

@@ -6,7 +6,7 @@ use std::collections::BTreeSet;
 use crate::book::*;
 use crate::chance::Chance;
 use crate::damage::damage;
-use crate::make::{make, CLASSES};
+use crate::make::{make, CLASSES, GROUPED};
 use crate::quantities::*;
 use crate::replay::NUMBERS_LIMIT;
 use crate::week::INTERVALS_LIMIT;
@@ -202,6 +202,116 @@ fn books_at_the_residuals_limit(chance: &mut Chance) -> Vec<Vec<u8>> {
     all
 }
 
+/// So many parts of at most the largest chosen performance that add up to a total.
+fn performances_of_a_group(chance: &mut Chance, total: i128, count: usize) -> Vec<i128> {
+    let mut left = total;
+    let mut all = Vec::new();
+    for more in (1..count as i128).rev() {
+        let reach = (more + 1) * CHOSEN_LIMIT - left.abs();
+        let stray = chance.any_size(reach.min(CHOSEN_LIMIT) / 4) * chance.pick(&[1, -1]);
+        let part = (left / (more + 1) + stray).clamp(-CHOSEN_LIMIT, CHOSEN_LIMIT);
+        let part = part.clamp(left - more * CHOSEN_LIMIT, left + more * CHOSEN_LIMIT);
+        all.push(part);
+        left -= part;
+    }
+    all.push(left);
+    all
+}
+
+/// A group that has exactly this performance in a book of its direction: generators and loads, numbered from its own number on.
+fn chosen_group(
+    chance: &mut Chance,
+    number: i128,
+    region: usize,
+    direction: Direction,
+    total: i128,
+) -> Vec<Unit> {
+    let fewest = (total.abs() / CHOSEN_LIMIT) as usize + 1;
+    let count = fewest + chance.pick(&[0, 0, 1, 2, 5]);
+    let group = chance.between(1, 65_535);
+    let performances = performances_of_a_group(chance, total, count);
+    let unit = |(place, performance): (usize, i128)| {
+        let is_load = chance.one_in(2);
+        let own = if is_load { -performance } else { performance };
+        let unit = chosen_unit(number + place as i128, region, direction, own);
+        Unit { load: is_load, group, ..unit }
+    };
+    performances.into_iter().enumerate().map(unit).collect()
+}
+
+/// A group whose average is at the limit of its book field, or is rounded to it or to one below; from book to book it is of other
+/// units, and now and then it is bad or a single unit.
+fn books_at_a_groups_limit(chance: &mut Chance) -> Vec<Vec<u8>> {
+    let count = chance.between(1, 4);
+    let direction = chance.pick(&Direction::BOTH);
+    let region = chance.place(REGIONS);
+    let number = chance.between(0, 65_000);
+    let half = count / 2;
+    let mut beyond = chance.pick(&[0, -1, half - 1, half, half + 1, (count + 1) / 2, (count - 1) / 2, count]);
+    let mut all = Vec::new();
+    for place in 1..=count {
+        let stray = chance.any_size(CHOSEN_LIMIT) * chance.pick(&[1, -1]);
+        let here = if place == count { beyond } else { stray };
+        beyond -= here;
+        let mut book = book_of(direction, region);
+        book.units = chosen_group(chance, number, region, direction, UNIT_DEFAULT_LOWEST - here);
+        all.push(to_bytes(&book));
+        if chance.one_in(4) {
+            let place = chance.place(book.units.len());
+            (book.units[place].good[74], book.units[place].readings[74]) = (false, 0);
+            all.push(to_bytes(&book));
+        }
+        if chance.one_in(8) {
+            let mut book = book_of(direction, region);
+            book.units = vec![chosen_unit(number, region, direction, 1)];
+            all.push(to_bytes(&book));
+        }
+    }
+    all
+}
+
+/// The books of a week with their units joined to groups, other ones in each book.
+fn books_of_groups(chance: &mut Chance) -> Vec<Vec<u8>> {
+    let pool = draw_numbers(chance, 13);
+    let class = chance.pick(&GROUPED);
+    let count = chance.pick(&[1, 2, 2, 3, 3, 7]);
+    let book = |chance: &mut Chance| {
+        let roster = chance.pick(&[1, 2, 3, 5, 7, 13]);
+        to_bytes(&pooled_book(chance, &pool, class, roster))
+    };
+    (0..count).map(|_| book(chance)).collect()
+}
+
+/// As many members as a week may have, or one more, in two books of more units than that: a group's number alone counts.
+fn books_of_many_members(chance: &mut Chance) -> Vec<Vec<u8>> {
+    let members = NUMBERS_LIMIT as i128 + chance.between(-1, 1);
+    let first = chance.between(200, 311);
+    let grouped = |chance: &mut Chance, from: i128, to: i128| {
+        let mut room = NUMBERS_LIMIT as i128 - (to - from);
+        let mut units = Vec::new();
+        for member in from..to {
+            let more = if room > 0 { chance.between(0, 1) } else { 0 };
+            room -= more;
+            for place in 0..=more {
+                let group = if more > 0 { 1 + member } else { 0 };
+                units.push(Unit { group, ..base_unit(2 * member + place, (member % 5) as usize) });
+            }
+        }
+        let mut book = idle_book(&[]);
+        book.units = units;
+        to_bytes(&book)
+    };
+    let mut all = vec![grouped(chance, 0, first), grouped(chance, first, members)];
+    if chance.one_in(2) {
+        all.swap(0, 1);
+    }
+    // The others of a group as members of their own: of book 1 no more than there is room for.
+    if members < NUMBERS_LIMIT as i128 {
+        all.push(to_bytes(&idle_book(&[2 * chance.place(3) as i128 + 1])));
+    }
+    all
+}
+
 /// A book of so many units that do nothing.
 fn idle_book(numbers: &[i128]) -> Book {
     let mut book = base_book();
@@ -323,11 +433,14 @@ pub fn trial(seed: u64, turn: u64) -> WeekTrial {
     }
     let (kind, books) = match turn % 40 {
         5 | 25 => ("numbers", books_of_many_numbers(chance)),
+        15 | 35 => ("members", books_of_many_members(chance)),
         10 => {
             let count = chance.pick(&[99, 100, 101, 101, 200]);
             ("many", many_books(chance, count))
         }
         place if place % 5 == 2 => ("residual", books_at_the_residuals_limit(chance)),
+        place if place % 5 == 3 => ("group", books_at_a_groups_limit(chance)),
+        place if place % 5 == 1 => ("groups", books_of_groups(chance)),
         place if place % 5 == 4 => ("chosen", chosen_books(chance)),
         _ => ("whole", whole_books(chance)),
     };

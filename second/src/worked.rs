@@ -683,6 +683,208 @@ fn readings_out_of_range() -> Book {
     book
 }
 
+/// The unit in a group; all but the group's first hold no default.
+fn in_group(group: i128, unit: Unit) -> Unit {
+    Unit { group, ..unit }
+}
+
+/// Region 0 needs raise, at 20,000 throughout, and regions 1 and 2 too.
+fn groups_base(interval: i128) -> Book {
+    let mut book = base_book();
+    book.settings.interval = interval;
+    for region in 0..3 {
+        book.frequencies[region].frequencies = [49_980_000; POINTS];
+        book.frequencies[region].generation = 100_000;
+        book.frequencies[region].defaults = [-7_000_000, -8_000_000, -500, 0, 0, 0];
+    }
+    book
+}
+
+fn groups_beside() -> Book {
+    let mut book = groups_base(120);
+    book.units = vec![
+        with_defaults(in_group(3, unit(1, 0, false, 100, 100, |_| 131)), [0, 0, -700, 0, 0, 0]),
+        in_group(3, unit(2, 0, true, 50, 50, |_| 81)),
+        with_defaults(in_group(5, unit(4, 0, false, 10, 85, |t| 17 + t)), [0, 0, -300, 0, 0, 0]),
+        in_group(5, unit(5, 0, true, 20, 20, |t| 20 + 2 * (t % 3))),
+        in_group(5, unit(6, 0, false, 0, 0, |_| -9)),
+        with_defaults(unit(9, 0, false, 0, 0, |_| -13), [0, 0, -110, 0, 0, 0]),
+        with_defaults(in_group(4, unit(10, 1, false, 0, 0, |_| 5)), [0, 0, -90, 0, 0, 0]),
+        in_group(4, unit(11, 1, false, 0, 0, |_| 6)),
+    ];
+    book.requirements = vec![
+        requirement(1, 0b00001, Direction::Raise, 1_200, 1_001, 1_000, 333),
+        requirement(2, 0b00011, Direction::Raise, 1_207, 1_003, 1_000, 777),
+    ];
+    book
+}
+
+fn groups_bad() -> Book {
+    let mut book = groups_base(121);
+    book.settings.bad_unit_percent = 50;
+    let three = |region: usize, first: i128, bad: usize| {
+        let mut units = vec![
+            with_defaults(unit(first, region, false, 0, 0, |_| 30), [-1_000_000, -2_000_000, -40, 0, 0, 0]),
+            unit(first + 1, region, true, 0, 0, |_| 11),
+            unit(first + 2, region, false, 0, 0, |_| 7),
+        ];
+        units[bad] = with_bad_readings(units[bad].clone(), 8, 8);
+        units.into_iter().map(move |unit| in_group(1 + region as i128, unit)).collect::<Vec<_>>()
+    };
+    book.units = three(0, 1, 0);
+    book.units.push(with_defaults(unit(4, 0, false, 0, 0, |_| 13), [0, 0, -20, 0, 0, 0]));
+    book.units.extend(three(1, 10, 1));
+    book.units.extend(three(2, 20, 2));
+    book.units.push(with_defaults(unit(30, 2, true, 0, 0, |_| 17), [0, 0, -30, 0, 0, 0]));
+    book.requirements = vec![
+        requirement(1, 0b00001, Direction::Raise, 9_000, 1_001, 1_000, 333),
+        requirement(2, 0b00010, Direction::Raise, 9_000, 1_001, 1_000, 333),
+        requirement(3, 0b00100, Direction::Raise, 9_000, 1_001, 1_000, 333),
+        requirement(4, 0b00101, Direction::Raise, 9_000, 1_003, 1_000, 500),
+        requirement(5, 0b00111, Direction::Raise, 9_000, 1_003, 1_000, 500),
+    ];
+    book
+}
+
+/// `groups_beside` with another group number, region or default at one unit.
+fn groups_refused(change: fn(&mut [Unit])) -> Book {
+    let mut book = groups_beside();
+    change(&mut book.units);
+    book
+}
+
+/// Half of the members may be bad, and of a region's points so many.
+fn half_bad(bad_frequency_limit: i128, interval: i128) -> Book {
+    let settings = Settings { bad_frequency_limit, bad_unit_percent: 50, interval, ..base_book().settings };
+    Book { settings, ..base_book() }
+}
+
+/// A region with generation and defaults, good at these points alone.
+fn region_of_groups(
+    book: &mut Book,
+    region: usize,
+    generation: i128,
+    defaults: [i128; 6],
+    points: &[(usize, i128)],
+) {
+    book.frequencies[region].generation = generation;
+    book.frequencies[region].defaults = defaults;
+    good_only_at(book, region, points);
+}
+
+/// Groups beside units without one: units 2 and 3 move alike, one a generator and one a load.
+fn groups() -> Book {
+    let mut book = half_bad(73, 115);
+    region_of_groups(&mut book, 0, 3, [0, 0, -4, 0, 0, -6], &[(1, 49_980_000), (41, 50_020_000)]);
+    region_of_groups(&mut book, 1, 1, [0, 0, -9, 0, 0, -2], &[(1, 49_970_000), (31, 50_030_000)]);
+    let away = |t: i128| if t <= 20 { 100 } else { 160 };
+    book.units = vec![
+        with_defaults(unit(1, 0, false, 0, 0, |t| if t <= 40 { 10 } else { -13 }), [0, 0, -5, 0, 0, -7]),
+        in_group(
+            3,
+            with_defaults(unit(2, 0, false, 1_000, 1_075, |t| 1_000 + t + away(t)), [0, 0, -11, 0, 0, -3]),
+        ),
+        in_group(3, unit(3, 0, true, 500, 500, |t| 500 + away(t))),
+        in_group(1, with_defaults(unit(4, 0, true, 0, 0, |_| -30), [0, 0, -8, 0, 0, -10])),
+        in_group(1, unit(5, 0, false, 0, 0, |_| -50)),
+        with_defaults(unit(6, 0, true, 0, 0, |_| 5), [0, 0, -1, 0, 0, -1]),
+        in_group(65_535, with_defaults(unit(7, 1, false, 0, 0, |_| -8), [0, 0, -6, 0, 0, -12])),
+        in_group(65_535, unit(8, 1, true, 0, 0, |_| -3)),
+        in_group(65_535, unit(9, 1, false, 0, 0, |_| -2)),
+    ];
+    book.requirements = vec![
+        requirement(1, 0b00001, Direction::Raise, 9_000, 1_000, 400, 100),
+        requirement(2, 0b00001, Direction::Lower, 9_000, 1_000, 400, 100),
+        requirement(3, 0b00011, Direction::Raise, 6_000, 777, 10, 7),
+    ];
+    book
+}
+
+/// A group of two bad units and a good unit; a group with a bad unit in its middle; of three groups the first with a bad primary, the second
+/// with a bad unit at its end.
+fn bad_groups_units() -> Vec<Unit> {
+    let bad_at = |t: usize, unit: Unit| with_bad_readings(unit, t, t);
+    vec![
+        in_group(
+            2,
+            with_defaults(
+                bad_at(1, unit(11, 1, false, 0, 0, |_| 90)),
+                [-375_000_000, -750_000_000, -3, 0, 0, 0],
+            ),
+        ),
+        in_group(2, bad_at(75, unit(12, 1, true, 0, 0, |_| 80))),
+        with_defaults(unit(13, 1, false, 0, 0, |_| 40), [-1, -2, -8, 0, 0, 0]),
+        in_group(
+            500,
+            with_defaults(unit(21, 2, false, 0, 0, |_| 70), [-225_000_000, -450_000_000, -13, 0, 0, 0]),
+        ),
+        in_group(500, unit(22, 2, true, 0, 0, |_| 60)),
+        in_group(500, bad_at(40, unit(23, 2, false, 0, 0, |_| 50))),
+        in_group(500, unit(24, 2, true, 0, 0, |_| 20)),
+        in_group(
+            65_535,
+            with_defaults(
+                bad_at(1, unit(31, 3, false, 0, 0, |_| 25)),
+                [-150_000_000, -50_000_000, -21, -180_000_000, -60_000_000, -9],
+            ),
+        ),
+        in_group(65_535, unit(32, 3, false, 0, 0, |_| 35)),
+        in_group(
+            1,
+            with_defaults(
+                unit(33, 3, true, 0, 0, |_| 45),
+                [-120_000_000, -30_000_000, -17, -240_000_000, -90_000_000, -19],
+            ),
+        ),
+        in_group(1, bad_at(75, unit(34, 3, false, 0, 0, |_| 55))),
+        in_group(256, with_defaults(unit(35, 3, true, 100, 100, |_| 102), [-7, -8, -1, -9, -10, -2])),
+        in_group(256, unit(36, 3, false, 0, 0, |_| 14)),
+    ]
+}
+
+/// Groups with a bad unit at each place, at percent 50.
+fn bad_groups() -> Book {
+    let mut book = half_bad(74, 116);
+    region_of_groups(&mut book, 1, 10, [-100, -200, -4, 0, 0, 0], &[(1, 49_980_000)]);
+    region_of_groups(&mut book, 2, 20, [-600_000_000, -900_000_000, -5, 0, 0, 0], &[(1, 49_970_000)]);
+    region_of_groups(
+        &mut book,
+        3,
+        5,
+        [0, 0, -6, -300_000_000, -400_000_000, -7],
+        &[(1, 49_980_000), (41, 50_020_000)],
+    );
+    book.units = bad_groups_units();
+    book.requirements = vec![
+        requirement(1, 0b00010, Direction::Raise, 9_000, 1_000, 400, 100),
+        requirement(2, 0b00110, Direction::Raise, 9_000, 1_000, 400, 100),
+        requirement(3, 0b00100, Direction::Raise, 9_000, 1_000, 400, 100),
+        requirement(4, 0b01000, Direction::Raise, 9_000, 1_000, 400, 300),
+        requirement(5, 0b01000, Direction::Lower, 9_000, 1_000, 400, 300),
+    ];
+    book
+}
+
+fn group_of_13() -> Book {
+    let mut book = half_bad(74, 117);
+    region_of_groups(&mut book, 4, 1, [0, 0, 0, -3, -4, -7], &[(1, 50_020_000)]);
+    let bad = with_bad_readings(unit(5, 4, false, 0, 0, |_| 9), 38, 38);
+    book.units = vec![with_defaults(bad, [0, 0, 0, -50_000_000, -70_000_000, -3])];
+    book.units
+        .extend((1..=13).map(|nth| in_group(13, unit(100 + nth, 4, nth % 3 == 0, 0, 0, |_| -nth * nth))));
+    book.units[1].defaults = [0, 0, 0, -1, -2, -5];
+    book.requirements = vec![requirement(1, 0b10000, Direction::Lower, 12_000, 1_001, 10, 3)];
+    book
+}
+
+/// Document 01's book, each of its units the one unit of a group.
+fn groups_of_one() -> Book {
+    let mut book = listing_book();
+    book.units[0].group = 1;
+    book.units[1].group = 65_535;
+    book
+}
+
 pub fn all() -> Vec<Worked> {
     vec![
         Worked {
@@ -881,6 +1083,77 @@ pub fn all() -> Vec<Worked> {
             shows: "The same book, with the readings at t 9 and t 75 of its eleventh unit out of range, and the first one of\n\
                     its twelfth: refused 84 11 9.",
             book: readings_out_of_range(),
+            behind: &[],
+        },
+        Worked {
+            name: "groups_beside",
+            shows: "Units that are dispatched as a group. Units 1 and 2 are group 3, a generator and a load that cancel;\n\
+                    units 4 to 6 are group 5 next to it, no unit has group 4 between them; unit 9 is ungrouped; units 10 and 11,\n\
+                    the last of the roster, are group 4 in region 1. RCR takes a group's deviation as one.",
+            book: groups_beside(),
+            behind: &[],
+        },
+        Worked {
+            name: "groups_bad",
+            shows: "One bad unit makes its group bad: the first of group 1, the middle one of group 2, the last of group 3.\n\
+                    Requirements 1 and 3: one bad of two members, at percent 50, keeps RCR, though it is one of four units.\n\
+                    Requirement 2: region 1 has no good member, though it has good units. Requirement 4: two of four members.\n\
+                    Requirement 5: three of five members make RCR 0, though three of eleven units are bad.",
+            book: groups_bad(),
+            behind: &[],
+        },
+        Worked {
+            name: "group_returns",
+            shows: "The first of these books, its sixth unit in group 3 again: refused 16 6 0.",
+            book: groups_refused(|units| units[5].group = 3),
+            behind: &[],
+        },
+        Worked {
+            name: "group_in_two_regions",
+            shows: "The same book, its fifth unit in region 1: refused 16 5 0.",
+            book: groups_refused(|units| units[4].region = 1),
+            behind: &[],
+        },
+        Worked {
+            name: "group_with_a_default",
+            shows: "The same book, its eighth unit with a default, though it is not the group's first: refused 16 8 0.",
+            book: groups_refused(|units| units[7].defaults[5] = -1),
+            behind: &[],
+        },
+        Worked {
+            name: "groups",
+            shows: "Groups 3 and 1 side by side between two units without one, and the largest group number at the end of\n\
+                    the roster, in a region of its own. Unit 2 is a generator and unit 3 a load, and they cancel at each point;\n\
+                    the primary of group 1, unit 4, is a load, unit 5 a generator. Requirement 3: both regions.",
+            book: groups(),
+            behind: &[],
+        },
+        Worked {
+            name: "ungrouped",
+            shows: "The units of the book groups, none of them in a group: each is a member of its own, and RCR is larger.",
+            book: rules::without_groups(&groups()),
+            behind: &[],
+        },
+        Worked {
+            name: "bad_groups",
+            shows: "Percent 50. Region 1: a group of two bad units and a good unit; one bad of two members keeps RCR, though\n\
+                    two of three units are bad. Region 2: a group with a bad unit in its middle and no other member, so that\n\
+                    there is no good member; with region 1 two bad of three members make RCR 0, though three of seven units\n\
+                    are bad. Region 3: the first unit of a group is bad, the last of the next one, and the group at the end of\n\
+                    the roster is good, a load and a generator.",
+            book: bad_groups(),
+            behind: &[],
+        },
+        Worked {
+            name: "group_of_13",
+            shows: "A group of thirteen units at the end of the roster, every third of them a load, and a bad unit before it.",
+            book: group_of_13(),
+            behind: &[],
+        },
+        Worked {
+            name: "groups_of_one",
+            shows: "Document 01's listing again: a group of one is its unit, with the first group number and with the last.",
+            book: groups_of_one(),
             behind: &[],
         },
     ]

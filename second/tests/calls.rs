@@ -420,6 +420,7 @@ fn every_limit_of_a_lent_number_is_tried_on_both_sides() {
     let unread = [
         ("frequency", vec!["a measure", "a sum"]),
         ("unit", vec!["a measure elsewhere", "a sum elsewhere", "a figure", "numbers", "homes", "rows"]),
+        ("unit", vec!["groups", "deviations"]),
         ("answer", vec!["a home past the last unit", "a row past the last unit"]),
         ("member", vec!["another home", "reliability the other way", "reliability elsewhere"]),
         ("member", vec!["another figure", "a number"]),
@@ -507,8 +508,8 @@ fn a_refusal_changes_nothing_and_each_is_reached() {
         ("contents", vec![0, 1, 2, 3, 5]),
         ("settings", vec![0, 1, 6, 11, 12]),
         ("frequency", vec![0, 1, 71, 72, 73, 74, 11, 12]),
-        ("unit", vec![0, 1, 81, 82, 83, 84, 9, 11, 12]),
-        ("units", vec![0, 1, 81, 82, 83, 84, 9, 11, 12]),
+        ("unit", vec![0, 1, 81, 82, 83, 84, 9, 16, 11, 12]),
+        ("units", vec![0, 1, 81, 82, 83, 84, 9, 16, 11, 12]),
         ("requirement", vec![0, 1, 4, 10, 11, 12]),
         ("answer", vec![0, 1, 10, 11, 12]),
         ("member", vec![0, 11, 12]),
@@ -627,4 +628,132 @@ fn scripts_have_dropped_points() {
 fn a_script_is_named_by_its_seed() {
     assert_eq!(script(500, 9), script(500, 9));
     assert_ne!(script(500, 9), script(500, 10));
+}
+
+/// A unit that joins a group: every lent number of the group on both sides of its limit, and every fault, by single calls and by runs.
+#[test]
+fn every_limit_of_a_group_is_tried_on_both_sides() {
+    for seed in 0..20 {
+        let met = script_and_met(0, seed).1;
+        for kind in ["unit", "units"] {
+            let is = |what: &str, reply: u8| assert_met(&met, &format!("{kind}: {what}"), reply);
+            is("joining, the home before is its own", 0);
+            is("joining, the home before is another region's", 16);
+            is("joining, the home before is none", 11);
+            for what in ["a performance before", "a default before", "a deviation"] {
+                is(&format!("joining, {what} at a limit"), 0);
+                is(&format!("joining, {what} past a limit"), 11);
+            }
+            let unread =
+                ["a number before", "a home further before", "a row further before", "the first group"];
+            for what in unread.into_iter().chain(["its own home", "its own group"]) {
+                is(&format!("joining, {what} of any size"), 0);
+            }
+            let wrong = [
+                ("no such region", 81),
+                ("a start out of range", 81),
+                ("a default above 0", 82),
+                ("a spare bit", 83),
+                ("a reading out of range", 84),
+                ("a number that does not rise", 9),
+                ("another region", 16),
+                ("a default", 16),
+            ];
+            for (what, number) in wrong {
+                is(&format!("joining with {what}"), number);
+            }
+            is("joining wrongly, a number off", 11);
+            is("a new group behind a group", 0);
+            is("no group behind a group", 0);
+            is("a group that was left behind a group", 16);
+            is("a new group, others were left", 0);
+            is("no group, others were left", 0);
+            is("a group that was left, others were too", 16);
+        }
+        assert_met(&met, "unit: joining, a number off, 71 bytes", 1);
+        assert_met(&met, "unit: joining, a number off, 72 bytes", 11);
+        assert_met(&met, "unit: joining, 72 bytes", 1);
+        assert_met(&met, "answer: a performance of a group at a limit", 0);
+        assert_met(&met, "answer: a performance of a group past a limit", 11);
+        assert_met(&met, "answer: a default of a group at a limit", 0);
+        assert_met(&met, "answer: a default of a group past a limit", 11);
+        assert_met(&met, "member: a row of a group", 0);
+    }
+}
+
+/// What each unit of a group leaves, worked by hand: a generator 7,500 above, a load 2,250 below, one with a bad reading, and an ungrouped
+/// unit after them.
+#[test]
+fn what_a_group_leaves() {
+    let mut book = second::worked::listing_book();
+    book.units[1].defaults = [0; 6];
+    book.units.push(Unit { number: 5, ..second::write::base_unit(0, 0) });
+    book.units[2].readings = [10; POINTS];
+    (book.units[2].good[74], book.units[2].readings[74]) = (false, 0);
+    book.units.iter_mut().for_each(|unit| unit.group = 9);
+    book.units.push(Unit { readings: [-4; POINTS], ..second::write::base_unit(7, 0) });
+    let mut lent = lent_for(4);
+    lent.call("contents", &to_bytes(&book)).unwrap();
+    let records = records_of(&book);
+    for (kind, bytes) in &records[..6] {
+        assert_eq!(lent.call(kind, bytes), Ok(()));
+    }
+    let list = |lent: &Lent, name: &str, from: usize, count: usize| {
+        lent.list(name).numbers[from..from + count].to_vec()
+    };
+    let defaults = [0, 0, -1_000, 0, 0, 0];
+    let row = |raise: i128| [&[raise, 0][..], &defaults].concat();
+    // Sums above and below, summed deviations, homes, numbers, groups after each unit.
+    let worth = 20_000 * 75;
+    let after = [
+        ([7_500, 0], [7_500, 7_500], [1, 77, 77, 77], [1, 77, 77, 77], [9, 77, 77, 77], 7_500 * worth),
+        ([5_250, 0], [5_250, 5_250], [10, 1, 77, 77], [1, 1, 77, 77], [9, 9, 77, 77], 5_250 * worth),
+        (
+            [0, 0],
+            [6_000, 5_250],
+            [10, 10, 0, 77],
+            [1, 1, 1, 77],
+            [9, 9, 9, 77],
+            5_250 * worth + 20_000 * 74 * 750,
+        ),
+    ];
+    for (place, (sums, deviations, homes, numbers, groups, raise)) in after.into_iter().enumerate() {
+        // A record that is refused leaves all of it.
+        let before = lent.clone();
+        // Another region is the primary's own choice.
+        let wrong = [(12, 1, 82), (69, 0x0F, 83), (2, 1, 16)];
+        for (at, value, number) in wrong.into_iter().filter(|&(at, ..)| place > 0 || at != 2) {
+            let mut record = records[6 + place].1.clone();
+            record[at] = value;
+            let refusal = lent.call("unit", &record);
+            assert_eq!(refusal, Err(Refusal { number, place: place + 1, t: 0 }));
+            assert_eq!(lent, before);
+        }
+        assert_eq!(lent.call("unit", &records[6 + place].1), Ok(()));
+        assert_eq!(list(&lent, "sums", 0, 75), [sums[0]; 75], "{place}");
+        assert_eq!(list(&lent, "sums", 75, 75), [sums[1]; 75], "{place}");
+        assert_eq!(list(&lent, "deviations", 0, 74), [deviations[0]; 74], "{place}");
+        assert_eq!(list(&lent, "deviations", 74, 2), [deviations[1], 77], "{place}");
+        assert_eq!(list(&lent, "homes", 0, 4), homes, "{place}");
+        assert_eq!(list(&lent, "numbers", 0, 4), numbers, "{place}");
+        assert_eq!(list(&lent, "groups", 0, 4), groups, "{place}");
+        assert_eq!(list(&lent, "rows", 8 * place, 8), row(raise), "{place}");
+        assert_eq!(list(&lent, "rows", 8 * place + 8, 1), [77], "{place}");
+    }
+    let group = list(&lent, "deviations", 0, 75);
+    assert_eq!(lent.call("unit", &records[9].1), Ok(()));
+    assert_eq!(list(&lent, "deviations", 0, 75), group, "an ungrouped unit leaves them");
+    assert_eq!(list(&lent, "homes", 0, 5), [10, 10, 0, 1, 77]);
+    assert_eq!(list(&lent, "numbers", 0, 5), [1, 1, 1, 7, 77]);
+    assert_eq!(list(&lent, "groups", 0, 5), [9, 9, 9, 0, 77]);
+    assert_eq!([list(&lent, "sums", 0, 75), list(&lent, "sums", 75, 75)], [[0; 75], [-300; 75]]);
+    // Rows 0 and 1 are passed over, row 2 is the bad group, row 3 the ungrouped unit.
+    for (row, words) in [(0, [0, 0, 0]), (1, [0, 0, 0]), (2, [1, 1, 2]), (3, [1, 7, 0])] {
+        assert_eq!(lent.call("member", &[row, 0, 1].map(u32::to_le_bytes).concat()), Ok(()));
+        assert_eq!(list(&lent, "member", 0, 4), [&words[..], &[77]].concat(), "{row}");
+    }
+    assert_eq!(lent.call("answer", &records[10].1), Ok(()));
+    // Two members and the residual; one bad of two is over 20 percent.
+    assert_eq!(list(&lent, "reply", 0, 2), [3, 0]);
+    assert_eq!(list(&lent, "performances", 0, 4), [0, -300 * worth, 300 * worth, 77]);
 }

@@ -348,7 +348,7 @@ fn notice(book: &Book, settled: &[Settled], seen: &mut BTreeMap<String, u32>) {
             (0..POINTS).any(|p| views[region].dropped[p] && views[region].measures[p] * sign > 0)
         };
         let live =
-            |region: usize| views[region].reliable(requirement.direction) && views[region].good_units > 0;
+            |region: usize| views[region].reliable(requirement.direction) && views[region].good_members > 0;
         let mixed = of_set().any(|r| live(r) && drops(r))
             && of_set().any(|r| live(r) && views[r].dropped == [false; POINTS]);
         note("one region with, one without", sign, mixed);

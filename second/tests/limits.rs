@@ -5,7 +5,7 @@ mod common;
 use common::{at, holds, refused};
 use second::book::FREQUENCIES_AT;
 use second::quantities::POINTS;
-use second::sweep::{count_trials, far_trials, limit_trials, put, quality_trials, small_book};
+use second::sweep::{count_trials, far_trials, group_trials, limit_trials, put, quality_trials, small_book};
 use second::write::to_bytes;
 
 fn every_point() -> Vec<usize> {
@@ -34,6 +34,14 @@ fn the_far_places_of_the_largest_book() {
     holds(&far_trials());
 }
 
+#[test]
+fn groups_on_both_sides() {
+    let trials = group_trials();
+    holds(&trials);
+    assert!(trials.iter().filter(|trial| trial.refusal.is_some()).count() > 20);
+    assert!(trials.iter().filter(|trial| trial.refusal.is_none()).count() > 15);
+}
+
 /// The places of a few fields, counted by hand from document 01.
 #[test]
 fn places_counted_by_hand() {
@@ -56,7 +64,8 @@ fn places_counted_by_hand() {
         (unit + 8, 4, 100_001, at(81, 1, 0)),                  // end
         (unit + 52, 8, 1, at(82, 1, 0)),                       // sixth default
         (unit + 69, 1, 255, at(83, 1, 0)),                     // the tenth quality byte
-        (unit + 71, 1, 1, at(83, 1, 0)),                       // second zero byte
+        (unit + 70, 2, 65_535, None),                          // group number
+        (unit + 372 + 70, 2, 258, None),                       // of the second
         (unit + 368, 4, 100_001, at(84, 1, 75)),               // 75th reading
         (unit + 4 * 372 + 72, 4, 100_001, at(84, 5, 1)),       // first reading of the fifth
         (requirement + 2, 1, 32, at(10, 1, 0)),                // region set

@@ -86,8 +86,8 @@ fn notice(book: &Book, settled: &[Settled], seen: &mut BTreeMap<&'static str, u3
         note("measure 1 kept", view.measures[70..].iter().all(|&m| m == 1));
         note("measure -1 kept", view.measures[70..].iter().all(|&m| m == -1));
         note("measure at the limit", view.measures.iter().any(|&m| m.abs() == MEASURE_LIMIT));
-        note("region without units", view.units == 0);
-        note("region without a good unit", view.units > 0 && view.good_units == 0);
+        note("region without units", view.members == 0);
+        note("region without a good unit", view.members > 0 && view.good_members == 0);
         note("reliable both ways", view.reliable_raise && view.reliable_lower);
     }
     for unit in &book.units {

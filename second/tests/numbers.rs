@@ -18,7 +18,7 @@ use second::week_script::write_script;
 use second::write::to_bytes;
 
 /// Without 13, which request R-10 took away, and 7 and 8, which request R-1 split: none of them is given again.
-const NUMBERS: [u8; 20] = [1, 2, 3, 4, 5, 6, 71, 72, 73, 74, 81, 82, 83, 84, 9, 10, 11, 12, 14, 17];
+const NUMBERS: [u8; 21] = [1, 2, 3, 4, 5, 6, 71, 72, 73, 74, 81, 82, 83, 84, 9, 10, 11, 12, 14, 16, 17];
 
 /// The number of a line `refused N ...`.
 fn refused(answer: &str) -> Option<u8> {

@@ -23,7 +23,7 @@ fn of_two_wrong_fields_the_earlier_is_named() {
     holds(&trials);
     let named: BTreeSet<u8> =
         trials.iter().flat_map(|trial| trial.refusal).map(|refusal| refusal.number).collect();
-    assert_eq!(named, BTreeSet::from([2, 3, 5, 6, 71, 72, 73, 74, 81, 82, 83, 84, 9, 10]));
+    assert_eq!(named, BTreeSet::from([2, 3, 5, 6, 71, 72, 73, 74, 81, 82, 83, 84, 9, 16, 10]));
 }
 
 #[test]
@@ -53,7 +53,7 @@ fn the_number_of_a_unit_is_tested_last() {
     let faults = [
         (unit + 2, 1, 5, at(81, 2, 0)),
         (unit + 12, 8, 1, at(82, 2, 0)),
-        (unit + 70, 1, 1, at(83, 2, 0)),
+        (unit + 69, 1, 0x0F, at(83, 2, 0)),
         (unit + 368, 4, 100_001, at(84, 2, 75)),
     ];
     for (place, width, value, refusal) in faults {
@@ -65,7 +65,7 @@ fn the_number_of_a_unit_is_tested_last() {
     }
 }
 
-const NUMBERS: [u8; 16] = [1, 2, 3, 4, 5, 6, 71, 72, 73, 74, 81, 82, 83, 84, 9, 10];
+const NUMBERS: [u8; 17] = [1, 2, 3, 4, 5, 6, 71, 72, 73, 74, 81, 82, 83, 84, 9, 16, 10];
 
 /// What so many damaged books with few units are refused with.
 fn refusals_of_damage(seeds: u64) -> Vec<Option<Refusal>> {
@@ -94,9 +94,9 @@ fn damage_reaches_every_refusal() {
 fn damage_reaches_every_t_and_many_places() {
     let all: Vec<Refusal> = refusals_of_damage(8_000).into_iter().flatten().collect();
     let of = |number: u8| all.iter().filter(move |refusal| refusal.number == number);
-    for number in [1, 4, 71, 72, 73, 74, 81, 82, 83, 84, 9, 10] {
+    for number in [1, 4, 71, 72, 73, 74, 81, 82, 83, 84, 9, 16, 10] {
         let places: BTreeSet<usize> = of(number).map(|refusal| refusal.place).collect();
-        let first = if number == 9 { 2 } else { 1 };
+        let first = if [9, 16].contains(&number) { 2 } else { 1 };
         assert!((first..=5).all(|place| places.contains(&place)), "{number}: {places:?}");
     }
     for number in [74, 84] {

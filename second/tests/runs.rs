@@ -153,7 +153,7 @@ fn refused_at_place_3_of_5() {
         ((3, 2, 1, 5), err(81, 3, 0)),
         ((3, 8, 4, 100_001), err(81, 3, 0)),
         ((3, 52, 8, 1), err(82, 3, 0)),
-        ((3, 71, 1, 1), err(83, 3, 0)),
+        ((3, 69, 1, 0x0F), err(83, 3, 0)),
         ((3, 72, 4, 100_001), err(84, 3, 1)),
         ((3, 368, 4, -100_001), err(84, 3, 75)),
         ((3, 0, 2, 2), err(9, 3, 0)),
@@ -182,8 +182,8 @@ fn refused_at_place_3_of_5() {
 fn a_run_counts_from_its_own_first() {
     let (before, run) = begun_small();
     let mut lent = one_at_a_time(&before, &run[..372 * 2]);
-    assert_eq!(lent.call("unit", &with(&run, &[(3, 70, 1, 1)])[372 * 2..]), err(83, 3, 0));
-    assert_eq!(lent.call("units", &with(&run, &[(3, 70, 1, 1)])[372 * 2..]), err(83, 1, 0));
+    assert_eq!(lent.call("unit", &with(&run, &[(3, 69, 1, 0x0F)])[372 * 2..]), err(83, 3, 0));
+    assert_eq!(lent.call("units", &with(&run, &[(3, 69, 1, 0x0F)])[372 * 2..]), err(83, 1, 0));
     assert_eq!(lent.call("units", &with(&run, &[(6, 76, 4, 100_001)])[372 * 2..]), err(84, 4, 2));
     assert_eq!(words_of(&lent)[2], 11);
     assert_eq!(lent.call("unit", &run[372 * 5..]), Ok(()));
@@ -286,7 +286,7 @@ fn scripts_have_every_length_and_every_place() {
         }
     }
     let every: BTreeSet<usize> = (1..=512).collect();
-    assert_eq!(places.keys().copied().collect::<Vec<_>>(), [1, 9, 11, 12, 81, 82, 83, 84]);
+    assert_eq!(places.keys().copied().collect::<Vec<_>>(), [1, 9, 11, 12, 16, 81, 82, 83, 84]);
     assert_eq!(places.remove(&1), Some(BTreeSet::from([0])));
     // Past the 512 that a book may announce.
     assert_eq!(places.get_mut(&11).map(|places| places.remove(&513)), Some(true));
@@ -330,7 +330,7 @@ fn random_runs() {
             met.entry(refusal.number).or_default().insert(refusal);
         }
     }
-    for number in [9, 11, 12, 81, 82, 83, 84] {
+    for number in [9, 11, 12, 16, 81, 82, 83, 84] {
         let places: BTreeSet<usize> = met[&number].iter().map(|refusal| refusal.place).collect();
         assert!(places.len() >= 5, "{number}: {places:?}");
     }

@@ -481,7 +481,7 @@ fn the_script_has_every_length_and_every_edge() {
 #[test]
 fn books_reach_every_answer() {
     let mut answers: BTreeMap<String, usize> = BTreeMap::new();
-    for nth in 0..2_000 {
+    for nth in 0..2_800 {
         *answers.entry(outcome_of(&sheet_of_a_book(3, nth).printed())).or_default() += 1;
     }
     for answer in [
@@ -504,6 +504,7 @@ fn books_reach_every_answer() {
         "refused 83",
         "refused 84",
         "refused 9",
+        "refused 16",
         "refused 10",
         "refused 12",
     ] {

@@ -6,12 +6,13 @@ mod common;
 use std::fs;
 use std::path::{Path, PathBuf};
 
-use common::refused;
+use common::{printed, refused};
 use second::book::{Book, Refusal, Requirement, Unit, CONTENTS_SIZE};
 use second::cents::{payment_pool, settle_book};
 use second::deviation::unit_deviations;
 use second::performance::{performance_over_all, region_views};
-use second::quantities::{Direction, FACTOR_ONE};
+use second::quantities::{Direction, FACTOR_ONE, POINTS, POWER_LIMIT};
+use second::roster::grouped;
 use second::rules::totals_and_weights;
 use second::share::{share, share_earlier_first};
 use second::sweep::put;
@@ -77,31 +78,113 @@ fn quoted(text: &str) -> String {
         .collect()
 }
 
+/// What the abbreviations of a type stand for, each up to the next blank line.
+fn abbreviations(text: &str, of: &str) -> Vec<(String, String)> {
+    text.split("\n\n")
+        .filter_map(|block| {
+            let (_, rest) = block.split_once("abbrev ")?;
+            let (name, rest) = rest.split_once(&format!(" : {of}\n"))?;
+            let name = name.trim_start_matches("pub ");
+            Some((name.to_string(), rest.strip_prefix(&format!("{name} ="))?.to_string()))
+        })
+        .collect()
+}
+
+/// A text with what its abbreviations stand for in their places.
+fn in_full(statement: &str, abbreviations: &[(String, String)]) -> String {
+    let word = |part: &str| part.trim_matches(['(', ')']).to_string();
+    let lines =
+        |part: &str| abbreviations.iter().find(|(name, _)| *name == word(part)).map(|(_, is)| is.as_str());
+    statement.split(' ').map(|part| lines(part.trim()).unwrap_or(part)).collect::<Vec<_>>().join(" ")
+}
+
+/// The book that a theorem of this name speaks of, as it is written there.
+fn term_of(name: &str) -> &str {
+    match name {
+        "listing" => "( paper-book 7 )",
+        "ungrouped" => "( ungrouped groups )",
+        _ => name,
+    }
+}
+
+/// The listing, and that the statement is of the book.
+fn listing_of(name: &str, statement: &str) -> String {
+    let settled = format!("settle ( book-bytes {} ) ≡ ", term_of(name));
+    assert!(words(statement).join(" ").starts_with(&settled), "{name}");
+    String::from_utf8(kept(name, "listing")).unwrap()
+}
+
+/// The lines of each requirement of a listing.
+fn by_requirement(listing: &str) -> Vec<String> {
+    listing.split("requirement ").skip(1).map(|lines| format!("requirement {lines}")).collect()
+}
+
+/// The theorems `lines 2 ≡ two-regions-lines` of a module, each the place of a requirement and its lines.
+fn lines_of_requirements(text: &str, abbreviations: &[(String, String)]) -> Vec<(usize, String)> {
+    let of = |(_, statement): (String, String)| {
+        let (place, lines) = statement.strip_prefix(" lines ")?.split_once(" ≡ ")?;
+        let lines = lines.lines().next().expect("its lines");
+        Some((number(place) as usize, quoted(&in_full(lines, abbreviations))))
+    };
+    declarations(text).into_iter().filter_map(of).collect()
+}
+
 #[test]
 fn listings_are_those_of_the_second_program() {
-    let mut seen = vec!["listing".to_string()];
+    let mut seen = vec!["listing".to_string(), "groups_of_one".to_string()];
     for module in modules("worked") {
+        let text = theorems("worked", &module);
+        let abbreviations = abbreviations(&text, "List ℕ");
         let mut lines = String::new();
-        for (name, statement) in declarations(&theorems("worked", &module)) {
+        for (name, statement) in declarations(&text) {
             let Some(book) = name.strip_suffix("-listing") else {
                 lines += &quoted(&statement);
                 continue;
             };
-            let listing = String::from_utf8(kept(book, "listing")).unwrap();
-            assert!(statement.contains(&format!("settle (book-bytes {book})\n")), "{name}");
-            assert_eq!(quoted(&statement), listing, "{name}");
+            let listing = listing_of(book, &statement);
+            let says = statement.split("\nunfolding").next().expect("a statement");
+            assert_eq!(quoted(&in_full(says, &abbreviations)), listing, "{name}");
             assert!(lines.is_empty() || listing.ends_with(&("\n".to_string() + &lines)), "{name}");
             seen.push(book.replace('-', "_"));
         }
     }
-    let paper = theorems("paper", "PaperListing");
-    let lines =
-        paper.split("paper-lines =").nth(1).and_then(|rest| rest.split("\n\n").next()).expect("lines");
-    assert_eq!(format!("interval 7\n{}", quoted(lines)).as_bytes(), kept("listing", "listing"));
     let mut names = stated();
     names.sort_unstable();
     seen.sort_unstable();
     assert_eq!(seen, names);
+}
+
+#[test]
+fn lines_of_requirements_are_those_of_the_second_program() {
+    for (module, book) in
+        [("GroupListing", "groups"), ("UngroupedListing", "ungrouped"), ("BadGroups", "bad-groups")]
+    {
+        let text = theorems("worked", module);
+        let listing = String::from_utf8(kept(book, "listing")).unwrap();
+        let wanted: Vec<(usize, String)> = by_requirement(&listing).into_iter().enumerate().collect();
+        assert_eq!(lines_of_requirements(&text, &abbreviations(&text, "List ℕ")), wanted, "{module}");
+        let lines = format!(
+            "answer-lines ( answer {0} ( getD ( {0} .requirements ) i requirement ) )",
+            term_of(book)
+        );
+        assert!(words(&text).join(" ").contains(&format!("lines i = {lines}")), "{module}");
+    }
+}
+
+/// The paper's listing, of its own book and of the one whose units are groups of one.
+#[test]
+fn listings_of_the_paper_are_those_of_the_second_program() {
+    let paper = abbreviations(&theorems("paper", "PaperListing"), "List ℕ");
+    let listing = "text \"interval 7\\n\" ++ paper-lines";
+    let lines = quoted(&in_full(listing, &paper));
+    let of = |module: &str| words(&theorems("paper", module)).join(" ");
+    for (module, name) in [("PaperListing", "listing"), ("GroupsOfOne", "groups-of-one")] {
+        let stated = format!("pub in-full : settle ( book-bytes {} ) ≡ {listing} ", term_of(name));
+        assert!(of(module).contains(&stated), "{module}");
+        assert_eq!(lines.as_bytes(), kept(name, "listing"), "{module}");
+    }
+    let same = "as-without : settle ( book-bytes groups-of-one ) ≡ settle ( book-bytes ( paper-book 7 ) ) ";
+    assert!(of("GroupsOfOne").contains(same));
 }
 
 /// The worked books whose listing is a theorem: all but those on which `settle` alone is run, and the guide's table 15, of which the
@@ -109,8 +192,13 @@ fn listings_are_those_of_the_second_program() {
 fn stated() -> Vec<&'static str> {
     const RUN_ALONE: [&str; 5] =
         ["byte_behind", "number_not_rising", "readings_out_of_range", "table_15", "thirteen_units"];
-    worked::all().iter().map(|worked| worked.name).filter(|name| !RUN_ALONE.contains(name)).collect()
+    let is_run_alone = |name: &&str| RUN_ALONE.contains(name) || OF_GROUPS.contains(name);
+    worked::all().iter().map(|worked| worked.name).filter(|name| !is_run_alone(name)).collect()
 }
+
+/// The worked books of groups (request R-5) that are run and compared, without a theorem.
+const OF_GROUPS: [&str; 5] =
+    ["groups_beside", "groups_bad", "group_returns", "group_in_two_regions", "group_with_a_default"];
 
 /// The number that the bytes hold, the lowest first, modulo 2^61 - 1.
 fn sum_of(bytes: &[u8]) -> i128 {
@@ -125,8 +213,7 @@ fn bytes_are_those_that_the_second_program_is_given() {
         let all = words(&statement);
         let says = all.iter().position(|word| word == "unfolding").expect("a theorem by computing");
         let bytes = kept(book, "book");
-        let term = if book == "listing" { "( paper-book 7 )" } else { book };
-        assert_eq!(all[..says - 2].join(" "), format!("Written {term}"));
+        assert_eq!(all[..says - 2].join(" "), format!("Written {}", term_of(book)));
         assert_eq!(number(&all[says - 2]), bytes.len() as i128, "{name}");
         assert_eq!(number(&all[says - 1]), sum_of(&bytes), "{name}");
         seen += 1;
@@ -203,13 +290,17 @@ fn performances_of_table_15_are_those_of_the_second_program() {
 /// A change of a table: the place, the width and the value of a field.
 type Change = (usize, usize, i128);
 
-/// The changes up to the end of their list, as `with 56 2 0 ∷ below 76 4 5_000_001 ∷ []`.
-fn changes(mut words: &[String]) -> Vec<Change> {
+/// The changes up to the end of their list, as `with 56 2 0 ∷ below 76 4 5_000_001 ∷ []`, or to a list that has a name.
+fn changes(mut words: &[String], named: &[(String, Vec<Change>)]) -> Vec<Change> {
     let mut all = Vec::new();
     loop {
         match words {
             [open, rest @ ..] if open == "(" || open == "∷" => words = rest,
             [end, ..] if end == "[]" => return all,
+            [end, ..] if named.iter().any(|(name, _)| name == end) => {
+                all.extend(named.iter().filter(|(name, _)| name == end).flat_map(|(_, list)| list));
+                return all;
+            }
             [kind, place, width, value, rest @ ..] => {
                 let sign = if kind == "below" { -1 } else { 1 };
                 assert!(kind == "with" || kind == "below", "{kind}");
@@ -221,11 +312,38 @@ fn changes(mut words: &[String]) -> Vec<Change> {
     }
 }
 
+/// The lists of changes that have a name, each by those before it.
+fn named_changes(text: &str) -> Vec<(String, Vec<Change>)> {
+    let mut named = Vec::new();
+    for (name, list) in abbreviations(text, "List Change") {
+        let list = changes(&words(&list), &named);
+        named.push((name, list));
+    }
+    named
+}
+
+/// The first of a list is made last.
 fn changed(size: usize, changes: &[Change]) -> Vec<u8> {
     let mut bytes = kept("every_field", "book");
     bytes.truncate(size);
-    changes.iter().for_each(|&(place, width, value)| put(&mut bytes, place, width, value));
+    for &(place, width, value) in changes.iter().rev() {
+        match value {
+            0 => bytes[place..place + width].fill(0),
+            _ => put(&mut bytes, place, width, value),
+        }
+    }
     bytes
+}
+
+/// The declarations of a module, and the fields of its records.
+fn declarations_and_fields(text: &str) -> Vec<(String, String)> {
+    let fields = |(_, statement): &(String, String)| -> Vec<(String, String)> {
+        let fields = statement.split("\n  pub ").skip(1).filter_map(|field| field.split_once(" :"));
+        fields.map(|(name, rest)| (name.to_string(), rest.to_string())).collect()
+    };
+    let mut all = declarations(text);
+    all.extend(all.iter().flat_map(fields).collect::<Vec<_>>());
+    all
 }
 
 /// Number, place and t of the refusal, all 0 where the book is taken.
@@ -271,7 +389,9 @@ fn refusals(all: &[String]) -> Vec<Told> {
 fn tables_of_changes_are_refused_so() {
     let (mut alone, mut together) = (0, 0);
     for module in modules("refused") {
-        for (name, statement) in declarations(&theorems("refused", &module)) {
+        let text = theorems("refused", &module);
+        let named = named_changes(&text);
+        for (name, statement) in declarations_and_fields(&text) {
             let all = words(&statement);
             let [kind, _start, size, rest @ ..] = &all[..] else { continue };
             if !["Alone", "Each", "Together"].contains(&kind.as_str()) {
@@ -281,19 +401,19 @@ fn tables_of_changes_are_refused_so() {
             let (list, expected) = match kind.as_str() {
                 "Together" => {
                     let (expected, list) = no(rest);
-                    assert_eq!(told(&changed(size, &changes(list))), expected, "{module} {name}");
+                    assert_eq!(told(&changed(size, &changes(list, &named))), expected, "{module} {name}");
                     together += 1;
                     continue;
                 }
                 "Alone" => {
                     let (expected, list) = no(rest);
-                    let list = changes(list);
+                    let list = changes(list, &named);
                     let same = vec![expected; list.len()];
                     (list, same)
                 }
                 _ => {
                     let end = rest.iter().position(|word| word == "[]").expect("the end of the changes");
-                    (changes(rest), refusals(&rest[end + 2..]))
+                    (changes(rest, &named), refusals(&rest[end + 2..]))
                 }
             };
             assert_eq!(list.len(), expected.len(), "{module} {name}");
@@ -303,7 +423,7 @@ fn tables_of_changes_are_refused_so() {
             }
         }
     }
-    assert!(alone > 160 && together > 22, "{alone} alone, {together} together");
+    assert!(alone > 160 && together > 45, "{alone} alone, {together} together");
 }
 
 #[test]
@@ -447,9 +567,10 @@ fn third_numbers_are_refused_so() {
     let all = words(&theorems("refused", "ThirdNumbers"));
     let mut seen = 0;
     for at in 0..all.len() {
-        let [body, _count, _place, _least, _, concat, _, map, _kind, rest @ ..] = &all[at..] else {
-            continue;
-        };
+        let [body, _count, _place, _least, rest @ ..] = &all[at..] else { continue };
+        // The units before, of which there is none.
+        let rest = if body == "unit-body" && rest[0] == "[]" { &rest[1..] } else { rest };
+        let [_, concat, _, map, _kind, rest @ ..] = rest else { continue };
         if !body.ends_with("-body") || concat != "concat" || map != "map" {
             continue;
         }
@@ -467,6 +588,83 @@ fn third_numbers_are_refused_so() {
         seen += 1;
     }
     assert_eq!(seen, 4);
+}
+
+/// A unit `of 3 1 5`, by number, region and group, or `with-defaults ( minus 1 2 3 4 5 6 ) 3 1 5`, and the words behind it.
+fn unit_of(all: &[String]) -> (Unit, &[String]) {
+    let (defaults, rest) = match all {
+        [of, rest @ ..] if of == "of" => ([0; 6], rest),
+        [with, open, rest @ ..] if with == "with-defaults" && open == "(" => (minus(rest), &rest[8..]),
+        _ => panic!("no unit: {:?}", all.first()),
+    };
+    let [number, region, group] = [0, 1, 2].map(|place| number(&rest[place]));
+    (Unit { defaults, group, ..base_unit(number, region as usize) }, &rest[3..])
+}
+
+/// Six defaults, each by its size, as `minus 1 2 3 4 5 6`.
+fn minus(all: &[String]) -> [i128; 6] {
+    assert_eq!(all[0], "minus");
+    std::array::from_fn(|place| -number(&all[place + 1]))
+}
+
+/// The units of a list such as `of 1 0 5 ∷ of 2 0 6 ∷ [] )`, and the words behind it.
+fn units_of(mut all: &[String]) -> (Vec<Unit>, &[String]) {
+    let mut units = Vec::new();
+    while all[0] != "[]" {
+        let (unit, rest) = unit_of(all);
+        assert_eq!(rest[0], "∷");
+        units.push(unit);
+        all = &rest[1..];
+    }
+    (units, &all[2..])
+}
+
+/// The paper's book with other units prints the refusal that is told.
+#[test]
+fn wrong_groups_are_refused_so() {
+    let mut seen = 0;
+    for (name, statement) in declarations(&theorems("refused", "WrongGroups")) {
+        let all = words(&statement);
+        assert_eq!(all[..2].join(" "), "printed (", "{name}");
+        let (units, rest) = units_of(&all[2..]);
+        assert_eq!(rest[..2].join(" "), "≡ text", "{name}");
+        let book = Book { units, ..worked::listing_book() };
+        assert_eq!(printed(&book), quoted(&statement), "{name}");
+        seen += 1;
+    }
+    assert_eq!(seen, 6);
+}
+
+/// The statement of a theorem on groups of which no worked book is, without its proof.
+fn figures(name: &str) -> String {
+    let all = declarations(&theorems("books", "GroupFigures"));
+    let (_, found) = all.into_iter().find(|(found, _)| found == name).expect("a theorem");
+    found.split("\nunfolding").next().expect("a statement").to_string()
+}
+
+#[test]
+fn a_group_of_512_is_that_of_the_second_program() {
+    let readings = [POWER_LIMIT; POINTS];
+    let farthest = Unit { group: 7, start: -POWER_LIMIT, end: -POWER_LIMIT, readings, ..base_unit(0, 0) };
+    let members = grouped(&[1; 512].map(|_| farthest.clone()));
+    let statement = figures("a-group-of-512");
+    let (sizes, deviations) = statement.split_once('×').expect("two equations");
+    assert_eq!(list_at_the_end(sizes), members.iter().map(|member| member.units as i128).collect::<Vec<_>>());
+    assert_eq!(
+        list_at_the_end(deviations),
+        members.iter().map(|member| member.deviations[74]).collect::<Vec<_>>()
+    );
+}
+
+#[test]
+fn defaults_of_a_group_are_those_of_the_second_program() {
+    let all = words(&figures("primary-defaults"));
+    let defaults: Vec<_> =
+        (0..all.len()).filter(|&at| all[at] == "minus").map(|at| minus(&all[at..])).collect();
+    let [first, second, told] = defaults[..] else { panic!("two units and what is told of them") };
+    let of = |defaults| Unit { group: 7, load: true, defaults, ..base_unit(0, 0) };
+    let members = grouped(&[of(first), of(second)]);
+    assert_eq!(members.iter().map(|member| member.defaults).collect::<Vec<_>>(), [told]);
 }
 
 /// The bytes of a term such as `with 2276 1 (with 2279 2 paper)` and the words behind it.

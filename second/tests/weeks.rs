@@ -389,3 +389,95 @@ fn one_book_gives_its_own_performances() {
         }
     }
 }
+
+/// A group's week goes by its primary's number, of however many units it is from book to book; the others of a group have no line.
+#[test]
+fn weeks_of_groups() {
+    let mut first = listing_book();
+    (first.units[0].group, first.units[1].group) = (9, 9);
+    first.units[1].defaults = [0; 6];
+    // Together 11,250,000,000 - 3,375,000,000, turned below zero.
+    let turned = |book: &second::book::Book| {
+        let mut book = book.clone();
+        book.units.iter_mut().for_each(|unit| unit.load = !unit.load);
+        book
+    };
+    let group = |raise: &str| format!("unit 1 raise {raise} lower 0 0\n");
+    let printed = |books: &[&second::book::Book]| {
+        let bytes: Vec<u8> = books.iter().flat_map(|book| to_bytes(book)).collect();
+        replay(&bytes).0
+    };
+    let below = turned(&first);
+    assert!(printed(&[&first]).starts_with(&(group("1 0") + "residual QLD1 raise 1 -7875000000")));
+    assert!(printed(&[&below]).starts_with(&(group("1 -7875000000") + "residual QLD1 raise 1 0")));
+    // The same number as a group of two, as a unit alone, and as a bad group.
+    let mut alone = below.clone();
+    alone.units.truncate(1);
+    let mut bad = below.clone();
+    bad.units[1].good[74] = false;
+    bad.units[1].readings[74] = 0;
+    let all = printed(&[&below, &alone, &bad]);
+    assert!(all.starts_with(&group("2 -9562500000")), "{all}");
+    // Unit 2 has a line where it is a member of its own.
+    let all = printed(&[&below, &listing_book()]);
+    assert!(all.starts_with(&(group("2 -3937500000") + "unit 2 raise 1 -3375000000 lower 0 0\n")), "{all}");
+}
+
+/// Three units at their largest are within a group's limit; an average below the book's field is refusal 14.
+#[test]
+fn a_groups_average_at_its_limit() {
+    let book = |parts: &[i128]| {
+        let [run, _] = stored();
+        let mut book = second::book::read_first_book(&run.bytes).unwrap().0;
+        let part = |(place, &performance): (usize, &i128)| {
+            let unit = chosen_unit(5 + place as i128, 0, Direction::Raise, performance);
+            second::book::Unit { group: 3, ..unit }
+        };
+        book.units = parts.iter().enumerate().map(part).collect();
+        to_bytes(&book)
+    };
+    let (third, more) = (UNIT_DEFAULT_LOWEST / 3, UNIT_DEFAULT_LOWEST / 3 - 1);
+    assert!(replay(&book(&[third; 3])).0.starts_with("unit 5 raise 1 -5625000000000000 lower"));
+    assert_eq!(replay(&book(&[third, more, third])).0, "refused 14 0 0 0\n");
+    // An average of a half more than the limit is one below it, a third is not.
+    let [limit, beyond] = [book(&[third; 3]), book(&[third, third, more])];
+    assert_eq!(replay(&[&limit[..], &beyond].concat()).0, "refused 14 0 0 0\n");
+    assert!(replay(&[&limit[..], &beyond, &limit].concat())
+        .0
+        .starts_with("unit 5 raise 3 -5625000000000000 lower"));
+    assert_eq!(replay(&[&beyond[..], &beyond, &limit].concat()).0, "refused 14 0 0 0\n");
+}
+
+/// The weeks of books have groups at the limit of their field on both sides, and members at the limit of their number.
+#[test]
+fn makers_have_weeks_of_groups() {
+    let mut met: BTreeSet<String> = BTreeSet::new();
+    for turn in 0..2_000 {
+        let trial = trial(11, turn);
+        let kind = trial.name.splitn(3, '-').nth(2).expect("a kind").to_string();
+        if ["group", "groups", "members"].contains(&kind.as_str()) {
+            let printed = replay(&trial.bytes).0;
+            let answer = if printed.starts_with("refused") {
+                printed.trim_end().to_string()
+            } else {
+                "lines".to_string()
+            };
+            met.insert(format!("{kind}: {answer}"));
+            if printed.contains(" -5625000000000000 ") {
+                met.insert(format!("{kind}: at the limit"));
+            }
+        }
+    }
+    let wanted = [
+        "group: lines",
+        "group: refused 14 0 0 0",
+        "group: at the limit",
+        "groups: lines",
+        "members: lines",
+        "members: refused 5 2 0 0",
+    ];
+    assert!(wanted.iter().all(|what| met.contains(*what)), "{met:?}");
+    let known = ["refused 14 0 0 0", "refused 5 2 0 0"];
+    let mut refused = met.iter().filter(|what| what.contains("refused"));
+    assert!(refused.all(|what| known.iter().any(|known| what.ends_with(known))), "{met:?}");
+}

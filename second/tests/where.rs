@@ -117,8 +117,7 @@ fn a_units_place_is_counted_from_1() {
             (12, 8, 0, 1, 82),
             (52, 8, -5_625_000_000_000_000, -5_625_000_000_000_001, 82),
             (69, 1, 0b111, 0b1111, 83),
-            (70, 1, 0, 1, 83),
-            (71, 1, 0, 128, 83),
+            (69, 1, 0b111, 0b1000_0111, 83),
         ];
         for (field, width, last, beyond, number) in edges {
             assert_eq!(refused_with(&[(record + field, width, last)]), None, "{place} {field}");
@@ -258,7 +257,7 @@ fn two_faults_in_a_frequency_record() {
     }
 }
 
-/// In a unit record: 81, 82, 83, 84, 9, though the number stands first; the two zero bytes are 83 and not 81.
+/// In a unit record: 81, 82, 83, 84, 9, 16, though the number stands first and the group before the readings.
 #[test]
 fn two_faults_in_a_unit_record() {
     for place in [2, 5, 6] {
@@ -268,15 +267,18 @@ fn two_faults_in_a_unit_record() {
             ((record + 8, 4, 100_001), at(81, place, 0)),
             ((record + 12, 8, 1), at(82, place, 0)),
             ((record + 69, 1, 255), at(83, place, 0)),
-            ((record + 70, 2, 256), at(83, place, 0)),
             ((record + 76, 4, 100_001), at(84, place, 2)),
             ((record + 368, 4, 100_001), at(84, place, 75)),
             ((record, 2, 0), at(9, place, 0)),
+            ((record + 70, 2, 256), at(16, place, 0)),
         ];
+        // The unit before is of group 256 alone, unless this one, which holds a default, joins it.
+        let group_before = (unit(place - 1) + 70, 2, 256);
+        assert_eq!(refused_with(&[group_before]), None, "{place}");
         for (nth, (earlier, refusal)) in in_order.into_iter().enumerate() {
-            assert_eq!(refused_with(&[earlier]), refusal, "{place} {nth}");
+            assert_eq!(refused_with(&[group_before, earlier]), refusal, "{place} {nth}");
             for (later, _) in &in_order[nth + 1..] {
-                assert_eq!(refused_with(&[earlier, *later]), refusal, "{place} {nth}");
+                assert_eq!(refused_with(&[group_before, earlier, *later]), refusal, "{place} {nth}");
             }
         }
     }
@@ -289,7 +291,7 @@ fn faults_in_two_records() {
         ((58, 1, 76), at(6, 1, 0)),
         ((frequency(2) + 364, 4, 1), at(74, 2, 75)),
         ((frequency(5), 1, 0), at(71, 5, 0)),
-        ((unit(1) + 71, 1, 1), at(83, 1, 0)),
+        ((unit(1) + 69, 1, 0x0F), at(83, 1, 0)),
         ((unit(2), 2, 1), at(9, 2, 0)),
         ((unit(5) + 72, 4, 100_001), at(84, 5, 1)),
         ((unit(6) + 2, 1, 5), at(81, 6, 0)),
@@ -388,7 +390,7 @@ fn calls_name_the_record_that_was_to_be_taken() {
             "unit" => {
                 assert_eq!(lent.call(kind, &wrong(3, 1, 2)), err(81, place, 0));
                 assert_eq!(lent.call(kind, &wrong(12, 8, 1)), err(82, place, 0));
-                assert_eq!(lent.call(kind, &wrong(71, 1, 1)), err(83, place, 0));
+                assert_eq!(lent.call(kind, &wrong(69, 1, 0x87)), err(83, place, 0));
                 assert_eq!(lent.call(kind, &wrong(72, 4, 100_001)), err(84, place, 1));
                 if place > 1 {
                     assert_eq!(lent.call(kind, &wrong(0, 2, 0)), err(9, place, 0));

@@ -33,7 +33,7 @@ use Rattle.chain.proofs.Answerable.{chain-answerable, units-answerable, ended-a
 use Rattle.answer.specs.declared.Row.{Row}
 use Rattle.answer.specs.Lists.{gathered}
 use Rattle.answer.specs.Roster.{Named, row-says, row-answer, MemberPromise}
-use Rattle.answer.proofs.RosterLaws.{named, walk, member-taken}
+use Rattle.answer.proofs.RosterLaws.{named, walk, member-taken, set-five}
 use Rattle.answer.specs.declared.Answered.{Answered}
 use Rattle.answer.specs.declared.Answered.the-variants.{Given}
 use Rattle.answer.specs.Promises.{Columns, columns-long, answer-reply, shown, replied, with-lines, AnswerPromise}
@@ -63,14 +63,18 @@ module _ {b : Book} {t : Tally} {l : Lent} (h : Answerable b t l) (part : List �
   unfolding answer-reply
   decided old c = rw (turn, lists-long, c, h .lent) asked
 
+  -- the set is of the five regions
+  five : q .set ≤ 31
+  five = set-five (q .set) (record-fine part q asked .set)
+
   pub figures-answered :
       {old new : Columns} {r : Answered} → columns-long (t .units) old ≡ true → AnswerPromise t part l old r new → Answers q (answer b q) old r new
   figures-answered {old} c p =
       record {
-        reply = p .reply ∙ ap (replied t l) (decided old c) ∙ ap (λ (a : Full). Given (shown q a)) (h .answers q);
+        reply = p .reply ∙ ap (replied t l) (decided old c) ∙ ap (λ (a : Full). Given (shown q a)) (h .answers q five);
         written =
             p .written ∙ ap (λ (y : Reply Requirement). left (λ q. with-lines (kept-answer t l q)) y old) (decided old c)
-            ∙ ap (λ (a : Full). with-lines a old) (h .answers q);
+            ∙ ap (λ (a : Full). with-lines a old) (h .answers q five);
       }
 
   pub row-answered : (j : ℕ) → j < t .units → {r : Row} → MemberPromise t j (q .direction) (q .set) l r → r ≡ row-says l (q .direction) (q .set) j
@@ -85,7 +89,7 @@ module _ {b : Book} {t : Tally} {l : Lent} (h : Answerable b t l) (part : List �
       map line-named (answer b q .lines) ≡
       gathered (λ j. covers q (region-of l j)) (λ j. record { name = unit (getD (l .numbers) j 0); standing = row-standing l (q .direction) j }) (t .units)
       ++ (record { name = residual; standing = residual-row t l q .standing } ∷ [])
-  lines-named = ap (λ (a : Full). map line-named (a .lines)) (sym (h .answers q)) ∙ kept-names t l q ∙ walk t l q
+  lines-named = ap (λ (a : Full). map line-named (a .lines)) (sym (h .answers q five)) ∙ kept-names t l q ∙ walk t l q
 
   pub rules-answer : RulesAnswer b t l part q
   rules-answer = record { answered = figures-answered; rows = row-answered; lines = lines-named }

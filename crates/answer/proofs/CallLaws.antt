@@ -29,6 +29,7 @@ use Rattle.answer.specs.declared.Answered.the-variants.{Refused}
 use Rattle.answer.specs.Promises.{Columns, columns-long, answer-reply, AnswerPromise}
 use Rattle.answer.specs.Tested.{tested-requirement}
 use Rattle.answer.proofs.TestedLaws.{Tested, tested-reply}
+use Rattle.answer.proofs.RosterLaws.{set-five}
 use Rattle.answer.specs.Worked.{required, Passed, WorkedOut}
 
 -- ---- the record
@@ -80,6 +81,7 @@ past-tests {t} part {f} h r =
     let fields = record-fine part (required f) r in
     record {
       percent = settings-stay t (turn .0) begun .percent;
+      set = set-five (f .set) (fields .set);
       price = fields .price;
       cost = fields .cost;
       enabled = fields .enabled;

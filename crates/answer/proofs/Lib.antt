@@ -7,11 +7,11 @@ pub mod Lists
 pub mod MadeLaws
 pub mod PoolsLaws
 pub mod Promises
-pub mod Ranges
 pub mod RcrLaws
 pub mod ResidualLaws
 pub mod RosterLaws
 pub mod SharesLaws
 pub mod TestedLaws
+pub mod UnitsHeld
 pub mod ValuesLaws
 pub mod Weights

@@ -10,8 +10,8 @@ use Rattle.rules.specs.declared.Direction.the-variants.{Raise, Lower}
 use Rattle.rules.specs.declared.Reason.the-variants.{BadUnit}
 use Rattle.rules.specs.declared.Standing.{Standing}
 use Rattle.rules.specs.Standings.{standing, live-or}
-use Rattle.interval.specs.Lent.{Lent}
-use Rattle.kept.specs.Kept.{figure, reliable-of, region-of, good-of, in-row, residual-default, row-member}
+use Rattle.interval.specs.Lent.{Lent, in-row}
+use Rattle.kept.specs.Kept.{figure, reliable-of, region-of, good-of, residual-default, row-member}
 use Rattle.answer.specs.declared.Field.{Field}
 use Rattle.answer.specs.declared.Field.the-variants.{Payment, Used, Unused}
 use Rattle.answer.specs.Made.{reliable-at, performance-at, defaults-at, field-at, field-of, made, performed}
@@ -56,10 +56,11 @@ module _ (l : Lent) where
   pub number-is :
       (f : Field) (d : Direction) (i : ℕ) →
       field-of f (row-member l d i) ≡
-      cond (performed f && (reliable-of l d (region-of l i) && good-of l i)) (in-row l i (performance-at d)) (in-row l i (2 + defaults-at d + field-at f))
-  number-is Payment Raise i = live-is (reliable-of l Raise (region-of l i)) (good-of l i) (in-row l i 0) (in-row l i 2)
-  number-is Payment Lower i = live-is (reliable-of l Lower (region-of l i)) (good-of l i) (in-row l i 1) (in-row l i 5)
-  number-is Used Raise i = live-is (reliable-of l Raise (region-of l i)) (good-of l i) (in-row l i 0) (in-row l i 3)
-  number-is Used Lower i = live-is (reliable-of l Lower (region-of l i)) (good-of l i) (in-row l i 1) (in-row l i 6)
+      cond (performed f && (reliable-of l d (region-of l i) && good-of l i)) (in-row (l .rows) i (performance-at d))
+      (in-row (l .rows) i (2 + defaults-at d + field-at f))
+  number-is Payment Raise i = live-is (reliable-of l Raise (region-of l i)) (good-of l i) (in-row (l .rows) i 0) (in-row (l .rows) i 2)
+  number-is Payment Lower i = live-is (reliable-of l Lower (region-of l i)) (good-of l i) (in-row (l .rows) i 1) (in-row (l .rows) i 5)
+  number-is Used Raise i = live-is (reliable-of l Raise (region-of l i)) (good-of l i) (in-row (l .rows) i 0) (in-row (l .rows) i 3)
+  number-is Used Lower i = live-is (reliable-of l Lower (region-of l i)) (good-of l i) (in-row (l .rows) i 1) (in-row (l .rows) i 6)
   number-is Unused Raise i = refl
   number-is Unused Lower i = refl

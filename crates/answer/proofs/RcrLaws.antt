@@ -4,12 +4,12 @@ use mathlib.Core.Bool.{Bool, true, false}
 use mathlib.Core.List.{[]}
 use Prim.Native.Nat.{ℕ, _+_, _*_, _≤_, _<_}
 use native.Mathlib.Omega.{arith}
-use lib.Dec.{leb, ltb}
+use lib.Dec.{leb}
 use lib.IntN.{ℤ, pos, negsuc, natAbs, _+ℤ_, _*ℤ_}
 use lib.ListN.{getD}
 use mir.Syntax.{w64}
 use mir.Val.{SFits}
-use borrow.Author.Tests.{leb-true, ltb-true}
+use borrow.Author.Tests.{leb-true}
 use Rattle.integers.specs.Bounds.{Within}
 use Rattle.integers.proofs.Bounds.{within-natural, within-product, within-wider, fits-within, fits-wider}
 use Rattle.integers.specs.Sums.{sum, when, both}
@@ -21,9 +21,9 @@ use Rattle.rules.specs.Bytes.{bit}
 use Rattle.rules.specs.Fields.{sized}
 use Rattle.laws.proofs.LimitsLaws.{size-fits}
 use Rattle.interval.specs.declared.Tally.{Tally}
-use Rattle.interval.specs.Lent.{Lent, series-start, measure-held, sum-place, of-interval}
+use Rattle.interval.specs.Lent.{Lent, series-start, measure-held, sum-place, passed-over, of-interval}
 use Rattle.kept.specs.Kept.{figure, generation-of, kept-rcr, kept-reliable}
-use Rattle.kept.specs.Range.{measures-fine, sums-fine, from-0, row-fine, series-fine, figures-fine, rows-fine, kept-fine}
+use Rattle.kept.specs.Range.{measures-fine, sums-fine, from-0, unit-fine, series-fine, figures-fine, rows-fine, kept-fine}
 use Rattle.answer.specs.Asked.{lent, lent-members, asked}
 use Rattle.answer.specs.Lent.{Long}
 use Rattle.answer.specs.Rcr.{HomesNamed, PointsInRange, RcrTested, few-bad, found-is, points-largest, sum-part, weighed-part}
@@ -43,9 +43,9 @@ module _ (t : Tally) (l : Lent) (long : Long (t .units) l) (fine : kept-fine t l
       let f = both (figures-fine t l) (rows-fine t l) (s .1) in
       (s .0, f .0, f .1)
 
-  named : (i : ℕ) → i < t .units → getD (l .homes) i 0 < 2 * regions
+  named : (i : ℕ) → i < t .units → getD (l .homes) i 0 ≤ passed-over
   unfolding rows-fine
-  named i b = ltb-true _ _ (both (ltb (getD (l .homes) i 0) (2 * regions)) _ (every-at (t .units) (row-fine l) (parts .2) i b) .0)
+  named i b = leb-true _ _ (both (leb (getD (l .homes) i 0) passed-over) _ (every-at (t .units) (unit-fine l) (parts .2) i b) .0)
 
   abbrev most : ℕ
   most = deviation-limit * t .units
@@ -88,7 +88,8 @@ module _ (t : Tally) (l : Lent) (long : Long (t .units) l) (fine : kept-fine t l
         figures-long = long .figures;
         measures-within =
             λ r p b c.
-            size-fits measure-limit _ (every-at regions (λ r. sized measure-limit (measure-held (getD (l .measures) (series-start r + p) (pos 0)))) (at-point p c .0) r b);
+            size-fits measure-limit _
+            (every-at regions (λ r. sized measure-limit (measure-held (getD (l .measures) (series-start r + p) (pos 0)))) (at-point p c .0) r b);
         sums-within = sums-there;
         generation-within = generation;
       }

@@ -1,19 +1,34 @@
 -- Laws of the definitions in specs/Residual.antt.
 use mathlib.Core.Path.{_≡_, refl, sym, _∙_, ap, ap₂}
-use mathlib.Core.Bool.{Bool, true, false, not, _&&_, _||_}
+use mathlib.Core.Bool.{Bool, true, false, cond, not, _&&_, _||_}
 use mathlib.Core.List.{[]}
-use Prim.Native.Nat.{ℕ, zero, suc, _+_, _*_, _≤_, _<_}
+use Prim.Native.Nat.{ℕ, zero, suc, _+_, _*_, _%_, _≤_, _<_}
 use native.Mathlib.Nat.{mul-le-mul-right}
 use native.Mathlib.Omega.{arith}
 use lib.Dec.{eqb}
+use borrow.Author.Tests.{eqb-true}
 use lib.IntN.{ℤ, pos, negℤ, natAbs, _+ℤ_, _-ℤ_, +ℤ-idl, +ℤ-idr}
+use lib.ListN.{getD}
 use mir.Syntax.{w64}
 use mir.Val.{SFits, toZ, ofZ}
 use mir.Facts.{toZ-ofZ}
 use Rattle.integers.specs.Bounds.{Within}
-use Rattle.integers.proofs.Bounds.{abs-neg, within-negation, fits-within}
-use Rattle.integers.specs.Sums.{sum, sumℕ, count, one, when, every}
-use Rattle.integers.proofs.Sums.{every-more, sum-none, sum-step, sum-size, sumℕ-none, sumℕ-step, sumℕ-plus, sumℕ-times, sumℕ-prefix, count-one, count-≤}
+use Rattle.integers.proofs.Bounds.{abs-neg, within-negation, fits-within, fits-wider}
+use Rattle.integers.specs.Sums.{sum, sumℕ, one, when, every}
+use Rattle.integers.proofs.Sums.{
+  every-more,
+  sum-none,
+  sum-step,
+  sum-size,
+  sumℕ-none,
+  sumℕ-step,
+  sumℕ-plus,
+  sumℕ-times,
+  sumℕ-prefix,
+  sumℕ-≤,
+  count-one,
+  count-≤,
+}
 use Rattle.rules.specs.Quantities.{regions, most-units, performance-limit, residual-default-limit}
 use Rattle.rules.specs.declared.Direction.{Direction}
 use Rattle.rules.specs.declared.Direction.the-variants.{Raise, Lower}
@@ -22,8 +37,9 @@ use Rattle.rules.specs.declared.Standing.{Standing}
 use Rattle.rules.specs.declared.Standing.the-variants.{Live, Default}
 use Rattle.rules.specs.Standings.{standing, live-or}
 use Rattle.rules.specs.Bytes.{bit}
-use Rattle.interval.specs.Lent.{Lent}
-use Rattle.kept.specs.Kept.{reliable-of, region-of, good-of, in-row, residual-default, units-in-region, some-good-or-none-of, residual-of}
+use Rattle.interval.specs.Lent.{Lent, passed-over, in-row}
+use Rattle.kept.specs.Kept.{reliable-of, region-of, good-of, residual-default, some-good-or-none-of, residual-of}
+use Rattle.kept.specs.Range.{units-at}
 use Rattle.answer.specs.Asked.{tally-of, lent-members}
 use Rattle.answer.specs.declared.Field.{Field}
 use Rattle.answer.specs.declared.Field.the-variants.{Payment, Used, Unused}
@@ -31,27 +47,55 @@ use Rattle.answer.specs.declared.Member.{Member}
 use Rattle.answer.specs.declared.residual.Held.{Held}
 use Rattle.answer.specs.Made.{performance-at, picked}
 use Rattle.answer.specs.Residual.{RowsWithin, performances-there, Holds, region-made, worse-of, RegionsWithin, residual-to}
+use Rattle.answer.proofs.UnitsHeld.{units-held, held-≤, units-≤}
 
 -- ---- a region's rows
 -- what row i adds to its region's performances
 abbrev pub adds : ℕ → ℕ → Lent → ℕ → ℤ
-adds at r l i = when (eqb r (region-of l i)) (when (good-of l i) (in-row l i at))
+adds at r l i = when (eqb r (region-of l i)) (when (good-of l i) (in-row (l .rows) i at))
 
-when-size : (s t : Bool) (k : ℕ) (z : ℤ) → Within k z → natAbs (when s (when t z)) ≤ one s * k
-when-size true true k z h = omega (arith, h .size)
-when-size true false k z h = omega arith
-when-size false t k z h = omega arith
+-- how many units the first rows of a region stand for
+abbrev pub units-there : ℕ → Lent → ℕ → ℕ
+units-there r l n = sumℕ n (λ i. one (eqb r (region-of l i)) * units-held (l .homes) i)
+
+one-times : (t : Bool) (u : ℕ) → one t * u ≤ u
+one-times true u = omega arith
+one-times false u = omega arith
+
+pub there-≤ : (r : ℕ) (l : Lent) (n : ℕ) → units-there r l n ≤ n
+there-≤ r l n =
+    omega (
+      arith,
+      sumℕ-≤ n (λ i. one (eqb r (region-of l i)) * units-held (l .homes) i) (units-held (l .homes))
+          (λ i _. one-times (eqb r (region-of l i)) (units-held (l .homes) i)),
+      held-≤ (l .homes) n,
+    )
+
+-- a row that is passed over is not good, so it adds nothing
+when-size :
+    (s : Bool) (home u : ℕ) (z : ℤ) → Within (performance-limit * u) z →
+    natAbs (when s (when (eqb (home % 2) 1) z)) ≤ one s * cond (eqb home passed-over) 0 u * performance-limit
+when-size false home u z h = omega arith
+when-size true home u z h = go (eqb home passed-over) refl
+  where
+    good : (t : Bool) → natAbs (when t z) ≤ 1 * u * performance-limit
+    good true = omega (arith, h .size)
+    good false = omega arith
+
+    go : (t : Bool) → eqb home passed-over ≡ t → natAbs (when (eqb (home % 2) 1) z) ≤ 1 * cond t 0 u * performance-limit
+    go true e = rw (eqb-true home passed-over e) (omega arith)
+    go false e = good (eqb (home % 2) 1)
 
 module _ {at units : ℕ} {l : Lent} (h : RowsWithin at units l) (r : ℕ) where
-  -- at most a unit's limit for each row of the region
-  pub held-size : (n : ℕ) → n ≤ units → natAbs (sum n (adds at r l)) ≤ count n (λ i. eqb r (region-of l i)) * performance-limit
+  -- at most a unit's limit for each unit of the region
+  pub held-size : (n : ℕ) → n ≤ units → natAbs (sum n (adds at r l)) ≤ units-there r l n * performance-limit
   held-size n b =
-      rw (sumℕ-times n performance-limit (λ i. one (eqb r (region-of l i)))) at
-      (sum-size n (adds at r l) (λ i. one (eqb r (region-of l i)) * performance-limit)
-      (λ i k. when-size (eqb r (region-of l i)) (good-of l i) performance-limit (in-row l i at) (h .within i (omega arith))))
+      rw (sumℕ-times n performance-limit (λ i. one (eqb r (region-of l i)) * units-held (l .homes) i)) at
+      (sum-size n (adds at r l) (λ i. one (eqb r (region-of l i)) * units-held (l .homes) i * performance-limit)
+      (λ i k. when-size (eqb r (region-of l i)) (getD (l .homes) i 0) (units-at (l .homes) i) (in-row (l .rows) i at) (h .within i (omega arith))))
 
   pub held-within : (n : ℕ) → n ≤ units → Within 2_880_000_000_000_000_000 (sum n (adds at r l))
-  held-within n b = record { size = omega (arith, held-size n b, count-≤ n (λ i. eqb r (region-of l i)), h .few) }
+  held-within n b = record { size = omega (arith, held-size n b, there-≤ r l n, h .few) }
 
 -- fewer rows, too
 pub fewer-within : {at n units : ℕ} {l : Lent} → n ≤ units → RowsWithin at units l → RowsWithin at n l
@@ -71,7 +115,7 @@ holds-none at r l = record { rows = sym (sumℕ-none _); good = sym (sumℕ-none
 module _ {at r n : ℕ} {l : Lent} {h : Held} (k : Holds at r n l h) where
   pub holds-more :
       (a b : Bool) → eqb r (region-of l n) ≡ a → good-of l n ≡ b → {m : Held} → m .units ≡ h .units + one a → m .good ≡ h .good + one (a && b) →
-      m .sum ≡ h .sum +ℤ when a (when b (in-row l n at)) → Holds at r (n + 1) l m
+      m .sum ≡ h .sum +ℤ when a (when b (in-row (l .rows) n at)) → Holds at r (n + 1) l m
   holds-more a b ea eb eu eg es =
       record {
         rows = eu ∙ ap₂ _+_ (k .rows) (ap one (sym ea)) ∙ sym (sumℕ-step n (λ i. one (eqb r (region-of l i))));
@@ -79,7 +123,7 @@ module _ {at r n : ℕ} {l : Lent} {h : Held} (k : Holds at r n l h) where
             eg ∙ ap₂ _+_ (k .good) (ap₂ (λ (s t : Bool). one (s && t)) (sym ea) (sym eb))
             ∙ sym (sumℕ-step n (λ i. one (eqb r (region-of l i) && good-of l i)));
         performed =
-            es ∙ ap₂ _+ℤ_ (k .performed) (ap₂ (λ (s t : Bool). when s (when t (in-row l n at))) (sym ea) (sym eb)) ∙ sym (sum-step n (adds at r l));
+            es ∙ ap₂ _+ℤ_ (k .performed) (ap₂ (λ (s t : Bool). when s (when t (in-row (l .rows) n at))) (sym ea) (sym eb)) ∙ sym (sum-step n (adds at r l));
       }
 
   pub few-held : n ≤ most-units → (h .units ≤ 512) × (h .good ≤ 512)
@@ -119,12 +163,12 @@ added-back f = rw (toZ-ofZ (f .first), toZ-ofZ (f .second)) (toZ-ofZ (f .togethe
 -- a good unit's performance joins the sum of those before it
 pub row-joins :
     {at r n : ℕ} {l : Lent} {m : Held} → RowsWithin at (n + 1) l → Holds at r n l m → eqb r (region-of l n) ≡ true → good-of l n ≡ true →
-    Fitting (m .sum) (in-row l n at)
+    Fitting (m .sum) (in-row (l .rows) n at)
 row-joins {at} {r} {n} {l} {m} h k ea eb =
-    let more : m .sum +ℤ in-row l n at ≡ sum (n + 1) (adds at r l) = ap₂ _+ℤ_ (k .performed) (sym (rw (ea, eb))) ∙ sym (sum-step n (adds at r l)) in
+    let more : m .sum +ℤ in-row (l .rows) n at ≡ sum (n + 1) (adds at r l) = ap₂ _+ℤ_ (k .performed) (sym (rw (ea, eb))) ∙ sym (sum-step n (adds at r l)) in
     record {
       first = rw (k .performed) (fits-within tt (held-within h r n (omega arith)));
-      second = fits-within tt (h .within n (omega arith));
+      second = fits-wider {k = 2_880_000_000_000_000_000} tt (omega (arith, units-≤ (l .homes) n, h .few)) (h .within n (omega arith));
       together = rw more (fits-within tt (held-within h r (n + 1) (omega arith)));
     }
 
@@ -138,17 +182,22 @@ module _ {x : ℤ} (h : Within 2_880_000_000_000_000_000 x) where
   pub turned-back : toZ w64 (ofZ w64 (pos 0 -ℤ toZ w64 (ofZ w64 x))) ≡ negℤ x
   turned-back = rw (toZ-ofZ (fits-within {w = w64} tt h), +ℤ-idl) (toZ-ofZ negative-fits)
 
--- ---- a unit is in one region
-in-one-region : (units : ℕ) (l : Lent) → sumℕ regions (λ r. count units (λ i. eqb r (region-of l i))) ≤ units
+-- ---- a row is in one region
+each-once : (n : ℕ) (l : Lent) → sumℕ regions (λ r. units-there r l n) ≤ sumℕ n (units-held (l .homes))
 unfolding sumℕ
-in-one-region zero l = omega arith
-in-one-region (suc n) l =
+each-once zero l = omega arith
+each-once (suc n) l =
+    let u = units-held (l .homes) n in
     omega (
       arith,
-      sumℕ-plus regions (λ r. count n (λ i. eqb r (region-of l i))) (λ r. one (eqb r (region-of l n))),
-      count-one regions (region-of l n),
-      in-one-region n l,
+      sumℕ-plus regions (λ r. units-there r l n) (λ r. one (eqb r (region-of l n)) * u),
+      sumℕ-times regions u (λ r. one (eqb r (region-of l n))),
+      mul-le-mul-right u (count-one regions (region-of l n)),
+      each-once n l,
     )
+
+in-one-region : (units : ℕ) (l : Lent) → sumℕ regions (λ r. units-there r l units) ≤ units
+in-one-region units l = omega (arith, each-once units l, held-≤ (l .homes) units)
 
 -- ---- the residual of some regions
 pub same-member :
@@ -187,7 +236,7 @@ module _ (units : ℕ) (l : Lent) (d : Direction) (set : ℕ) where
   residual n = residual-to units l d set n
 
   abbrev in-region : ℕ → ℕ
-  in-region r = units-in-region (tally-of units 0 0) l r
+  in-region r = units-there r l units
 
   -- no region of the set fails the test
   abbrev sound : ℕ → Bool
@@ -274,7 +323,7 @@ module _ (units : ℕ) (l : Lent) (d : Direction) (set : ℕ) where
         let more : sum (n + 1) (λ r. when (bit r set) (pick (region r))) ≡ sum n (λ r. when (bit r set) (pick (region r))) +ℤ pick (region n) = sum-step n
         (λ r. when (bit r set) (pick (region r))) ∙ rw e in
         let size : Within 3_130_000_000_000_000_000 (pick (region n)) =
-        record { size = omega (arith, s n b, count-≤ units (λ i. eqb n (region-of l i)), h .raise .few) } in
+        record { size = omega (arith, s n b, there-≤ n l units, h .raise .few) } in
         record {
           first = fits-within tt (regions-within pick s n (omega arith));
           second = fits-within tt size;

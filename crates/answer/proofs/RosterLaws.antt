@@ -1,13 +1,13 @@
 -- Laws of the definitions in specs/Roster.antt.
 use mathlib.Core.Path.{_≡_, refl, sym, _∙_, ap}
-use mathlib.Core.Bool.{true, cond, _&&_}
+use mathlib.Core.Bool.{Bool, true, false, cond, _&&_, _||_}
 use mathlib.Core.List.{List, [], _∷_, _++_, map, map-append, map-map}
-use Prim.Native.Nat.{ℕ, _+_, _*_, _/_, _%_, _≤_, _<_}
-use lib.Dec.{eqb, leb, ltb}
+use Prim.Native.Nat.{ℕ, _+_, _/_, _%_, _≤_, _<_}
+use lib.Dec.{eqb, leb}
 use lib.IntN.{ℤ}
 use lib.ListN.{length, getD}
 use native.Mathlib.Omega.{arith}
-use borrow.Author.Tests.{leb-true, ltb-true, le-leb, lt-ltb}
+use borrow.Author.Tests.{leb-true, le-leb, lt-ltb, eqb-false}
 use Rattle.integers.specs.Sums.{every, both}
 use Rattle.integers.proofs.Sums.{every-at}
 use Rattle.rules.specs.declared.Direction.{Direction}
@@ -25,9 +25,9 @@ use Rattle.rules.specs.Standings.{standing}
 use Rattle.rules.specs.Members.{unit, residual, Member as Sharer}
 use Rattle.interval.specs.declared.Tally.{Tally}
 use Rattle.interval.specs.Tally.{in-range, answer-turn}
-use Rattle.interval.specs.Lent.{Lent, figures-length, of-interval}
+use Rattle.interval.specs.Lent.{Lent, figures-length, passed-over, of-interval}
 use Rattle.kept.specs.Kept.{figure, reliable-of, region-of, row-standing, row-member, residual-row, rows-of, kept-members}
-use Rattle.kept.specs.Range.{from-0, region-fine, row-fine, figures-fine, rows-fine}
+use Rattle.kept.specs.Range.{from-0, region-fine, unit-fine, figures-fine, rows-fine}
 use Rattle.answer.specs.Asked.{lent-members}
 use Rattle.answer.specs.declared.Row.{Row}
 use Rattle.answer.specs.declared.Row.the-variants.{Unit, Other}
@@ -42,8 +42,12 @@ member-long-means n l e =
     let b = both (leb n (length (l .numbers))) _ (a .1) in
     (leb-true _ _ (a .0), leb-true _ _ (b .0), leb-true _ _ (b .1))
 
-pub home-means : (d : Direction) (home : ℕ) (figures : List ℤ) → home-fine d home figures ≡ true → home < 10
-home-means d home figures e = ltb-true _ _ (both (ltb home (2 * regions)) _ e .0)
+pub home-means : (d : Direction) (home : ℕ) (figures : List ℤ) → home-fine d home figures ≡ true → home ≤ passed-over
+home-means d home figures e = leb-true _ _ (both (leb home passed-over) _ e .0)
+
+-- a set in range is of five regions
+pub set-five : (set : ℕ) → set-fine set ≡ true → set ≤ 31
+set-five set e = leb-true set 31 (both (leb 1 set) (leb set 31) e .1)
 
 pub member-only :
     {t : Tally} {i : ℕ} {d : Direction} {set : ℕ} {l : Lent} {r r′ : Row} → MemberPromise t i d set l r → MemberPromise t i d set l r′ → r ≡ r′
@@ -82,21 +86,24 @@ module _ (t : Tally) (l : Lent) (i : ℕ) where
   abbrev home : ℕ
   home = getD (l .homes) i 0
 
-  figure-fine : (d : Direction) → home < 10 → every regions (region-fine l) ≡ true → from-0 1 (figure l (home / 2) (reliable-at d)) ≡ true
-  figure-fine d h e = go d
+  figure-fine : (d : Direction) (r : ℕ) → r < regions → every regions (region-fine l) ≡ true → from-0 1 (figure l r (reliable-at d)) ≡ true
+  figure-fine d r below e = go d
     where
-      r : ℕ
-      r = home / 2
-
-      below : r < regions
-      below = omega arith
-
       first : (from-0 1 (figure l r 2) && (from-0 1 (figure l r 3) && every 6 (λ j. default-fine residual-default-limit (figure l r (4 + j))))) ≡ true
       first = both (from-0 amount-limit (figure l r 1)) _ (every-at regions (region-fine l) e r below) .1
 
       go : (d : Direction) → from-0 1 (figure l r (reliable-at d)) ≡ true
       go Raise = both (from-0 1 (figure l r 2)) _ first .0
       go Lower = both (from-0 1 (figure l r 3)) _ (both (from-0 1 (figure l r 2)) _ first .1) .0
+
+  home-known :
+      (d : Direction) → home ≤ passed-over → every regions (region-fine l) ≡ true →
+      (eqb home passed-over || from-0 1 (figure l (home / 2) (reliable-at d))) ≡ true
+  home-known d h e = go (eqb home passed-over) refl
+    where
+      go : (t : Bool) → eqb home passed-over ≡ t → (t || from-0 1 (figure l (home / 2) (reliable-at d))) ≡ true
+      go true f = refl
+      go false f = figure-fine d (home / 2) (omega (arith, eqb-false home passed-over f)) e
 
   pub member-taken :
       (d : Direction) (set : ℕ) → (in-range t && answer-turn t) ≡ true → set-fine set ≡ true → i < t .units → figures-length ≤ length (l .figures) →
@@ -105,7 +112,7 @@ module _ (t : Tally) (l : Lent) (i : ℕ) where
   unfolding member-reply rows-fine figures-fine
   member-taken d set turn fine h fs us hs f r =
       let own = both (of-interval (t .interval) (l .figures)) _ f in
-      let at = both (ltb home (2 * regions)) _ (every-at (t .units) (row-fine l) r i h) .0 in
+      let at = both (leb home passed-over) _ (every-at (t .units) (unit-fine l) r i h) .0 in
       rw (
         turn,
         fine,
@@ -115,5 +122,5 @@ module _ (t : Tally) (l : Lent) (i : ℕ) where
         le-leb (t .units) (length (l .homes)) hs,
         own .0,
         at,
-        figure-fine d (ltb-true _ _ at) (own .1),
+        home-known d (leb-true _ _ at) (own .1),
       )

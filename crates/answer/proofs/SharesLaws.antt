@@ -93,7 +93,7 @@ module _ {f : Field} {units : ℕ} {d : Direction} {set : ℕ} {l : Lent} {resid
       rw (front .1)
       (record {
         total = t;
-        weights = rw (totalℕ-map (λ w. w) side all) (omega (arith, totalℕ-≤ side natAbs le all, members-size units l (h .tested) f d set));
+        weights = rw (totalℕ-map (λ w. w) side all) (omega (arith, totalℕ-≤ side natAbs le all, members-size units l (h .tested) f d set (h .five)));
         long = omega (arith, length-map all side, numbers-few f units d set l);
       })
 

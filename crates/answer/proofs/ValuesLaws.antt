@@ -4,10 +4,10 @@ use mathlib.Core.Bool.{Bool, true, false, cond}
 use mathlib.Core.List.{List, [], _∷_, _++_, map, map-append, map-map, append-nil}
 use Prim.Native.Nat.{ℕ, _+_, _*_, _≤_, _<_}
 use native.Mathlib.Omega.{arith}
-use lib.Dec.{ltb}
+use lib.Dec.{leb}
 use lib.IntN.{ℤ}
 use lib.ListN.{length, getD, set, length-append}
-use borrow.Author.Tests.{ltb-true}
+use borrow.Author.Tests.{leb-true}
 use Rattle.integers.specs.Bounds.{Within}
 use Rattle.integers.proofs.Bounds.{within-both}
 use Rattle.integers.proofs.Order.{≤ℤ-trans}
@@ -21,9 +21,9 @@ use Rattle.rules.specs.Book.{Requirement}
 use Rattle.rules.specs.Fields.{sized, default-fine}
 use Rattle.laws.proofs.LimitsLaws.{size-fits}
 use Rattle.interval.specs.declared.Tally.{Tally}
-use Rattle.interval.specs.Lent.{Lent, of-interval}
-use Rattle.kept.specs.Kept.{figure, in-row, row-member, residual-row, rows-of, kept-members}
-use Rattle.kept.specs.Range.{from-0, row-fine, series-fine, figures-fine, rows-fine, kept-fine}
+use Rattle.interval.specs.Lent.{Lent, passed-over, in-row, row-fine, of-interval}
+use Rattle.kept.specs.Kept.{figure, row-member, residual-row, rows-of, kept-members}
+use Rattle.kept.specs.Range.{from-0, units-at, unit-fine, series-fine, figures-fine, rows-fine, kept-fine}
 use Rattle.answer.specs.Asked.{lent-members}
 use Rattle.answer.specs.Lent.{Long}
 use Rattle.answer.specs.declared.Field.{Field}
@@ -107,18 +107,20 @@ module _ (t : Tally) (l : Lent) (long : Long (t .units) l) (fine : kept-fine t l
 
   parts :
       (i : ℕ) → i < t .units →
-      (getD (l .homes) i 0 < 10) × Within performance-limit (in-row l i 0) × Within performance-limit (in-row l i 1)
-      × ((f : ℕ) → f < 6 → Within unit-default-limit (in-row l i (2 + f)))
-  unfolding rows-fine
+      (getD (l .homes) i 0 ≤ passed-over) × Within (performance-limit * units-at (l .homes) i) (in-row (l .rows) i 0)
+      × Within (performance-limit * units-at (l .homes) i) (in-row (l .rows) i 1)
+      × ((f : ℕ) → f < 6 → Within unit-default-limit (in-row (l .rows) i (2 + f)))
+  unfolding rows-fine row-fine
   parts i b =
-      let row = every-at (t .units) (row-fine l) (lent .1) i b in
-      let home = both (ltb (getD (l .homes) i 0) (2 * regions)) _ row in
-      let raise = both (sized performance-limit (in-row l i 0)) _ (home .1) in
-      let lower = both (sized performance-limit (in-row l i 1)) _ (raise .1) in (
-        ltb-true _ _ (home .0),
-        size-fits performance-limit _ (raise .0),
-        size-fits performance-limit _ (lower .0),
-        λ f m. default-within unit-default-limit _ (every-at 6 (λ f. default-fine unit-default-limit (in-row l i (2 + f))) (lower .1) f m),
+      let most = performance-limit * units-at (l .homes) i in
+      let row = every-at (t .units) (unit-fine l) (lent .1) i b in
+      let home = both (leb (getD (l .homes) i 0) passed-over) _ row in
+      let raise = both (sized most (in-row (l .rows) i 0)) _ (home .1) in
+      let lower = both (sized most (in-row (l .rows) i 1)) _ (raise .1) in (
+        leb-true _ _ (home .0),
+        size-fits most _ (raise .0),
+        size-fits most _ (lower .0),
+        λ f m. default-within unit-default-limit _ (every-at 6 (λ f. default-fine unit-default-limit (in-row (l .rows) i (2 + f))) (lower .1) f m),
       )
 
   default-is : (r f : ℕ) → r < regions → f < 6 → Within residual-default-limit (figure l r (4 + f))

@@ -175,7 +175,7 @@ module _ {t : Tally} {f : RequirementFields} {l : Lent} {c : Columns} (h : Passe
 
   module _ {m : Sharer} (last : m ≡ residual-to (t .units) (lent-members (l .figures) (l .homes) (l .rows)) (f .direction) (f .set) regions) where
     pub members-there : (n : ℕ) → t .units < n → MembersThere (t .units) (f .direction) (f .set) (lent-members (l .figures) (l .homes) (l .rows)) m n
-    members-there n b = record { tested = numbers-tested; last = last; column = b }
+    members-there n b = record { tested = numbers-tested; last = last; five = h .set; column = b }
 
     pub cost-tested :
         CostTested f (t .units) (lent-members (l .figures) (l .homes) (l .rows)) m (length (c .performances)) (length (c .used)) (length (c .unused))

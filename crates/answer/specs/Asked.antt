@@ -13,7 +13,7 @@ tally-of units percent interval =
     record { units = units; requirements = 0; records = 0; least = 0; smoothing = 0; limit = 0; percent = percent; interval = interval }
 
 abbrev pub no-lists : Lent
-no-lists = record { measures = []; sums = []; figures = []; numbers = []; homes = []; rows = [] }
+no-lists = record { measures = []; sums = []; figures = []; numbers = []; homes = []; rows = []; groups = []; deviations = [] }
 
 -- measures, sums, figures, homes and rows; a list that is not read is empty
 abbrev pub lent : List ℤ → List ℤ → List ℤ → List ℕ → List ℤ → Lent

@@ -39,10 +39,10 @@ line-named l = record { name = l .name; standing = l .standing }
 pub record RulesAnswer (b : Book) (t : Tally) (l : Lent) (part : List ℕ) (q : Requirement) : Type 0 where
   -- `answer` gives its figures and its lines' numbers, and refuses nothing
   pub answered : {old new : Columns} {r : Answered} → columns-long (t .units) old ≡ true → AnswerPromise t part l old r new → Answers q (answer b q) old r new
-  -- `member` tells of each row: a unit of the requirement's regions, with its number and standing, or one of another region
+  -- `member` tells of each row: a member of the requirement's regions, with its number and standing, or none: the row is of another region, or passed over
   pub rows :
       (j : ℕ) → j < t .units → {r : Row} → MemberPromise t j (q .direction) (q .set) l r → r ≡ row-says l (q .direction) (q .set) j
-  -- and those units in their order, then the residual, have the names and standings of its lines
+  -- and those members in their order, then the residual, have the names and standings of its lines
   pub lines :
       map line-named (answer b q .lines) ≡
       gathered (λ j. covers q (region-of l j))

@@ -6,15 +6,15 @@ use lib.ListN.{length, getD}
 use Rattle.rules.specs.declared.Direction.{Direction}
 use Rattle.rules.specs.declared.Direction.the-variants.{Raise, Lower}
 use Rattle.rules.specs.declared.Standing.{Standing}
-use Rattle.rules.specs.Quantities.{regions, most-units}
+use Rattle.rules.specs.Quantities.{most-units}
 use Rattle.rules.specs.Standings.{live-or}
 use Rattle.rules.specs.Members.{Member as Sharer}
-use Rattle.interval.specs.Lent.{Lent, figures-length, row-each}
+use Rattle.interval.specs.Lent.{Lent, figures-length, passed-over, row-each}
 use Rattle.answer.specs.declared.Field.{Field}
 use Rattle.answer.specs.declared.Field.the-variants.{Payment, Used, Unused}
 use Rattle.answer.specs.declared.Member.{Member}
 
--- ---- by the direction: where reliability stands among a region's figures, a performance in a unit's row, and where three defaults start among six
+-- ---- by the direction: where reliability stands among a region's figures, a performance in a plant's row, and where three defaults start among six
 abbrev pub reliable-at : Direction → ℕ
 reliable-at Raise = 2
 reliable-at Lower = 3
@@ -42,7 +42,7 @@ field-of Payment m = m .payment
 field-of Used m = m .used
 field-of Unused m = m .unused
 
--- ---- a number that a share goes by: the performance of a live unit, but for the unused default
+-- ---- a number that a share goes by: the performance of a live plant, but for the unused default
 abbrev pub field-at : Field → ℕ
 field-at Payment = 0
 field-at Used = 1
@@ -59,4 +59,4 @@ pub record RowThere (i : ℕ) (l : Lent) : Type 0 where
   pub figures : figures-length ≤ length (l .figures)
   pub homes : i < length (l .homes)
   pub rows : row-each * i + row-each ≤ length (l .rows)
-  pub home : getD (l .homes) i 0 < 2 * regions
+  pub home : getD (l .homes) i 0 ≤ passed-over

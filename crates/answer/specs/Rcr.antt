@@ -13,7 +13,7 @@ use Rattle.rules.specs.declared.Direction.the-variants.{Raise, Lower}
 use Rattle.rules.specs.Quantities.{points, regions, most-units, measure-limit, amount-limit}
 use Rattle.rules.specs.Bytes.{bit}
 use Rattle.rules.specs.Book.{toward}
-use Rattle.interval.specs.Lent.{Lent, series-start, measure-held, series-length, sum-place, sums-length, figures-length}
+use Rattle.interval.specs.Lent.{Lent, series-start, measure-held, series-length, sum-place, sums-length, figures-length, passed-over}
 use Rattle.kept.specs.Kept.{generation-of, good-of, kept-weighed, kept-response, kept-rcr, kept-reliable}
 use Rattle.answer.specs.Asked.{tally-of, asked}
 use Rattle.answer.specs.Values.{meant}
@@ -21,10 +21,10 @@ use Rattle.answer.specs.declared.points.Sums.{Sums}
 use Rattle.answer.specs.declared.rcr.Found.{Found}
 use Rattle.answer.specs.declared.units.Units.{Units}
 
--- ---- the set's units by their homes, each of which names a region
+-- ---- the set's members by their homes, each of which names a region or is passed over
 pub record HomesNamed (units : ℕ) (l : Lent) : Type 0 where
   pub long : units ≤ length (l .homes)
-  pub here : (i : ℕ) → i < units → getD (l .homes) i 0 < 2 * regions
+  pub here : (i : ℕ) → i < units → getD (l .homes) i 0 ≤ passed-over
 
 abbrev pub bad-there : ℕ → Lent → ℕ → Bool
 bad-there set l i = meant set l i && not (good-of l i)

@@ -1,4 +1,4 @@
--- The residual as the code makes it, region by region, and what its sums ask for. Each unit stands in one region, so the sizes of the regions' residuals
+-- The residual as the code makes it, region by region, and what its sums ask for. Each plant stands in one region, so the sizes of the regions' residuals
 -- together are within a unit's limit for each unit, with a residual's default limit for each region.
 use mathlib.Core.Path.{_≡_}
 use mathlib.Core.Bool.{not, _||_}
@@ -15,35 +15,35 @@ use Rattle.rules.specs.declared.Standing.the-variants.{Live, Default}
 use Rattle.rules.specs.Quantities.{regions, most-units, performance-limit, residual-default-limit}
 use Rattle.rules.specs.Bytes.{bit}
 use Rattle.rules.specs.Standings.{standing}
-use Rattle.interval.specs.Lent.{Lent, figures-length, row-each}
+use Rattle.interval.specs.Lent.{Lent, figures-length, row-each, in-row}
 use Rattle.kept.specs.Kept.{
   figure,
   reliable-of,
   region-of,
   good-of,
-  in-row,
   residual-default,
   units-in-region,
   good-in-region,
   some-good-or-none-of,
   residual-of,
 }
+use Rattle.kept.specs.Range.{units-at}
 use Rattle.answer.specs.Asked.{tally-of}
 use Rattle.answer.specs.declared.Member.{Member}
 use Rattle.answer.specs.declared.residual.Held.{Held}
 use Rattle.answer.specs.Made.{made}
 
 -- ---- what the rows of a region hold
--- performances at a place in their rows, each within its limit
+-- performances at a place in their rows, each within a unit's limit for each unit of its plant
 pub record RowsWithin (at units : ℕ) (l : Lent) : Type 0 where
   pub place : at < row-each
   pub few : units ≤ most-units
   pub homes : units ≤ length (l .homes)
   pub rows : row-each * units ≤ length (l .rows)
-  pub within : (i : ℕ) → i < units → Within performance-limit (in-row l i at)
+  pub within : (i : ℕ) → i < units → Within (performance-limit * units-at (l .homes) i) (in-row (l .rows) i at)
 
 abbrev pub performances-there : ℕ → ℕ → ℕ → Lent → ℤ
-performances-there at r units l = sum units (λ i. when (eqb r (region-of l i)) (when (good-of l i) (in-row l i at)))
+performances-there at r units l = sum units (λ i. when (eqb r (region-of l i)) (when (good-of l i) (in-row (l .rows) i at)))
 
 pub record Holds (at r units : ℕ) (l : Lent) (h : Held) : Type 0 where
   pub rows : h .units ≡ units-in-region (tally-of units 0 0) l r

@@ -1,8 +1,8 @@
--- What `member` promises, and that a walk over the rows meets every unit of a requirement's members, in their order, with its number and standing.
+-- What `member` promises, and that a walk over the rows meets every member of a requirement, in their order, with its number and standing.
 use mathlib.Core.Path.{_≡_}
-use mathlib.Core.Bool.{Bool, cond, _&&_}
+use mathlib.Core.Bool.{Bool, cond, _&&_, _||_}
 use mathlib.Core.List.{List, []}
-use Prim.Native.Nat.{ℕ, _*_, _/_, _%_}
+use Prim.Native.Nat.{ℕ, _/_, _%_}
 use lib.Dec.{eqb, leb, ltb}
 use lib.IntN.{ℤ}
 use lib.ListN.{length, getD}
@@ -10,7 +10,6 @@ use Rattle.rules.specs.declared.Direction.{Direction}
 use Rattle.rules.specs.declared.Reason.the-variants.{BadUnit}
 use Rattle.rules.specs.declared.Refusal.the-variants.{WrongState, TooShort}
 use Rattle.rules.specs.declared.Standing.{Standing}
-use Rattle.rules.specs.Quantities.{regions}
 use Rattle.rules.specs.Refusals.{Reply, taken, refused, unless}
 use Rattle.rules.specs.Bytes.{bit}
 use Rattle.rules.specs.RequirementRecord.{set-fine}
@@ -18,7 +17,7 @@ use Rattle.rules.specs.Standings.{standing}
 use Rattle.rules.specs.Members.{Name}
 use Rattle.interval.specs.declared.Tally.{Tally}
 use Rattle.interval.specs.Tally.{in-range, answer-turn}
-use Rattle.interval.specs.Lent.{Lent, figures-length, of-interval}
+use Rattle.interval.specs.Lent.{Lent, figures-length, passed-over, of-interval}
 use Rattle.kept.specs.Kept.{figure, reliable-of, region-of, row-standing}
 use Rattle.kept.specs.Range.{from-0}
 use Rattle.answer.specs.Asked.{lent-members}
@@ -30,13 +29,13 @@ use Rattle.answer.specs.Made.{reliable-at}
 abbrev pub member-long : ℕ → Lent → Bool
 member-long n l = leb figures-length (length (l .figures)) && (leb n (length (l .numbers)) && leb n (length (l .homes)))
 
--- a home names a region, whose reliability is 0 or 1
+-- a home is that of a row that is passed over, or names a region, whose reliability is 0 or 1
 abbrev pub home-fine : Direction → ℕ → List ℤ → Bool
 home-fine d home figures =
     let l = lent-members figures [] [] in
-    ltb home (2 * regions) && from-0 1 (figure l (home / 2) (reliable-at d))
+    leb home passed-over && (eqb home passed-over || from-0 1 (figure l (home / 2) (reliable-at d)))
 
--- who stands in row i: a unit of the set's regions, or of another
+-- who stands in row i: a member of the set's regions, or none: of another region, or passed over
 abbrev pub row-says : Lent → Direction → ℕ → ℕ → Row
 row-says l d set i = cond (bit (region-of l i) set) (Unit (getD (l .numbers) i 0) (row-standing l d i)) Other
 
@@ -50,7 +49,7 @@ member-reply t i d set l =
     (unless (of-interval (t .interval) (l .figures) && home-fine d (getD (l .homes) i 0) (l .figures)) WrongState
     (taken (row-says l d set i)))))
 
--- by the unit's number and home
+-- by the row's number and home
 abbrev pub row-told : Direction → ℕ → ℕ → ℕ → List ℤ → Reply Row
 row-told d set number home figures =
     unless (home-fine d home figures) WrongState
@@ -63,7 +62,7 @@ row-answer (refused r) = Refused r
 pub record MemberPromise (t : Tally) (i : ℕ) (d : Direction) (set : ℕ) (l : Lent) (r : Row) : Type 0 where
   pub reply : r ≡ row-answer (member-reply t i d set l)
 
--- a member's name and standing; the rows' walk, in which those of other regions are passed over
+-- a member's name and standing
 pub record Named : Type 0 where
   pub name : Name
   pub standing : Standing

@@ -9,8 +9,8 @@ use Rattle.integers.specs.Bounds.{Within}
 use Rattle.rules.specs.declared.Direction.{Direction}
 use Rattle.rules.specs.Quantities.{regions, unit-default-limit}
 use Rattle.rules.specs.Bytes.{bit}
-use Rattle.interval.specs.Lent.{Lent}
-use Rattle.kept.specs.Kept.{region-of, in-row, row-member}
+use Rattle.interval.specs.Lent.{Lent, in-row}
+use Rattle.kept.specs.Kept.{region-of, row-member}
 use Rattle.answer.specs.declared.Field.{Field}
 use Rattle.answer.specs.declared.Member.{Member}
 use Rattle.answer.specs.Made.{picked, field-of, RowThere}
@@ -45,12 +45,14 @@ pub record RowsPut (f : Field) (d : Direction) (s units : ℕ) (l : Lent) (old :
 pub record InRange (units : ℕ) (l : Lent) : Type 0 where
   pub rows : RowsThere units l
   pub regions : RegionsWithin units l
-  pub defaults : (i f : ℕ) → i < units → f < 6 → Within unit-default-limit (in-row l i (2 + f))
+  pub defaults : (i f : ℕ) → i < units → f < 6 → Within unit-default-limit (in-row (l .rows) i (2 + f))
 
--- the members' numbers can be listed: the rows and the residual are there, and the column takes one number more than there are units
+-- the members' numbers can be listed: the rows and the residual are there, the set is of the five regions, which a row that is passed over is not of, and the
+-- column takes one number more than there are units
 pub record MembersThere (units : ℕ) (d : Direction) (set : ℕ) (l : Lent) (residual : Member) (column-length : ℕ) : Type 0 where
   pub tested : InRange units l
   pub last : residual ≡ residual-to units l d set regions
+  pub five : set ≤ 31
   pub column : units < column-length
 
 module _ (f : Field) (units : ℕ) (d : Direction) (set : ℕ) (l : Lent) where

@@ -52,6 +52,7 @@ required f = record { number = f .number; set = f .set; direction = f .direction
 -- ---- what the tests and the record's rules show
 pub record Passed (t : Tally) (f : RequirementFields) (l : Lent) (c : Columns) : Type 0 where
   pub percent : t .percent ≤ 100
+  pub set : f .set ≤ 31
   pub price : f .price ≤ price-limit
   pub cost : f .cost ≤ cost-limit
   pub enabled : f .enabled ≤ amount-limit

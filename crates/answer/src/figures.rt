@@ -10,11 +10,11 @@ use super::DEFAULTS;
 use super::GENERATION;
 use super::LOWER_RELIABLE;
 use super::RAISE_RELIABLE;
-use super::defaults::six_in_range;
-use super::sizes::within_bounds;
 use book::REGIONS;
 use interval::FIGURES_EACH;
 use interval::lent::of_interval;
+use interval::lent::six_in_range;
+use interval::lent::within_bounds;
 
 const AMOUNT_LIMIT: i64 = 2_000_000;
 

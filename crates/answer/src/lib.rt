@@ -7,7 +7,7 @@ use rules::Standing;
 
 pub mod call;
 mod charges;
-mod defaults;
+mod counts;
 mod figures;
 mod homes;
 mod lent;
@@ -21,14 +21,10 @@ pub mod roster;
 mod rows;
 mod series;
 mod shares;
-mod sizes;
 mod tested;
 mod units;
 mod values;
 mod worked;
-
-// Two homes for each region: of its bad units and of its good ones.
-const HOMES: u8 = 10;
 
 // Where a region's numbers stand among its ten figures, past the interval number; from DEFAULTS on its residual's six defaults.
 const GENERATION: usize = 1;
@@ -38,13 +34,6 @@ const RAISE_RELIABLE: usize = 2;
 const LOWER_RELIABLE: usize = 3;
 
 const DEFAULTS: usize = 4;
-
-// And a unit's in its row of eight; from ROW_DEFAULTS on its six defaults.
-const RAISE_PERFORMANCE: usize = 0;
-
-const LOWER_PERFORMANCE: usize = 1;
-
-const ROW_DEFAULTS: usize = 2;
 
 // Which number of a member a share goes by.
 pub(crate) enum Field {
@@ -61,7 +50,7 @@ pub(crate) struct Member {
     pub(crate) unused: i64,
 }
 
-// Who stands in a row: a member's number and standing, a unit of another region, or the refusal.
+// Who stands in a row: a member's number and standing; no member, as in a row that is passed over or of another region; or the refusal.
 pub enum Row {
     Unit(u16, Standing),
     Other,

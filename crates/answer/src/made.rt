@@ -1,28 +1,28 @@
-// A unit's row as a member: live, or default with its reason. One path for raise and lower: the direction picks places in figures and row.
+// A plant's row as a member: live, or default with its reason. One path for raise and lower: the direction picks places in figures and row.
 ghost use mathlib.Core.Path.{_≡_};
 ghost use mathlib.Core.Bool.{_&&_};
 ghost use mathlib.Core.List.{[]};
 ghost use Prim.Native.Nat.{_/_, _%_, _<_, _≤_};
 ghost use lib.Dec.{eqb};
-ghost use lib.ListN.{length};
+ghost use lib.ListN.{length, getD};
 ghost use Rattle.rules.specs.declared.Reason.the-variants.{BadUnit};
 ghost use Rattle.rules.specs.Standings.{standing};
 ghost use Rattle.kept.specs.Kept.{reliable-of, row-member};
 ghost use Rattle.answer.specs.Asked.{lent-members};
 ghost use Rattle.answer.specs.Made.{performance-at, defaults-at, field-at, performed, made, picked, field-of, RowThere};
 use super::Field;
-use super::LOWER_PERFORMANCE;
 use super::Member;
-use super::RAISE_PERFORMANCE;
-use super::ROW_DEFAULTS;
 use super::homes::is_good;
 use super::regions::reliable;
+use interval::LOWER_PERFORMANCE;
+use interval::RAISE_PERFORMANCE;
+use interval::ROW_DEFAULTS;
 use interval::ROW_EACH;
 use rules::Direction;
 use rules::Reason;
 use rules::Standing;
 
-// Where in a unit's row its performance stands.
+// Where in a plant's row its performance stands.
 pub(crate) fn performance_place(direction: Direction) -> usize
     ensures { λ r. ⌜ r ≡ performance-at direction ⌝ }
 {
@@ -112,7 +112,7 @@ pub(crate) fn value(field: Field, member: Member) -> i64
     }
 }
 
-// A unit is live if it is good and its region reliable.
+// A plant is live if it is good and its region reliable.
 pub(crate) fn row_standing(direction: Direction, home: u8, figures: &[i64]) -> Standing
     requires { ⌜ (home < 10) × (50 ≤ length (now figures)) ⌝ }
     ensures { λ r. ⌜ r ≡ standing (reliable-of (lent-members (now (figures .entry)) [] []) direction (home / 2)) (eqb (home % 2) 1) BadUnit ⌝ }
@@ -121,7 +121,7 @@ pub(crate) fn row_standing(direction: Direction, home: u8, figures: &[i64]) -> S
     standing_of(sound, is_good(home), Reason::BadUnit)
 }
 
-// Does a unit's number go by its performance? That of a live one does, but for the unused default.
+// Does a plant's number go by its performance? That of a live one does, but for the unused default.
 fn goes_live(field: Field, direction: Direction, home: u8, figures: &[i64]) -> bool
     requires { ⌜ (home < 10) × (50 ≤ length (now figures)) ⌝ }
     ensures { λ r. ⌜ r ≡ (performed field
@@ -136,7 +136,7 @@ fn goes_live(field: Field, direction: Direction, home: u8, figures: &[i64]) -> b
     is_good(home)
 }
 
-// The number by which a share goes: the performance of a live unit, else the default that stands in.
+// The number by which a share goes: the performance of a live plant, else the default that stands in.
 pub(crate) fn row_value(
     field: Field,
     direction: Direction,
@@ -145,7 +145,7 @@ pub(crate) fn row_value(
     homes: &[u8],
     rows: &[i64],
 ) -> i64
-    requires { ⌜ RowThere row (lent-members (now figures) (now homes) (now rows)) ⌝ }
+    requires { ⌜ (getD (now homes) row 0 < 10) × RowThere row (lent-members (now figures) (now homes) (now rows)) ⌝ }
     ensures { λ r. ⌜ r ≡ field-of field
         (row-member (lent-members (now (figures .entry)) (now (homes .entry)) (now (rows .entry))) direction row) ⌝ }
 {

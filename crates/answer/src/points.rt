@@ -8,15 +8,15 @@ ghost use Rattle.rules.specs.Book.{toward};
 ghost use Rattle.answer.specs.Asked.{lent};
 ghost use Rattle.answer.specs.Rcr.{PointsInRange, Summed, point-response, points-largest};
 use super::GENERATION;
+use super::counts::if_counted;
 use super::regions::covers;
-use super::sizes::above;
-use super::sizes::below;
-use super::sizes::if_counted;
 use book::POINTS;
 use book::REGIONS;
 use interval::FIGURES_EACH;
 use interval::SUMS_EACH;
 use interval::lent::measure_held;
+use interval::sizes::above;
+use interval::sizes::below;
 use rules::Direction;
 
 // Over the set's regions, at one point: generation times FM, of dropped points too, and the sums of positive and of negative deviations.

@@ -1,5 +1,5 @@
 // RCR, the requirement for corrective response, from what the calls of `interval` have kept of a book (document 01, RCR): the reliability of
-// the set's regions, their bad units, and last the 75 points.
+// the set's regions, their bad members, and last the 75 points.
 ghost use mathlib.Core.Path.{_≡_};
 ghost use mathlib.Core.List.{[]};
 ghost use Rattle.answer.specs.Asked.{lent};

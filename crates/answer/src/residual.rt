@@ -30,8 +30,8 @@ struct Held {
     sum: i64,
 }
 
-// What the rows before one hold, with it; `at` is where performances stand in a row. A unit of another region adds nothing, and a bad one no
-// performance.
+// What the rows before one hold, with it; `at` is where performances stand in a row. A row of another region, or that
+// is passed over, adds nothing, and a bad plant no performance.
 fn with_row(held: Held, at: usize, region: usize, row: usize, homes: &[u8], rows: &[i64]) -> Held
     requires { ⌜ RowsWithin at (row + 1) (lent-members [] (now homes) (now rows))
         × Holds at region row (lent-members [] (now homes) (now rows)) held ⌝ }
@@ -104,7 +104,7 @@ fn with_defaults(
     )
 }
 
-// A region's residual: minus the performances of its good units.
+// A region's residual: minus the performances of its good plants.
 fn region_member(
     direction: Direction,
     region: usize,

@@ -8,15 +8,15 @@ ghost use Rattle.rules.specs.RequirementRecord.{set-fine};
 ghost use Rattle.interval.specs.Lent.{Lent, lent-member};
 ghost use Rattle.answer.specs.Asked.{no-lists};
 ghost use Rattle.answer.specs.Roster.{member-long, home-fine, row-told, row-answer, MemberPromise};
-use super::HOMES;
 use super::Row;
 use super::homes::in_set;
 use super::made::row_standing;
 use super::regions::figure_of;
-use super::sizes::within_bounds;
 use interval::FIGURES_LENGTH;
+use interval::PASSED_OVER;
 use interval::Tally;
 use interval::lent::of_interval;
+use interval::lent::within_bounds;
 use interval::turns::answer_turn;
 use rules::Direction;
 use rules::Refusal;
@@ -47,20 +47,23 @@ fn roster_long(units: usize, figures: &[i64], numbers: &[u16], homes: &[u8]) -> 
     units <= homes.len()
 }
 
-// A home that names a region, and a region's reliability that is 0 or 1.
+// A home that names a region, and a region's reliability that is 0 or 1; or the home of a row that is passed over.
 fn home_in_range(direction: Direction, home: u8, figures: &[i64]) -> bool
     requires { ⌜ 50 ≤ length (now figures) ⌝ }
     ensures { λ r. ⌜ r ≡ home-fine direction home (now (figures .entry)) ⌝ }
 {
-    if HOMES <= home {
+    if PASSED_OVER < home {
         return false;
+    }
+    if home == PASSED_OVER {
+        return true;
     }
     within_bounds(0, 1, figure_of(direction, (home / 2) as usize, figures))
 }
 
-// The unit's number and standing where its region is one of the set's. Refuses 11 for a number that is out of range.
+// The member's number and standing where its region is one of the set's. Refuses 11 for a number that is out of range.
 fn unit_or_other(direction: Direction, set: u8, number: u16, home: u8, figures: &[i64]) -> Row
-    requires { ⌜ 50 ≤ length (now figures) ⌝ }
+    requires { ⌜ (set ≤ 31) × (50 ≤ length (now figures)) ⌝ }
     ensures { λ r. ⌜ r ≡ row-answer (row-told direction set number home (now (figures .entry))) ⌝ }
 {
     if !home_in_range(direction, home, figures) {

@@ -8,12 +8,12 @@ ghost use Rattle.rules.specs.declared.Direction.the-variants.{Raise, Lower};
 ghost use Rattle.kept.specs.Range.{measures-fine, sums-fine, series-fine};
 ghost use Rattle.answer.specs.Asked.{tally-of, lent};
 ghost use Rattle.answer.specs.Ranges.{sums-at-most};
-use super::sizes::size;
-use super::sizes::within_bounds;
 use book::POINTS;
 use book::REGIONS;
 use interval::DEVIATION_LIMIT;
 use interval::SUMS_EACH;
+use interval::lent::within_bounds;
+use interval::sizes::size;
 
 const LEAST_MEASURE: i64 = -5_000_000;
 

@@ -1,4 +1,4 @@
-// The units of a requirement's regions, by their homes.
+// The members of a requirement's regions, by their homes.
 ghost use mathlib.Core.Path.{_≡_};
 ghost use mathlib.Core.Bool.{not, _&&_};
 ghost use mathlib.Core.List.{[]};
@@ -7,18 +7,18 @@ ghost use lib.Dec.{eqb};
 ghost use Rattle.rules.specs.Bytes.{bit};
 ghost use Rattle.answer.specs.Asked.{lent-members};
 ghost use Rattle.answer.specs.Rcr.{HomesNamed, few-bad, Counted};
+use super::counts::counted;
 use super::homes::in_set;
 use super::homes::is_good;
-use super::sizes::counted;
 
-// How many of the set's units there are, and how many of them are bad.
+// How many members of the set's regions there are, and how many of them are bad.
 pub(crate) struct Units {
     pub all: u32,
     pub bad: u32,
 }
 
 fn bad_in_set(set: u8, home: u8) -> bool
-    requires { ⌜ home < 10 ⌝ }
+    requires { ⌜ home < 11 ⌝ }
     ensures { λ r. ⌜ r ≡ (bit (home / 2) set && not (eqb (home % 2) 1)) ⌝ }
 {
     if !in_set(set, home) {
@@ -43,7 +43,7 @@ fn count_units(units: usize, set: u8, homes: &[u8]) -> Units
     Units { all: all, bad: bad }
 }
 
-// 100 times the bad units is not more than percent times the units, both counted over the set's regions.
+// 100 times the bad members is not more than percent times the members, both counted over the set's regions.
 pub(crate) fn few_bad(units: usize, percent: u8, set: u8, homes: &[u8]) -> bool
     requires { ⌜ (units ≤ 512) × (percent ≤ 100) × HomesNamed units (lent-members [] (now homes) []) ⌝ }
     ensures { λ r. ⌜ r ≡ few-bad units percent set (lent-members [] (now (homes .entry)) []) ⌝ }

@@ -1,5 +1,5 @@
 // The values of a requirement's members, by which a share goes: those of the rows of its regions in roster order, then the residual's.
-ghost use Prim.Native.Nat.{_<_};
+ghost use Prim.Native.Nat.{_≤_, _<_};
 ghost use lib.ListN.{length};
 ghost use Rattle.answer.specs.Asked.{lent-members};
 ghost use Rattle.answer.specs.Made.{RowThere};
@@ -11,7 +11,8 @@ use super::made::row_value;
 use super::made::value;
 use rules::Direction;
 
-// A row's value behind those that are there, if its region is one of the set's: how many there are then.
+// A row's value behind those that are there, if its region is one of the set's: how many there are then. The set is of five regions, so a row that
+// is passed over is in none.
 fn put_row(
     field: Field,
     direction: Direction,
@@ -23,7 +24,7 @@ fn put_row(
     rows: &[i64],
     column: &mut [i64],
 ) -> usize
-    requires { ⌜ (at < length (now column)) × RowThere row (lent-members (now figures) (now homes) (now rows)) ⌝ }
+    requires { ⌜ (set ≤ 31) × (at < length (now column)) × RowThere row (lent-members (now figures) (now homes) (now rows)) ⌝ }
     ensures { λ r. ⌜ RowPut field direction set row at
         (lent-members (now (figures .entry)) (now (homes .entry)) (now (rows .entry))) (now (column .entry)) r (now (column .exit)) ⌝ }
 {
@@ -44,7 +45,7 @@ fn put_rows(
     rows: &[i64],
     column: &mut [i64],
 ) -> usize
-    requires { ⌜ (units < length (now column)) × RowsThere units (lent-members (now figures) (now homes) (now rows)) ⌝ }
+    requires { ⌜ (set ≤ 31) × (units < length (now column)) × RowsThere units (lent-members (now figures) (now homes) (now rows)) ⌝ }
     ensures { λ r. ⌜ RowsPut field direction set units
         (lent-members (now (figures .entry)) (now (homes .entry)) (now (rows .entry))) (now (column .entry)) r (now (column .exit)) ⌝ }
 {

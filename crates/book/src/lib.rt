@@ -87,6 +87,7 @@ pub struct UnitFields {
     pub end: i32,
     pub raise: Three,
     pub lower: Three,
+    pub group: u16,
     pub good: bool,
 }
 

@@ -12,9 +12,11 @@ use Rattle.rules.specs.Measure.{measure-after}
 use Rattle.rules.specs.Dropped.{dropped-at}
 use Rattle.rules.specs.Reliability.{reliable, reliable-in}
 use Rattle.rules.specs.Deviation.{deviation, good}
-use Rattle.rules.specs.Performance.{weight, performance, unit-performance, residual-performance}
+use Rattle.rules.specs.Groups.{new-among, group-fine}
+use Rattle.rules.specs.Plants.{plants-from, plants}
+use Rattle.rules.specs.Performance.{weight, performance, plant-performance, residual-performance}
 use Rattle.rules.specs.Standings.{some-good-or-none}
-use Rattle.rules.specs.Members.{unit-member, residual-member, members}
+use Rattle.rules.specs.Members.{plant-member, residual-member, members}
 use Rattle.rules.specs.Share.{left-over, gets-one, amount, unplaced, share-reply}
 use Rattle.rules.specs.Rcr.{weighed-measure, response, all-reliable, rcr}
 use Rattle.rules.specs.Answer.{lines-of, answered, answer}
@@ -23,9 +25,9 @@ use Rattle.rules.specs.Listing.{joined, answer-lines, listing, settle}
 use Rattle.books.specs.Writing.{bytes, concat, bits, regions-bytes, book-bytes}
 
 unfoldable pub computing : Unit {0}
-unfolding sum sumℕ every first-wrong largest total totalℕ those numbered little listed contents settings region-in frequency-record unit-in unit-record requirement-in
-    requirement-record frequency-body unit-body requirement-body book measure-after dropped-at reliable reliable-in deviation good weight performance
-    unit-performance residual-performance some-good-or-none unit-member residual-member members left-over gets-one amount unplaced share-reply
-    weighed-measure response all-reliable rcr lines-of answered answer text digits words joined answer-lines listing settle bytes concat bits
-    regions-bytes book-bytes
+unfolding sum sumℕ every first-wrong largest total totalℕ those numbered little listed contents settings region-in frequency-record unit-in
+    unit-record requirement-in requirement-record frequency-body unit-body requirement-body book measure-after dropped-at reliable reliable-in
+    deviation good new-among group-fine plants-from plants weight performance plant-performance residual-performance some-good-or-none plant-member
+    residual-member members left-over gets-one amount unplaced share-reply weighed-measure response all-reliable rcr lines-of answered answer text
+    digits words joined answer-lines listing settle bytes concat bits regions-bytes book-bytes
 computing = tt

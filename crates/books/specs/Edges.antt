@@ -41,7 +41,18 @@ one-and k t = cond (eqb t 0) 10_001 (cond (leb t k) 1 0)
 
 -- start 0, end 100, reading 0
 abbrev still : Kind → Unit
-still kind = record { number = 1; region = 0; kind = kind; start = pos 0; end = pos 100; defaults = zeros; quality = flat true; reading = flat (pos 0) }
+still kind =
+    record {
+      number = 1;
+      region = 0;
+      kind = kind;
+      start = pos 0;
+      end = pos 100;
+      defaults = zeros;
+      quality = flat true;
+      group = 0;
+      reading = flat (pos 0);
+    }
 
 -- five units that read 100 above a flat line, of which the first k are bad
 abbrev five : ℕ → Book
@@ -57,6 +68,7 @@ five k = record { settings = settings; regions = paper-book 7 .regions; roster =
           end = pos 10_000;
           defaults = zeros;
           quality = flat (not (leb n k));
+          group = 0;
           reading = flat (cond (leb n k) (pos 0) (pos 10_100));
         }
 

@@ -9,3 +9,5 @@ pub mod WorkedBooks
 pub mod WorkedAnswers
 pub mod Ties
 pub mod DroppedPoints
+pub mod GroupBooks
+pub mod GroupFigures

@@ -39,6 +39,7 @@ first = record {
   end = pos 10_000;
   defaults = thousand;
   quality = flat true;
+  group = 0;
   reading = flat (pos 10_100);
 }
 
@@ -52,6 +53,7 @@ second = record {
   end = pos 5_000;
   defaults = thousand;
   quality = flat true;
+  group = 0;
   reading = flat (pos 5_030);
 }
 

@@ -15,6 +15,7 @@ use Rattle.rules.specs.declared.Reason.the-variants.{UnreliableRegion, BadUnit,
 use Rattle.rules.specs.Book.{Requirement, Book}
 use Rattle.rules.specs.Fields.{spare-bits-zero}
 use Rattle.rules.specs.Reliability.{sound}
+use Rattle.rules.specs.Plants.{plants}
 use Rattle.rules.specs.Members.{residual, members}
 use Rattle.rules.specs.Rcr.{few-bad, rcr}
 use Rattle.rules.specs.Cents.{pool-of}
@@ -82,8 +83,8 @@ lower-pools = record { both-sides = refl; positive-alone = refl; negative-alone 
 pub record Lowest : Type 0 where
   pub no-bad-point : sound false 0 0 ≡ true
   pub one-bad-point : sound false 1 0 ≡ false
-  pub no-bad-unit : few-bad 0 (lower-two-regions .roster) ≡ true
-  pub bad-units : few-bad 0 (default-reasons .roster) ≡ false
+  pub no-bad-unit : few-bad 0 (plants (lower-two-regions .roster)) ≡ true
+  pub bad-units : few-bad 0 (plants (default-reasons .roster)) ≡ false
 
 pub lowest-limits : Lowest
 unfolding computing

@@ -19,14 +19,14 @@ use Rattle.books.specs.Writing.{flat}
 use Rattle.books.specs.PaperBook.{zeros}
 
 -- ---- what the books are made of: `t` is the paper's, 1 to 75
-abbrev series : {A : Type 0} → (ℕ → A) → List A
+abbrev pub series : {A : Type 0} → (ℕ → A) → List A
 series f = listed 1 75 f
 
 abbrev between : ℕ → ℕ → ℕ → Bool
 between low high t = leb low t && leb t high
 
 -- six defaults, each given by its size
-abbrev minus : ℕ → ℕ → ℕ → ℕ → ℕ → ℕ → ByDirection Defaults
+abbrev pub minus : ℕ → ℕ → ℕ → ℕ → ℕ → ℕ → ByDirection Defaults
 minus p u n p′ u′ n′ =
     record {
       raise = record { payment = negℤ (pos p); used = negℤ (pos u); unused = negℤ (pos n) };
@@ -37,7 +37,7 @@ minus p u n p′ u′ n′ =
 abbrev minus-from : ℕ → ByDirection Defaults
 minus-from n = minus (n + 1) (n + 2) (n + 3) (n + 4) (n + 5) (n + 6)
 
-abbrev settings : ℕ → ℕ → ℕ → ℕ → Settings
+abbrev pub settings : ℕ → ℕ → ℕ → ℕ → Settings
 settings smoothing limit percent interval = record { smoothing = smoothing; limit = limit; percent = percent; interval = interval }
 
 -- the points at which `good` holds are good
@@ -56,10 +56,10 @@ region-where good frequency before generation defaults =
 abbrev region : ℕ → ByDirection Defaults → (ℕ → ℕ) → Region
 region generation defaults frequency = region-where (λ t. true) frequency (pos 0) generation defaults
 
-abbrev first-good : ℕ → ByDirection Defaults → ℕ → Region
+abbrev pub first-good : ℕ → ByDirection Defaults → ℕ → Region
 first-good generation defaults frequency = region-where (eqb 1) (λ t. frequency) (pos 0) generation defaults
 
-abbrev two-good : ℕ → ByDirection Defaults → ℕ → ℕ → ℕ → Region
+abbrev pub two-good : ℕ → ByDirection Defaults → ℕ → ℕ → ℕ → Region
 two-good generation defaults frequency other frequency′ =
     region-where (λ t. eqb t 1 || eqb t other) (λ t. cond (eqb t 1) frequency frequency′) (pos 0) generation defaults
 
@@ -77,27 +77,27 @@ abbrev separated : Region → Region
 separated r =
     record { separation = true; quality = r .quality; before = r .before; generation = r .generation; defaults = r .defaults; frequency = r .frequency }
 
-abbrev quiet : Region
+abbrev pub quiet : Region
 quiet = region 0 zeros (λ t. 50_000_000)
 
-abbrev unit : ℕ → ℕ → Kind → ℤ → ℤ → ByDirection Defaults → List Bool → List ℤ → Unit
+abbrev pub unit : ℕ → ℕ → Kind → ℤ → ℤ → ByDirection Defaults → List Bool → List ℤ → Unit
 unit number r kind start end defaults quality reading =
-    record { number = number; region = r; kind = kind; start = start; end = end; defaults = defaults; quality = quality; reading = reading }
+    record { number = number; region = r; kind = kind; start = start; end = end; defaults = defaults; quality = quality; group = 0; reading = reading }
 
 -- a unit on a flat trajectory, all points good
-abbrev steady : ℕ → ℕ → Kind → ℕ → ByDirection Defaults → List ℤ → Unit
+abbrev pub steady : ℕ → ℕ → Kind → ℕ → ByDirection Defaults → List ℤ → Unit
 steady number r kind power defaults reading = unit number r kind (pos power) (pos power) defaults (flat true) reading
 
 -- the same, where the reading at a point is bad
-abbrev bad-at : ℕ → ℕ → ℕ → Kind → ℤ → ℤ → ByDirection Defaults → (ℕ → ℤ) → Unit
+abbrev pub bad-at : ℕ → ℕ → ℕ → Kind → ℤ → ℤ → ByDirection Defaults → (ℕ → ℤ) → Unit
 bad-at point number r kind start end defaults reading =
     unit number r kind start end defaults (series (λ t. not (eqb t point))) (series (λ t. cond (eqb t point) (pos 0) (reading t)))
 
-abbrev requirement : ℕ → ℕ → Direction → ℕ → ℕ → ℕ → ℕ → Requirement
+abbrev pub requirement : ℕ → ℕ → Direction → ℕ → ℕ → ℕ → ℕ → Requirement
 requirement number set direction price cost enabled used =
     record { number = number; set = set; direction = direction; price = price; cost = cost; enabled = enabled; used = used }
 
-abbrev book : Settings → List Region → List Unit → List Requirement → Book
+abbrev pub book : Settings → List Region → List Unit → List Requirement → Book
 book s rs us qs = record { settings = s; regions = rs; roster = us; requirements = qs }
 
 -- ---- lower over two regions in one set, generation and load; one region alone; raise where no FM is above 0
@@ -295,7 +295,7 @@ edges-of-reliability =
     of : ℕ → ℕ → Direction → Requirement
     of number set direction = requirement number set direction 0 50 10 4
 
--- ---- each field holds a value of its own
+-- ---- each field holds a value of its own; no unit is of a group
 abbrev pub every-field : Book
 every-field =
     book (settings 4_321 72 33 67_305_985)

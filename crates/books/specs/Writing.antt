@@ -58,7 +58,7 @@ kind-byte Load = 1
 abbrev pub unit-bytes : Unit → List ℕ
 unit-bytes u =
     concat (bytes 2 (u .number) ∷ bytes 1 (u .region) ∷ bytes 1 (kind-byte (u .kind)) ∷ signed-bytes 4 (u .start) ∷ signed-bytes 4 (u .end) ∷ defaults-bytes
-    (u .defaults) ∷ bytes 10 (bits (u .quality)) ∷ bytes 2 0 ∷ map (signed-bytes 4) (u .reading))
+    (u .defaults) ∷ bytes 10 (bits (u .quality)) ∷ bytes 2 (u .group) ∷ map (signed-bytes 4) (u .reading))
 
 abbrev pub direction-byte : Direction → ℕ
 direction-byte Raise = 0

@@ -25,7 +25,7 @@ use Rattle.interval.specs.declared.Tally.{Tally}
 use Rattle.interval.specs.declared.Opened.{Opened}
 use Rattle.interval.specs.declared.Step.{Step}
 use Rattle.interval.specs.Tally.{next-region, book-end}
-use Rattle.interval.specs.Lent.{Lent, named-region}
+use Rattle.interval.specs.Lent.{Lent, named-region, named-group}
 use Rattle.interval.specs.Calls.{settings-reply, frequency-reply, unit-reply, requirement-reply}
 use Rattle.interval.specs.Promises.{ContentsPromise, SettingsPromise, FrequencyPromise, UnitPromise, RequirementPromise}
 use Rattle.chain.proofs.ChainLaws.{listed-ext}
@@ -158,6 +158,10 @@ module _ {k : ℕ} {p q : List ℕ} (a : Alike k p q) where
   named-same : 3 ≤ k → named-region p ≡ named-region q
   named-same h = ap₂ (λ (s : Bool) (r : ℕ). cond s r regions) (whole-same 3 h) (number-same 1 2 (omega arith))
 
+  -- and the group
+  group-same : 72 ≤ k → named-group p ≡ named-group q
+  group-same h = ap₂ (λ (s : Bool) (r : ℕ). cond s r 0) (whole-same 72 h) (number-same 2 70 (omega arith))
+
   unit-in-same : unit-size ≤ k → unit-in p ≡ unit-in q
   unfolding unit-in
   unit-in-same h =
@@ -171,13 +175,14 @@ module _ {k : ℕ} {p q : List ℕ} (a : Alike k p q) where
         number-same 4 8 (omega arith),
         defaults-same 12 (omega arith),
         quality-same 60 (omega arith),
+        number-same 2 70 (omega arith),
         listed-ext 0 points (λ t. integer-at 4 (72 + 4 * t) p) (λ t. integer-at 4 (72 + 4 * t) q) reading,
       )
 
   unit-same : (least : ℕ) → unit-size ≤ k → unit-record least p ≡ unit-record least q
   unfolding unit-record
   unit-same least h =
-      rw (whole-same unit-size h, number-same 1 3 (omega arith), number-same 1 69 (omega arith), number-same 2 70 (omega arith), unit-in-same h)
+      rw (whole-same unit-size h, number-same 1 3 (omega arith), number-same 1 69 (omega arith), unit-in-same h)
 
   requirement-in-same : requirement-size ≤ k → requirement-in p ≡ requirement-in q
   unfolding requirement-in
@@ -227,7 +232,7 @@ module _ {k : ℕ} {p q : List ℕ} (a : Alike k p q) where
 
     unit-reply-same : (l : Lent) → unit-size ≤ k → unit-reply t p l ≡ unit-reply t q l
     unfolding unit-reply
-    unit-reply-same l h = rw (named-same (omega arith), unit-same (t .least) h)
+    unit-reply-same l h = rw (named-same (omega arith), group-same (omega arith), unit-same (t .least) h)
 
     pub unit-alike : {l l′ : Lent} {r : Step} → unit-size ≤ k → UnitPromise t p l r l′ → UnitPromise t q l r l′
     unit-alike {l} h w = let same = unit-reply-same l h in record { reply = rw same at (w .reply); lent = rw same at (w .lent) }

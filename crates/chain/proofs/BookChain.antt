@@ -22,32 +22,29 @@ use Rattle.rules.specs.Book.{Settings, Region, Unit, Requirement, Book, regionO
 use Rattle.laws.proofs.Limits.{UnitFits, BookFits}
 use Rattle.laws.proofs.LimitsLaws.{settings-fit, region-fits}
 use Rattle.rules.specs.Measure.{measure}
-use Rattle.rules.specs.Deviation.{deviation, good-units, units-in}
+use Rattle.rules.specs.Plants.{Plant, plants, plants-in, good-plants}
 use Rattle.rules.specs.Performance.{weight, weight-in, wanted}
 use Rattle.rules.specs.Answer.{answer}
 use Rattle.interval.specs.declared.Tally.{Tally}
 use Rattle.interval.specs.Tally.{before-units}
-use Rattle.interval.specs.Lent.{Lent, kept-measure, figures-of, home-of, row-of}
+use Rattle.interval.specs.Lent.{Lent, kept-measure, figures-of, row-of}
 use Rattle.kept.specs.Kept.{kept-answer}
 use Rattle.kept.specs.Range.{kept-fine}
-use Rattle.chain.proofs.ChainLaws.{listed-ext, listed-length, listed-shift}
+use Rattle.chain.proofs.ChainLaws.{all-listed, listed-ext, listed-length}
+use Rattle.chain.specs.PlantsAt.{plant-at, home-at}
+use Rattle.chain.proofs.PlantsAt.{plant-region, plants-same, homes-same}
 use Rattle.chain.specs.Taken.{counts-in}
 use Rattle.chain.proofs.Taken.{contents-is, settings-is}
-use Rattle.chain.specs.Chain.{Chain, Means, regions-among, units-among, the-settings, region, unit, roster}
+use Rattle.chain.specs.Chain.{Chain, Means, regions-among, units-among, the-settings, region, unit, roster, weight-of}
 use Rattle.chain.proofs.ChainTheorem.{measure-fits, chain}
-use Rattle.chain.proofs.ChainValues.{measures-are, sums-are, figures-are, numbers-are, homes-are, rows-are}
+use Rattle.chain.proofs.ChainValues.{one-regions, measures-are, sums-are, figures-are, numbers-are, homes-are, rows-are}
 use Rattle.chain.proofs.Judged.{unit-within}
 use Rattle.chain.specs.BookRecords.{part-of, Read}
 use Rattle.chain.proofs.BookRecords.{settings-part, frequency-place, unit-place, book-read, frequencies-each, units-each, requirements-each}
-use Rattle.chain.specs.Keeps.{Keeps}
+use Rattle.chain.specs.Keeps.{Keeps, roster-unit}
 use Rattle.chain.proofs.KeptInRange.{kept-in-range}
 use Rattle.chain.proofs.AnswerIs.{answer-is}
 use Rattle.chain.specs.BookChain.{book-of}
-
-all-listed : {A : Type 0} (P : A → Type 0) (n : ℕ) (f : ℕ → A) → ((i : ℕ) → i < n → P (f i)) → All P (listed 0 n f)
-unfolding All listed
-all-listed P zero f h = tt
-all-listed {A} P (suc n) f h = (h 0 (omega arith), rw (listed-shift 0 n f) (all-listed P n (λ i. f (suc i)) (λ i b. h (suc i) (omega arith))))
 
 module _
     {head : List ℕ} {part : ℕ → List ℕ} {l₀ : Lent} {n : ℕ} {t : Tally} {l : Lent} (d : Chain head part l₀ n t l)
@@ -73,45 +70,58 @@ module _
       go : (u : ℕ) → before-units + u ≤ n → units-among u n ≡ u
       go u a = omega arith
 
+  roster-many : length (b .roster) ≡ many
+  roster-many = listed-length 0 many (unit part)
+
   unit-there : (j : ℕ) → j < length (b .roster) → j < units-among many n
-  unit-there j h = rw units-there (rw (listed-length 0 many (unit part)) at h)
+  unit-there j h = rw units-there (rw roster-many at h)
 
   -- the book's records are those that the chain read
   region-is : (r : ℕ) → r < regions → region part r ≡ regionOf b r
   region-is r h = sym (listed-from-zero regions (region part) r no-region h)
 
-  unit-is : (j : ℕ) (z : Unit) → j < length (b .roster) → unit part j ≡ getD (b .roster) j z
-  unit-is j z h = sym (listed-from-zero many (unit part) j z (rw (listed-length 0 many (unit part)) at h))
+  unit-is : (j : ℕ) → j < many → unit part j ≡ roster-unit b j
+  unit-is j h = sym (listed-from-zero many (unit part) j (unit-in []) h)
 
   unit-fine : (i : ℕ) → i < many → UnitFits (unit part i)
   unit-fine i h = unit-within d i (rw units-there h)
 
+  -- and so are its plants
+  plant-is : (j : ℕ) → j < many → plant-at (unit part) j ≡ plant-at (roster-unit b) j
+  plant-is j h = plants-same (unit part) (roster-unit b) j (λ i k. unit-is i (omega arith))
+
+  plant-in : (j : ℕ) → j < many → plant-at (unit part) j .region ≡ unit part j .region
+  plant-in j h = plant-region (unit part) j (λ i k. one-regions d i (rw units-there (below h k)))
+    where
+      below : {i j m : ℕ} → j < m → i ≤ j → i < m
+      below h k = omega arith
+
   -- a row is by what the points of its unit's region weigh
-  row-is :
-      (j i : ℕ) (z : Unit) → j < length (b .roster) →
-      row-of (weight (the-settings part) (region part (unit part j .region))) (unit part j) i ≡
-      row-of (weight-in b (getD (b .roster) j z .region)) (getD (b .roster) j z) i
-  row-is j i z h =
-      let inside = unit-fine j (rw (listed-length 0 many (unit part)) at h) .region in
-      ap (λ (x : Region). row-of (weight (the-settings part) x) (unit part j) i) (region-is (unit part j .region) inside)
-      ∙ ap (λ (u : Unit). row-of (weight-in b (u .region)) u i) (unit-is j z h)
+  row-is : (j i : ℕ) → j < many → row-of (weight-of part j) (plant-at (unit part) j) i ≡
+      row-of (weight-in b (roster-unit b j .region)) (plant-at (roster-unit b) j) i
+  row-is j i h =
+      ap (λ (x : Region). row-of (weight (the-settings part) x) (plant-at (unit part) j) i) (region-is (unit part j .region) (unit-fine j h .region))
+      ∙ ap₂ (λ (u : Unit) (p : Plant). row-of (weight-in b (u .region)) p i) (unit-is j h) (plant-is j h)
 
   pub chain-keeps : Keeps t l b
   chain-keeps =
       record {
         settings = m .kept (omega arith);
-        units = m .units ∙ sym (listed-length 0 many (unit part));
+        units = m .units ∙ sym roster-many;
         measures = λ r i h k. measures-are d r (region-there r h) i k ∙ ap (λ (x : Region). kept-measure (the-settings part) x i) (region-is r h);
-        sums = λ e r p h k. sums-are d r (region-there r h) e p k ∙ ap (λ (u : ℕ). total (λ u. wanted e (deviation u p))
-            (good-units (units-in (eqb r) (roster part u)))) units-there;
+        sums = λ e r p h k. sums-are d r (region-there r h) e p k ∙ ap (λ (u : ℕ). total (λ x. wanted e (x .deviation p))
+            (good-plants (plants-in (eqb r) (plants (roster part u))))) units-there;
         figures = λ r i h k. figures-are d r (region-there r h) i k ∙ ap (λ (x : Region). figures-of (the-settings part) x i) (region-is r h);
-        numbers = λ j z h. numbers-are d j (unit-there j h) ∙ ap (λ (u : Unit). u .number) (unit-is j z h);
-        homes = λ j z h. homes-are d j (unit-there j h) ∙ ap home-of (unit-is j z h);
-        rows = λ j i z h k. rows-are d j (unit-there j h) i k ∙ row-is j i z h;
+        numbers = λ j h. numbers-are d j (unit-there j h) ∙ ap (λ (p : Plant). p .number) (plant-is j (rw roster-many at h));
+        homes = λ j h. homes-are d j (unit-there j h) ∙ ap (λ (u : ℕ). home-at (unit part) u j) (units-there ∙ sym roster-many)
+            ∙ homes-same (unit part) (roster-unit b) (length (b .roster)) j h (λ i k. unit-is i (rw roster-many at k));
+        rows = λ j i h k. rows-are d j (unit-there j h) i k ∙ row-is j i (rw roster-many at h);
+        regions = λ j h. let k = rw roster-many at h in
+            ap (λ (p : Plant). p .region) (sym (plant-is j k)) ∙ plant-in j k ∙ ap (λ (u : Unit). u .region) (unit-is j k);
       }
 
   -- so it gives the rules' answer to any requirement
-  pub chain-answers : (q : Requirement) → kept-answer t l q ≡ answer b q
+  pub chain-answers : (q : Requirement) → q .set ≤ 31 → kept-answer t l q ≡ answer b q
   chain-answers =
       answer-is t l b chain-keeps (all-listed (λ u. u .region < regions) many (unit part) (λ i h. unit-fine i h .region))
       (λ r p h k.
@@ -157,7 +167,7 @@ module _ (bs : List ℕ) (b : Book) (e : book bs ≡ taken b) where
 
   roster-same : b .roster ≡ listed 0 many-units (unit (part-of bs))
   roster-same =
-      units-each many-units 1 0 (drop unit-start bs) (b .roster) (w .roster) .0
+      units-each many-units 1 0 [] (drop unit-start bs) (b .roster) (w .roster) .0
       ∙ listed-ext 0 many-units _ _ (λ j h. ap unit-in (sym (unit-place bs (before-units + j) j refl (omega arith))))
 
   pub book-records : b ≡ book-of many-units (part-of bs) (b .requirements)

@@ -1,7 +1,7 @@
 -- A book, record by record: where each record starts, and that the format reads the bodies one record after the other, up to the first refusal.
 use mathlib.Core.Path.{_≡_, refl, sym, _∙_, ap, ap₂, subst}
 use mathlib.Core.Bool.{Bool, true, false}
-use mathlib.Core.List.{List, _∷_}
+use mathlib.Core.List.{List, [], _∷_}
 use Prim.Native.Nat.{ℕ, zero, suc, _+_, _*_, _-_, _≤_, _<_}
 use native.Mathlib.Numerals.{add-one}
 use native.Mathlib.Nat.{add-zero}
@@ -33,14 +33,16 @@ use Rattle.rules.specs.FrequencyRecord.{region-in, frequency-record}
 use Rattle.rules.specs.UnitRecord.{unit-in, unit-record}
 use Rattle.rules.specs.RequirementRecord.{requirement-in, requirement-record}
 use Rattle.rules.specs.WholeBook.{frequency-body, unit-body, requirement-body, book}
-use Rattle.laws.proofs.LimitsLaws.{there, took, went-on}
+use Rattle.rules.specs.Groups.{in-its-group}
+use Rattle.laws.proofs.LimitsLaws.{there, took, went-on, in-group}
 use Rattle.interval.specs.Tally.{before-units}
 use Rattle.chain.proofs.ChainLaws.{or-true, listed-shift}
-use Rattle.chain.specs.Taken.{counts-in}
+use Rattle.chain.specs.Taken.{counts-in, unit-behind}
 use Rattle.chain.proofs.Taken.{contents-is, region-is, unit-is, requirement-is}
-use Rattle.chain.specs.Chain.{least-at}
+use Rattle.chain.specs.Chain.{unit, least-at}
+use Rattle.chain.specs.PlantsAt.{units-before}
 use Rattle.chain.proofs.ChainTheorem.{unit-number, requirement-number}
-use Rattle.chain.specs.BookRecords.{Read, body, joined, least-from, part-of, record-size, record-start}
+use Rattle.chain.specs.BookRecords.{Read, before-from, body, joined, least-from, part-of, record-size, record-start}
 
 module _ (units m : ℕ) where
   pub settings-sized : m ≡ 0 → record-size units m ≡ settings-size
@@ -177,26 +179,37 @@ least-step size least bs number e zero = ap suc e ∙ ap (λ (k : ℕ). suc (num
     none size = omega arith
 least-step size least bs number e (suc i) = ap (λ (b : List ℕ). suc (number-at 2 0 b)) (drop-step size i bs)
 
-pub unit-body-is : (n place least : ℕ) (bs : List ℕ) → unit-body n place least bs ≡
-    body n (λ i. at (place + i) (unit-record (least-from unit-size least bs i) (drop (unit-size * i) bs)))
-unfolding unit-body body least-from
-unit-body-is zero place least bs = refl
-unit-body-is (suc n) place least bs =
-    go (λ number. unit-body-is n (suc place) (suc number) (drop unit-size bs)) (unit-record least bs) refl
-    ∙ ap (λ (k : ℕ). joined (at k (unit-record least bs)) others) (sym (add-zero place))
+-- the units before, seen from one unit further on
+before-step : (before : List Unit) (bs : List ℕ) (u : Unit) → u ≡ unit-in bs → (i : ℕ) →
+    before-from (u ∷ before) (drop unit-size bs) i ≡ before-from before bs (suc i)
+unfolding before-from
+before-step before bs u e zero = ap (λ (v : Unit). v ∷ before) e
+before-step before bs u e (suc i) =
+    ap₂ (λ (p : List ℕ) (vs : List Unit). unit-in p ∷ vs) (drop-step unit-size i bs) (before-step before bs u e i)
+
+pub unit-body-is : (n place least : ℕ) (before : List Unit) (bs : List ℕ) → unit-body n place least before bs ≡
+    body n (λ i. at (place + i) (unit-behind (before-from before bs i) (least-from unit-size least bs i) (drop (unit-size * i) bs)))
+unfolding unit-body body least-from before-from
+unit-body-is zero place least before bs = refl
+unit-body-is (suc n) place least before bs =
+    go (λ u. unit-body-is n (suc place) (suc (u .number)) (u ∷ before) (drop unit-size bs)) (unit-behind before least bs) refl
+    ∙ ap (λ (k : ℕ). joined (at k (unit-behind before least bs)) others) (sym (add-zero place))
   where
     others : LocatedReply (List Unit)
-    others = body n (λ i. at (place + suc i) (unit-record (least-from unit-size least bs (suc i)) (drop (unit-size * suc i) bs)))
+    others =
+        body n (λ i. at (place + suc i) (unit-behind (before-from before bs (suc i)) (least-from unit-size least bs (suc i)) (drop (unit-size * suc i) bs)))
 
-    go : ((number : ℕ) → unit-body n (suc place) (suc number) (drop unit-size bs) ≡ body n
-        (λ i. at (suc place + i) (unit-record (least-from unit-size (suc number) (drop unit-size bs) i) (drop (unit-size * i) (drop unit-size bs))))) →
-        (x : Reply Unit) → unit-record least bs ≡ x →
-        (at place x >>= (λ u. joined (taken u) (unit-body n (suc place) (suc (u .number)) (drop unit-size bs)))) ≡ joined (at place x) others
+    go : ((u : Unit) → unit-body n (suc place) (suc (u .number)) (u ∷ before) (drop unit-size bs) ≡ body n
+        (λ i. at (suc place + i) (unit-behind (before-from (u ∷ before) (drop unit-size bs) i) (least-from unit-size (suc (u .number)) (drop unit-size bs) i)
+        (drop (unit-size * i) (drop unit-size bs))))) → (x : Reply Unit) → unit-behind before least bs ≡ x →
+        (at place x >>= (λ u. joined (taken u) (unit-body n (suc place) (suc (u .number)) (u ∷ before) (drop unit-size bs)))) ≡ joined (at place x) others
     go rest (refused why) e = refl
     go rest (taken u) e =
-        let number : u .number ≡ number-at 2 0 bs = ap (λ (u : Unit). u .number) (sym (unit-is least bs u e)) ∙ unit-number bs in
-        ap (joined (taken u)) (rest (u .number) ∙ body-same n _ _ (λ i. ap₂ (λ (k : ℕ) (x : Reply Unit). at k x) (next place i)
-        (ap₂ unit-record (least-step unit-size least bs (u .number) number i) (drop-step unit-size i bs))))
+        let is : unit-in bs ≡ u = unit-is least bs u (in-group before (unit-record least bs) u e .0) in
+        let number : u .number ≡ number-at 2 0 bs = ap (λ (u : Unit). u .number) (sym is) ∙ unit-number bs in
+        ap (joined (taken u)) (rest u ∙ body-same n _ _ (λ i. ap₂ (λ (k : ℕ) (x : Reply Unit). at k x) (next place i)
+        (ap₂ (λ (vs : List Unit) (x : Reply Unit). x >>= in-its-group vs) (before-step before bs u (sym is) i)
+        (ap₂ unit-record (least-step unit-size least bs (u .number) number i) (drop-step unit-size i bs)))))
 
 pub requirement-body-is : (n place least : ℕ) (bs : List ℕ) → requirement-body n place least bs ≡
     body n (λ i. at (place + i) (requirement-record (least-from requirement-size least bs i) (eqb (n - suc i) 0) (drop (requirement-size * i) bs)))
@@ -238,12 +251,14 @@ frequencies-each n r bs rs e =
     (λ i a f. region-is (r + i) (drop (frequency-size * i) bs) a (there (suc (r + i)) _ a f)) (sym (frequency-body-is n r bs) ∙ e) in
     (each .0, λ i h. there (suc (r + i)) _ _ (each .1 i h))
 
-pub units-each : (n place least : ℕ) (bs : List ℕ) (us : List Unit) → unit-body n place least bs ≡ taken us →
+pub units-each : (n place least : ℕ) (before : List Unit) (bs : List ℕ) (us : List Unit) → unit-body n place least before bs ≡ taken us →
     (us ≡ listed 0 n (λ i. unit-in (drop (unit-size * i) bs))) × ((i : ℕ) → i < n →
-    unit-record (least-from unit-size least bs i) (drop (unit-size * i) bs) ≡ taken (unit-in (drop (unit-size * i) bs)))
-units-each n place least bs us e =
+    unit-behind (before-from before bs i) (least-from unit-size least bs i) (drop (unit-size * i) bs) ≡ taken (unit-in (drop (unit-size * i) bs)))
+units-each n place least before bs us e =
     let each = body-each (λ i. unit-in (drop (unit-size * i) bs)) n _ us
-    (λ i a f. unit-is (least-from unit-size least bs i) (drop (unit-size * i) bs) a (there (place + i) _ a f)) (sym (unit-body-is n place least bs) ∙ e) in
+    (λ i a f. unit-is (least-from unit-size least bs i) (drop (unit-size * i) bs) a
+    (in-group (before-from before bs i) (unit-record (least-from unit-size least bs i) (drop (unit-size * i) bs)) a (there (place + i) _ a f) .0))
+    (sym (unit-body-is n place least before bs) ∙ e) in
     (each .0, λ i h. there (place + i) _ _ (each .1 i h))
 
 pub requirements-each : (n place least : ℕ) (bs : List ℕ) (qs : List Requirement) → requirement-body n place least bs ≡ taken qs →
@@ -262,7 +277,7 @@ book-read bs b e =
     let counts = went-on (at 0 (contents bs)) _ b e in
     let s = went-on (at 1 (settings (drop contents-size bs))) _ b (counts .2) in
     let rs = went-on (frequency-body regions 0 (drop frequency-start bs)) _ b (s .2) in
-    let us = went-on (unit-body (counts .0 .units) 1 0 (drop unit-start bs)) _ b (rs .2) in
+    let us = went-on (unit-body (counts .0 .units) 1 0 [] (drop unit-start bs)) _ b (rs .2) in
     let qs = went-on (requirement-body (counts .0 .requirements) 1 0 (drop (requirement-start (counts .0 .units)) bs)) _ b (us .2) in
     let table = there 0 _ (counts .0) (counts .1) in
     let is = contents-is bs (counts .0) table .0 in
@@ -273,7 +288,7 @@ book-read bs b e =
       table = table ∙ ap taken (sym is);
       settings = there 1 _ (s .0) (s .1);
       regions = rs .1;
-      roster = ap (λ (k : ℕ). unit-body k 1 0 (drop unit-start bs)) units ∙ us .1;
+      roster = ap (λ (k : ℕ). unit-body k 1 0 [] (drop unit-start bs)) units ∙ us .1;
       requirements = ap₂ (λ (k u : ℕ). requirement-body k 1 0 (drop (requirement-start u) bs)) requirements units ∙ qs .1;
     })
 
@@ -322,10 +337,20 @@ module _ (bs : List ℕ) where
       let less : m - 1 ≡ 0 + i = omega arith in
       ap₂ frequency-record less (frequency-place bs m i e h)
 
+  -- the units before, in both
+  before-at : (i : ℕ) → i ≤ counts-in bs .units → units-before (unit (part-of bs)) i ≡ before-from [] (drop unit-start bs) i
+  unfolding units-before before-from
+  before-at zero h = refl
+  before-at (suc i) h =
+      ap₂ (λ (p : List ℕ) (vs : List Unit). unit-in p ∷ vs) (unit-place bs (before-units + i) i refl (omega arith)) (before-at i (omega arith))
+
   pub unit-at : (m i : ℕ) → m ≡ before-units + i → i < counts-in bs .units →
-      unit-record (least-at (part-of bs) (counts-in bs .units) m) (part-of bs m) ≡ unit-record (least-from unit-size 0 (drop unit-start bs) i)
-      (drop (unit-size * i) (drop unit-start bs))
-  unit-at m i e h = ap₂ unit-record (unit-least-at i h m e) (unit-place bs m i e h)
+      unit-behind (units-before (unit (part-of bs)) (m - before-units)) (least-at (part-of bs) (counts-in bs .units) m) (part-of bs m) ≡
+      unit-behind (before-from [] (drop unit-start bs) i) (least-from unit-size 0 (drop unit-start bs) i) (drop (unit-size * i) (drop unit-start bs))
+  unit-at m i e h =
+      let less : m - before-units ≡ i = omega arith in
+      ap₂ (λ (vs : List Unit) (x : Reply Unit). x >>= in-its-group vs) (ap (units-before (unit (part-of bs))) less ∙ before-at i (omega arith))
+      (ap₂ unit-record (unit-least-at i h m e) (unit-place bs m i e h))
 
   pub requirement-at : (m j : ℕ) → m ≡ before-units + counts-in bs .units + j → j < counts-in bs .requirements →
       requirement-record (least-at (part-of bs) (counts-in bs .units) m) (eqb (m + 1) (before-units + counts-in bs .units + counts-in bs .requirements))

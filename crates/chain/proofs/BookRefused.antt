@@ -1,7 +1,7 @@
 -- THE BOOK TAKEN OR REFUSED: where the format takes a book, the calls take every record of it, whatever was refused in between. Where it refuses the book,
 -- they meet that refusal and no other, number, place and t: the table of contents is refused with its number, or all records before some record are taken and this one is refused.
 use mathlib.Core.Path.{_≡_, refl, sym, _∙_, ap, ap₂, subst}
-use mathlib.Core.List.{List}
+use mathlib.Core.List.{List, []}
 use Prim.Native.Nat.{ℕ, suc, _+_, _*_, _-_, _≤_, _<_}
 use native.Mathlib.Omega.{arith}
 use lib.Dec.{eqb}
@@ -15,7 +15,7 @@ use Rattle.rules.specs.Book.{Settings, Region, Unit, Requirement, Book}
 use Rattle.rules.specs.Contents.{Counts, contents, contents-size, frequency-start, frequency-size, unit-start, unit-size, requirement-start, requirement-size}
 use Rattle.rules.specs.SettingsRecord.{settings, settings-in}
 use Rattle.rules.specs.FrequencyRecord.{region-in, frequency-record}
-use Rattle.rules.specs.UnitRecord.{unit-in, unit-record}
+use Rattle.rules.specs.UnitRecord.{unit-in}
 use Rattle.rules.specs.RequirementRecord.{requirement-in, requirement-record}
 use Rattle.rules.specs.WholeBook.{frequency-body, unit-body, requirement-body, book}
 use Rattle.interval.specs.declared.Tally.{Tally}
@@ -25,13 +25,13 @@ use Rattle.interval.proofs.TallyLaws.{settings-placed, frequency-placed, unit-p
 use Rattle.interval.specs.declared.Step.{Step}
 use Rattle.interval.specs.Lent.{Lent}
 use Rattle.interval.specs.Calls.{opened, settled, counted, unit-counted, settings-reply, frequency-reply, unit-reply, requirement-reply}
-use Rattle.chain.specs.Taken.{counts-in}
+use Rattle.chain.specs.Taken.{counts-in, unit-behind}
 use Rattle.interval.proofs.Calls.{step-refused}
 use Rattle.chain.specs.Chain.{Refused, Chain, Means}
 use Rattle.chain.proofs.ChainTheorem.{chain}
 use Rattle.chain.specs.Long.{Long}
 use Rattle.chain.proofs.Judged.{settings-judged, frequency-judged, unit-judged, requirement-judged}
-use Rattle.chain.specs.BookRecords.{part-of, least-from}
+use Rattle.chain.specs.BookRecords.{before-from, part-of, least-from}
 use Rattle.chain.proofs.BookRecords.{
   settings-part,
   part-bytes,
@@ -79,7 +79,7 @@ module _ (bs : List ℕ) where
       contents bs ≡ taken (counts-in bs) →
       book bs ≡
       assembled (at 1 (settings settings-bytes)) (frequency-body regions 0 (drop frequency-start bs))
-      (unit-body (counts-in bs .units) 1 0 (drop unit-start bs)) (requirement-body (counts-in bs .requirements) 1 0 (drop (requirement-start (counts-in bs .units)) bs))
+      (unit-body (counts-in bs .units) 1 0 [] (drop unit-start bs)) (requirement-body (counts-in bs .requirements) 1 0 (drop (requirement-start (counts-in bs .units)) bs))
   unfolding book
   book-is table = rw table
 
@@ -109,7 +109,7 @@ module _ (bs : List ℕ) (l₀ : Lent) {n : ℕ} {t : Tally} {l : Lent} (d : Cha
 
   unit-there :
       (i : ℕ) → before-units + i < n → i < counts-in bs .units →
-      unit-record (least-from unit-size 0 (drop unit-start bs) i) (unit-bytes bs i) ≡ taken (unit-in (unit-bytes bs i))
+      unit-behind (before-from [] (drop unit-start bs) i) (least-from unit-size 0 (drop unit-start bs) i) (unit-bytes bs i) ≡ taken (unit-in (unit-bytes bs i))
   unit-there i m h =
       sym (unit-at bs (before-units + i) i refl h)
       ∙ w .taken-each (before-units + i) m .as-unit (omega arith) (omega arith)
@@ -130,10 +130,10 @@ module _ (bs : List ℕ) (l₀ : Lent) {n : ℕ} {t : Tally} {l : Lent} (d : Cha
       frequency-body-is regions 0 _
       ∙ body-all (λ i. region-in (frequency-bytes bs i)) regions _ (λ i h. ap (at (suc (0 + i))) (frequency-there i (omega arith) h))
 
-  units-there : before-units + counts-in bs .units ≤ n → unit-body (counts-in bs .units) 1 0 (drop unit-start bs) ≡ taken (book-in bs .roster)
+  units-there : before-units + counts-in bs .units ≤ n → unit-body (counts-in bs .units) 1 0 [] (drop unit-start bs) ≡ taken (book-in bs .roster)
   unfolding book-in
   units-there m =
-      unit-body-is (counts-in bs .units) 1 0 _
+      unit-body-is (counts-in bs .units) 1 0 [] _
       ∙ body-all (λ i. unit-in (unit-bytes bs i)) (counts-in bs .units) _ (λ i h. ap (at (1 + i)) (unit-there i (omega arith) h))
 
   -- at the end of the book the format has taken it
@@ -181,7 +181,7 @@ module _ (bs : List ℕ) (l₀ : Lent) {n : ℕ} {t : Tally} {l : Lent} (d : Cha
       let here = placed-here (1 + i) (unit-placed many n i (omega arith) (omega arith))
       (sym (unit-at bs n i (omega arith) (omega arith)) ∙ sym judged) answer in
       let stops =
-      unit-body-is many 1 0 _
+      unit-body-is many 1 0 [] _
       ∙ body-stops (λ i. unit-in (unit-bytes bs i)) many i _ why (omega arith) (λ i h. ap (at (1 + i)) (unit-there i (omega arith) (omega arith))) here in
       book-is bs (w .table) ∙ rw (settings-there (omega arith), frequencies-there first, stops)
   record-refused {why = why} long bytes (for-requirement first last p _) e =

@@ -1,4 +1,4 @@
--- Laws of lists and sums that the chain stands on: parts of a list that are placed one behind the other or inside what is filled, what a unit adds to
+-- Laws of lists and sums that the chain stands on: parts of a list that are placed one behind the other or inside what is filled, what a unit moves in
 -- the sums of all regions, its row, whose figures they are, and lists of values by index.
 use mathlib.Core.Path.{_≡_, refl, sym, _∙_, ap, ap₂}
 use mathlib.Core.Bool.{Bool, true, false, cond, _||_}
@@ -17,23 +17,21 @@ use native.Mathlib.Nat.{
 }
 use native.Mathlib.Omega.{arith}
 use lib.Dec.{eqb}
-use lib.IntN.{ℤ, pos, _+ℤ_, _*ℤ_, +ℤ-idr}
-use lib.ListN.{length, getD}
+use lib.IntN.{ℤ, pos, _+ℤ_, _-ℤ_, _*ℤ_, +ℤ-idr}
+use lib.ListN.{length, getD, set}
 use borrow.Author.Tests.{eq-eqb, ne-eqb}
-use Rattle.integers.specs.Sums.{sum, when}
+use Rattle.integers.specs.Sums.{sum, when, one}
 use Rattle.integers.proofs.Sums.{sum-ext, none-below, every-all, every-fails}
-use Rattle.integers.specs.Totals.{total}
+use Rattle.integers.specs.Totals.{total, All}
 use Rattle.integers.proofs.Totals.{total-more}
 use Rattle.integers.specs.Fills.{filled}
 use Rattle.integers.proofs.Fills.{filled-none, filled-ext, filled-at}
 use Rattle.rules.specs.declared.Direction.the-variants.{Raise, Lower}
 use Rattle.rules.specs.Quantities.{points, regions}
 use Rattle.rules.specs.Bytes.{listed}
-use Rattle.rules.specs.Book.{Unit}
-use Rattle.rules.specs.Deviation.{deviation, good}
+use Rattle.rules.specs.Plants.{Plant}
 use Rattle.rules.specs.Performance.{wanted, performance}
-use Rattle.interval.specs.Lent.{put-from, sums-each, sums-start, sums-length, side-part, summed, row-of, figures-each, is-number, of-interval}
-use Rattle.chain.specs.Chain.{adds}
+use Rattle.interval.specs.Lent.{put-from, sums-each, sums-start, sums-length, moved, row-of, figures-each, is-number, of-interval}
 
 pub or-true : (b : Bool) → b || true ≡ true
 or-true true = refl
@@ -89,42 +87,53 @@ module _ {A : Type 0} where
       (placed-inside place n m g (λ i. G (suc i)) (λ i. H (suc i)) xs (omega arith) (λ i h. ap H (sym (suc-add place i)) ∙ at i h)
       (λ j h. before (suc j) (omega arith)) (λ j h. past (suc j) (omega arith)))
 
--- ---- a unit's deviations, added to the sums of all regions
-pub summed-adds : (u : Unit) (G : ℕ → ℤ) (xs : List ℤ) → u .region < regions → sums-length ≤ length xs →
-    summed u (filled sums-length G xs) ≡ filled sums-length (λ j. G j +ℤ adds u j) xs
-unfolding adds
-summed-adds u G xs h l = go (good u)
+  -- one of the numbers filled is another
+  pub set-inside : (n at : ℕ) (z : A) (g G : ℕ → A) (xs : List A) → at < n → ((i : ℕ) → i < at → G i ≡ g i) → G at ≡ z →
+      ((i : ℕ) → at < i → i < n → G i ≡ g i) → set (filled n g xs) at z ≡ filled n G xs
+  unfolding filled
+  set-inside zero at z g G xs h before here past = none-below at h
+  set-inside (suc n) at z g G [] h before here past = refl
+  set-inside (suc n) zero z g G (x ∷ xs) h before here past =
+      ap₂ (λ (y : A) (ys : List A). y ∷ ys) (sym here) (filled-ext n _ _ xs (λ i b. sym (past (suc i) (omega arith) (omega arith))))
+  set-inside (suc n) (suc at) z g G (x ∷ xs) h before here past =
+      ap₂ (λ (y : A) (ys : List A). y ∷ ys) (sym (before 0 (omega arith)))
+      (set-inside n at z (λ i. g (suc i)) (λ i. G (suc i)) xs (omega arith) (λ i b. before (suc i) (omega arith)) here
+      (λ i a b. past (suc i) (omega arith) (omega arith)))
+
+-- ---- a home is twice the region, and 1 more where the plant is good
+pub home-region : (r : ℕ) (t : Bool) → (2 * r + one t) / 2 ≡ r
+home-region r true = omega arith
+home-region r false = omega arith
+
+pub home-good : (r : ℕ) (t : Bool) → eqb ((2 * r + one t) % 2) 1 ≡ t
+home-good r true = let e : (2 * r + 1) % 2 ≡ 1 = omega arith in ap (λ (n : ℕ). eqb n 1) e
+home-good r false = let e : (2 * r + 0) % 2 ≡ 0 = omega arith in ap (λ (n : ℕ). eqb n 1) e
+
+-- ---- a plant's part, moved in the sums of all regions
+pub moved-adds : (r : ℕ) (before after G : ℕ → ℤ) (xs : List ℤ) → r < regions → sums-length ≤ length xs →
+    moved r before after (filled sums-length G xs) ≡
+    filled sums-length (λ j. G j +ℤ when (eqb (j / sums-each) r) (after (j % sums-each) -ℤ before (j % sums-each))) xs
+moved-adds r before after G xs h l =
+    placed-inside (sums-start r) sums-each sums-length _ G (λ j. G j +ℤ w j) xs (omega arith)
+    (λ i b. ap₂ _+ℤ_ (sym (filled-at sums-length G xs (sums-start r + i) (pos 0) (omega arith) (omega arith))) (inside i b))
+    (λ j b. outside j (λ e. omega arith))
+    (λ j b. outside j (λ e. omega arith))
   where
-    r : ℕ
-    r = u .region
-
-    old : List ℤ
-    old = filled sums-length G xs
-
     w : ℕ → ℤ
-    w j = when (eqb (j / sums-each) (u .region)) (side-part u (j % sums-each))
+    w j = when (eqb (j / sums-each) r) (after (j % sums-each) -ℤ before (j % sums-each))
 
-    inside : (i : ℕ) → i < sums-each → w (sums-start r + i) ≡ side-part u i
-    inside i h = in-block sums-each (λ s i. when (eqb s (u .region)) (side-part u i)) r i h ∙ rw (eq-eqb r r refl)
+    inside : (i : ℕ) → i < sums-each → w (sums-start r + i) ≡ after i -ℤ before i
+    inside i h = in-block sums-each (λ s i. when (eqb s r) (after i -ℤ before i)) r i h ∙ rw (eq-eqb r r refl)
 
     outside : (j : ℕ) → (j / sums-each ≡ r → ⊥) → G j +ℤ w j ≡ G j
     outside j f = rw (ne-eqb (j / sums-each) r f) (+ℤ-idr (G j))
 
-    go : (t : Bool) → cond t (put-from (sums-start r) sums-each (λ i. getD old (sums-start r + i) (pos 0) +ℤ side-part u i) old) old ≡
-        filled sums-length (λ j. G j +ℤ when t (w j)) xs
-    go true =
-        placed-inside (sums-start r) sums-each sums-length _ G (λ j. G j +ℤ w j) xs (omega arith)
-        (λ i b. ap₂ _+ℤ_ (sym (filled-at sums-length G xs (sums-start r + i) (pos 0) (omega arith) (omega arith))) (inside i b))
-        (λ j b. outside j (λ e. omega arith))
-        (λ j b. outside j (λ e. omega arith))
-    go false = filled-ext sums-length G _ xs (λ j b. sym (+ℤ-idr (G j)))
-
--- ---- a row looks at the measures of the 75 points alone
-pub row-same : (w w′ : ℕ → ℤ) (u : Unit) → ((t : ℕ) → t < points → w t ≡ w′ t) → (i : ℕ) → row-of w u i ≡ row-of w′ u i
+-- ---- a row looks at the measures and the deviations of the 75 points alone
+pub row-same : (w w′ : ℕ → ℤ) (p : Plant) → ((t : ℕ) → t < points → w t ≡ w′ t) → (i : ℕ) → row-of w p i ≡ row-of w′ p i
 unfolding performance
-row-same w w′ u h zero = sum-ext points _ _ (λ t l. ap (λ (z : ℤ). wanted Raise z *ℤ deviation u t) (h t l))
-row-same w w′ u h (suc zero) = sum-ext points _ _ (λ t l. ap (λ (z : ℤ). wanted Lower z *ℤ deviation u t) (h t l))
-row-same w w′ u h (suc (suc i)) = refl
+row-same w w′ p h zero = sum-ext points _ _ (λ t l. ap (λ (z : ℤ). wanted Raise z *ℤ p .deviation t) (h t l))
+row-same w w′ p h (suc zero) = sum-ext points _ _ (λ t l. ap (λ (z : ℤ). wanted Lower z *ℤ p .deviation t) (h t l))
+row-same w w′ p h (suc (suc i)) = refl
 
 -- ---- whose figures they are: of a book where all regions have its number, and of none that has another number than some region
 module _ (n : ℕ) (xs : List ℤ) where
@@ -164,3 +173,9 @@ module _ {A : Type 0} where
   listed-total f zero g = refl
   listed-total f (suc n) g =
       ap (total f) (listed-more 0 n g) ∙ total-more f (listed 0 n g) (g (0 + n)) ∙ ap₂ _+ℤ_ (listed-total f n g) (ap (λ (k : ℕ). f (g k)) (zero-add n))
+
+-- what holds of each value holds of all
+pub all-listed : {A : Type 0} (P : A → Type 0) (n : ℕ) (f : ℕ → A) → ((i : ℕ) → i < n → P (f i)) → All P (listed 0 n f)
+unfolding All listed
+all-listed P zero f h = tt
+all-listed {A} P (suc n) f h = (h 0 (omega arith), rw (listed-shift 0 n f) (all-listed P n (λ i. f (suc i)) (λ i b. h (suc i) (omega arith))))

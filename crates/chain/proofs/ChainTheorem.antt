@@ -19,6 +19,7 @@ use Rattle.rules.specs.Refusals.{Reply, taken, refused}
 use Rattle.rules.specs.Book.{Region, Unit, Requirement}
 use Rattle.rules.specs.Contents.{Counts, contents}
 use Rattle.rules.specs.UnitRecord.{unit-in}
+use Rattle.rules.specs.Groups.{group-fine}
 use Rattle.rules.specs.RequirementRecord.{requirement-in}
 use Rattle.laws.proofs.LimitsLaws.{settings-fit, region-fits, unit-fits}
 use Rattle.rules.specs.Fields.{good-at}
@@ -28,7 +29,7 @@ use Rattle.interval.specs.declared.Tally.{Tally}
 use Rattle.interval.specs.declared.Opened as o
 use Rattle.interval.specs.declared.Step.{Step}
 use Rattle.interval.specs.Tally.{next-place, settings-of, before-units, book-end, next-region, units-taken}
-use Rattle.interval.specs.Lent.{Lent}
+use Rattle.interval.specs.Lent.{Lent, group-fits}
 use Rattle.interval.specs.Calls.{fresh, opened, left, settled, counted, unit-counted, settings-reply, frequency-reply, unit-reply, requirement-reply}
 use Rattle.interval.specs.Promises.{ContentsPromise, SettingsPromise, FrequencyPromise, UnitPromise, RequirementPromise, region-kept, unit-kept}
 use Rattle.chain.specs.Long.{Long}
@@ -44,6 +45,7 @@ use Rattle.chain.proofs.Taken.{
   frequency-passed,
   unit-passed,
   requirement-passed,
+  behind-taken,
 }
 use Rattle.chain.specs.Chain.{
   Taken,
@@ -64,10 +66,13 @@ use Rattle.chain.specs.Chain.{
   region,
   least-at,
   RecordTaken,
+  deviations-at,
+  unit,
   Leaves,
   Means,
 }
-use Rattle.chain.proofs.ChainSteps.{was-long, region-leaves, unit-leaves}
+use Rattle.chain.specs.PlantsAt.{units-before}
+use Rattle.chain.proofs.ChainSteps.{was-long, one-region, group-judged, region-leaves, unit-leaves}
 
 -- ---- refused calls leave everything as it came
 pub frequency-stays : {t : Tally} {p : List ℕ} {l l′ : Lent} {r : Step} {why : Located} → FrequencyPromise t p l r l′ → Refused r why →
@@ -123,6 +128,7 @@ module _ (head : List ℕ) (part : ℕ → List ℕ) (l₀ : Lent) where
   c = counts-in head
 
   nothing-left : Leaves part l₀ 0 0 l₀
+  unfolding deviations-at
   nothing-left =
       record {
         measures = sym (filled-none _ _);
@@ -131,6 +137,8 @@ module _ (head : List ℕ) (part : ℕ → List ℕ) (l₀ : Lent) where
         numbers = sym (filled-none _ _);
         homes = sym (filled-none _ _);
         rows = sym (filled-none _ _);
+        groups = sym (filled-none _ _);
+        deviations = refl;
       }
 
   start : {t : Tally} → ContentsPromise head (o.the-variants.Taken t) → Means head part l₀ 0 t l₀
@@ -262,19 +270,24 @@ module _ (head : List ℕ) (part : ℕ → List ℕ) (l₀ : Lent) where
       let row : units-taken t ≡ n - before-units = ap (λ (m : ℕ). m - before-units) (w .records) in
       let place : n ≡ before-units + (n - before-units) = omega arith in
       let lent : Leaves part l₀ regions (n - before-units) l = rw (regions-all n first, units-now (c .units) n (omega arith)) at (w .lent) in
-      let long : Long l₀ (n - before-units) = rw (units-now (c .units) n (omega arith)) at (w .long (omega arith)) in
+      let long : Long l₀ (suc (n - before-units)) = was-long lent (rw (row, add-one (n - before-units)) at (f .long)) in
+      let fits : group-fits (n - before-units) (unit-in (part n)) l ≡ true = rw (row, sym is) at (f .group) in
+      let fine : group-fine (units-before (unit part) (n - before-units)) (unit-in (part n)) ≡ true =
+      sym (group-judged (n - before-units) lent long (unit-in (part n))) ∙ fits in
+      let one = one-region (unit part) (n - before-units)
+      (subst (λ (m : ℕ). group-fine (units-before (unit part) (n - before-units)) (unit-in (part m)) ≡ true) place fine) in
       let inside : unit-in (part n) .region < regions = unit-fits (t .least) (part n) (unit-in (part n)) whole .region in
       let here = subst (λ (m : ℕ). unit-in (part m) .region < regions) place inside in
       counts w (omega arith) (a .2) (unit-least n t (a .0) (w .records) (w .units) first is) (omega arith)
       (record {
         as-settings = λ f. absurd (omega arith);
         as-frequency = λ _ f. absurd (omega arith);
-        as-unit = λ _ _. rw (w .least) at whole;
+        as-unit = λ _ _. behind-taken _ _ _ (rw (w .least) at whole) fine;
         as-requirement = λ f. absurd (omega arith);
       })
-      (rw (units-then (c .units) n first last) (was-long lent (rw (row, add-one (n - before-units)) at (f .long))))
+      (rw (units-then (c .units) n first last) long)
       (rw (regions-all (suc n) (omega arith), units-then (c .units) n first last, leaves ∙ ap (λ (m : ℕ). unit-kept t (unit-in (part m)) l) place)
-      (unit-leaves t lent row here long (measure-fits w _ (rw (regions-all n first) here))))
+      (unit-leaves t lent row here long one (measure-fits w _ (rw (regions-all n first) here))))
 
   requirement-least : (n : ℕ) (q : Requirement) → before-units + c .units ≤ n → requirement-in (part n) ≡ q → q .number + 1 ≡ least-at part (c .units) (suc n)
   unfolding least-at

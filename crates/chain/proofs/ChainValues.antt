@@ -1,14 +1,16 @@
 -- What a chain leaves, number by number, in the words of the rules: over the list of the units taken, all of them.
-use mathlib.Core.Path.{_≡_, refl, sym, _∙_, ap}
+use mathlib.Core.Path.{_≡_, refl, sym, _∙_, ap, ap₂}
+use mathlib.Core.Bool.{Bool, true, false, cond}
 use mathlib.Core.List.{List}
 use Prim.Native.Nat.{ℕ, zero, suc, _+_, _*_, _-_, _%_, _≤_, _<_}
 use native.Mathlib.Nat.{mul-le-mul-left}
 use native.Mathlib.Omega.{arith}
 use lib.Dec.{eqb}
-use lib.IntN.{ℤ, pos}
+use lib.IntN.{ℤ, pos, _-ℤ_}
 use lib.ListN.{length, getD}
 use borrow.Author.Tests.{lt-ltb, le-ltb}
-use Rattle.integers.proofs.Sums.{sum-ext, when-swap}
+use Rattle.integers.proofs.Pairs.{ring, v, _⊖_}
+use Rattle.integers.proofs.Sums.{sum-ext}
 use Rattle.integers.specs.Sums.{sum, when}
 use Rattle.integers.specs.Totals.{total}
 use Rattle.integers.proofs.Totals.{total-those}
@@ -18,8 +20,10 @@ use Rattle.rules.specs.declared.Direction.{Direction}
 use Rattle.rules.specs.declared.Direction.the-variants.{Raise, Lower}
 use Rattle.rules.specs.Quantities.{points, regions, most-units}
 use Rattle.rules.specs.Book.{Settings}
-use Rattle.rules.specs.Deviation.{deviation, good, units-in, good-units}
-use Rattle.rules.specs.Performance.{weight, wanted}
+use Rattle.rules.specs.UnitRecord.{unit-record}
+use Rattle.rules.specs.Plants.{Plant, plants, plants-in, good-plants}
+use Rattle.laws.proofs.LimitsLaws.{in-group}
+use Rattle.rules.specs.Performance.{wanted}
 use Rattle.interval.specs.declared.Tally.{Tally}
 use Rattle.interval.specs.Tally.{settings-of, before-units, units-taken}
 use Rattle.interval.specs.Lent.{
@@ -30,15 +34,18 @@ use Rattle.interval.specs.Lent.{
   sums-start,
   sum-place,
   side-of,
-  side-part,
+  part-of,
   figures-each,
   figures-of,
-  home-of,
   row-each,
+  in-row,
   row-of,
 }
 use Rattle.chain.specs.Long.{Long}
-use Rattle.chain.proofs.ChainLaws.{in-block, block-at, listed-length, listed-total}
+use Rattle.chain.proofs.ChainLaws.{in-block, block-at, listed-length}
+use Rattle.chain.specs.PlantsAt.{joined-at, plant-at, good-before, deviation-before, home-at, OneRegion}
+use Rattle.chain.proofs.PlantsAt.{plant-region, value-before, plants-moved}
+use Rattle.chain.proofs.ChainSteps.{one-region}
 use Rattle.chain.specs.Taken.{counts-in}
 use Rattle.chain.proofs.Taken.{contents-is}
 use Rattle.chain.specs.Chain.{
@@ -54,27 +61,70 @@ use Rattle.chain.specs.Chain.{
   measure-at,
   sum-at,
   figure-at,
+  weight-of,
   row-at,
 }
 use Rattle.chain.proofs.ChainTheorem.{chain}
 
--- ---- a sum is over all good units of its region
-module _ (part : ℕ → List ℕ) where
-  abbrev region-total : Direction → ℕ → ℕ → ℕ → ℤ
-  region-total d m r p = total (λ u. wanted d (deviation u p)) (good-units (units-in (eqb r) (roster part m)))
+when-minus : (s : Bool) (x y : ℤ) → when s (x -ℤ y) ≡ when s x -ℤ when s y
+when-minus true x y = refl
+when-minus false x y = ring (v (pos 0)) (v (pos 0) ⊖ v (pos 0)) (omega arith)
 
-  side-total : (d : Direction) (m r i p : ℕ) → i < sums-each → side-of i ≡ d → i % points ≡ p → sum-at part m (sums-start r + i) ≡ region-total d m r p
+wanted-none : (d : Direction) → wanted d (pos 0) ≡ pos 0
+wanted-none Raise = refl
+wanted-none Lower = refl
+
+-- ---- a sum is over all good plants of its region
+abbrev pub region-total : (ℕ → List ℕ) → Direction → ℕ → ℕ → ℕ → ℤ
+region-total part d m r p = total (λ x. wanted d (x .deviation p)) (good-plants (plants-in (eqb r) (plants (roster part m))))
+
+module _ (part : ℕ → List ℕ) (m : ℕ) (one : (i : ℕ) → i < m → OneRegion (unit part) i) where
+  region-here : (k : ℕ) → k < m → plant-at (unit part) k .region ≡ unit part k .region
+  region-here k h = plant-region (unit part) k (λ i b. one i (omega arith))
+
+  -- a plant's part in the sums of a region
+  abbrev part-in : Direction → ℕ → ℕ → Plant → ℤ
+  part-in d r p x = when (eqb r (x .region)) (when (x .good) (wanted d (x .deviation p)))
+
+  before-is : (d : Direction) (r p k : ℕ) → k < m →
+      when (eqb r (unit part k .region)) (when (good-before (unit part) k) (wanted d (deviation-before (unit part) k p))) ≡
+      value-before (unit part) (part-in d r p) k
+  before-is d r p zero h = ap (when (eqb r (unit part 0 .region))) (wanted-none d) ∙ nothing (eqb r (unit part 0 .region))
+    where
+      nothing : (s : Bool) → when s (pos 0) ≡ pos 0
+      nothing true = refl
+      nothing false = refl
+  before-is d r p (suc i) h = go (joined-at (unit part) (suc i)) (λ e. region-here i (omega arith) ∙ one (suc i) h e) (eqb r (unit part (suc i) .region)) refl
+    where
+      x : Plant
+      x = plant-at (unit part) i
+
+      go : (j : Bool) → (j ≡ true → x .region ≡ unit part (suc i) .region) → (s : Bool) → eqb r (unit part (suc i) .region) ≡ s →
+          when s (when (cond j (x .good) true) (wanted d (when j (x .deviation p)))) ≡ when j (part-in d r p x)
+      go true same s e = ap (λ (b : Bool). when b (when (x .good) (wanted d (x .deviation p)))) (sym (ap (eqb r) (same refl) ∙ e))
+      go false same true e = wanted-none d
+      go false same false e = refl
+
+  pub side-total : (d : Direction) (r i p : ℕ) → i < sums-each → side-of i ≡ d → i % points ≡ p → sum-at part m (sums-start r + i) ≡ region-total part d m r p
   unfolding adds
-  side-total d m r i p h side point =
-      in-block sums-each (λ r i. sum m (λ k. when (good (unit part k)) (when (eqb r (unit part k .region)) (side-part (unit part k) i)))) r i h
-      ∙ sum-ext m _ _ (λ k _. rw (side, point) (when-swap (good (unit part k)) (eqb r (unit part k .region)) (wanted d (deviation (unit part k) p))))
-      ∙ sym (total-those good (λ u. wanted d (deviation u p)) (units-in (eqb r) (roster part m))
-      ∙ total-those (λ u. eqb r (u .region)) (λ u. when (good u) (wanted d (deviation u p))) (roster part m)
-      ∙ listed-total (λ u. when (eqb r (u .region)) (when (good u) (wanted d (deviation u p)))) m (unit part))
+  side-total d r i p h side point =
+      in-block sums-each (λ r i. sum m (λ k. when (eqb r (unit part k .region)) (part-of (plant-at (unit part) k .good) (plant-at (unit part) k .deviation) i
+      -ℤ part-of (good-before (unit part) k) (deviation-before (unit part) k) i))) r i h
+      ∙ sum-ext m _ (λ k. part-in d r p (plant-at (unit part) k) -ℤ value-before (unit part) (part-in d r p) k)
+      (λ k b. rw (side, point) (when-minus (eqb r (unit part k .region)) _ _
+      ∙ ap₂ _-ℤ_ (ap (λ (q : ℕ). when (eqb r q) (when (plant-at (unit part) k .good) (wanted d (plant-at (unit part) k .deviation p))))
+      (sym (region-here k b))) (before-is d r p k b)))
+      ∙ sym (total-those (λ x. x .good) (λ x. wanted d (x .deviation p)) (plants-in (eqb r) (plants (roster part m)))
+      ∙ total-those (λ x. eqb r (x .region)) (λ x. when (x .good) (wanted d (x .deviation p))) (plants (roster part m))
+      ∙ plants-moved (unit part) (part-in d r p) m)
 
-  pub sum-is : (d : Direction) (m r p : ℕ) → p < points → sum-at part m (sum-place d r p) ≡ region-total d m r p
-  sum-is Raise m r p h = side-total Raise m r p p (omega arith) (rw (lt-ltb p points h)) (omega arith)
-  sum-is Lower m r p h = side-total Lower m r (points + p) p (omega arith) (rw (le-ltb (points + p) points (omega arith))) (omega arith)
+  sum-is : (d : Direction) (r p : ℕ) → p < points → sum-at part m (sum-place d r p) ≡ region-total part d m r p
+  sum-is Raise r p h = side-total Raise r p p (omega arith) (rw (lt-ltb p points h)) (omega arith)
+  sum-is Lower r p h = side-total Lower r (points + p) p (omega arith) (rw (le-ltb (points + p) points (omega arith))) (omega arith)
+
+-- where a unit stands among the records
+pub unit-place : (u n i : ℕ) → i < units-among u n → (before-units + i < n) × (before-units + i < before-units + u)
+unit-place u n i h = (omega arith, omega arith)
 
 module _ {head : List ℕ} {part : ℕ → List ℕ} {l₀ : Lent} {n : ℕ} {t : Tally} {l : Lent} (d : Chain head part l₀ n t l) where
   w : Means head part l₀ n t l
@@ -82,6 +132,14 @@ module _ {head : List ℕ} {part : ℕ → List ℕ} {l₀ : Lent} {n : ℕ} {t 
 
   abbrev many : ℕ
   many = units-among (counts-in head .units) n
+
+  -- units that join one another are in one region, as the format asks
+  pub one-regions : (i : ℕ) → i < units-among (counts-in head .units) n → OneRegion (unit part) i
+  one-regions i h =
+      let at = unit-place (counts-in head .units) n i h in
+      let less : before-units + i - before-units ≡ i = omega arith in
+      let taken = w .taken-each (before-units + i) (at .0) .as-unit (omega arith) (at .1) in
+      one-region (unit part) i (rw less at (in-group _ (unit-record _ (part (before-units + i))) (unit part i) taken .1))
 
   -- the number of units taken is the number of records added
   pub units-are-counted : n ≤ before-units + counts-in head .units → units-taken t ≡ length (roster part many)
@@ -113,10 +171,10 @@ module _ {head : List ℕ} {part : ℕ → List ℕ} {l₀ : Lent} {n : ℕ} {t 
     pub sums-at : (i : ℕ) → i < sums-each → getD (l .sums) (sums-start r + i) (pos 0) ≡ sum-at part many (sums-start r + i)
     sums-at = region-at sums-each (sum-at part many) (l₀ .sums) (l .sums) (w .lent .sums) (inside .sums)
 
-    -- the sums of positive and of negative deviations are over all good units of the region
+    -- the sums of positive and of negative deviations are over all good plants of the region
     pub sums-are : (e : Direction) (p : ℕ) → p < points → getD (l .sums) (sum-place e r p) (pos 0) ≡ region-total part e many r p
-    sums-are Raise p b = sums-at p (omega arith) ∙ sum-is part Raise many r p b
-    sums-are Lower p b = sums-at (points + p) (omega arith) ∙ sum-is part Lower many r p b
+    sums-are Raise p b = sums-at p (omega arith) ∙ sum-is part many one-regions Raise r p b
+    sums-are Lower p b = sums-at (points + p) (omega arith) ∙ sum-is part many one-regions Lower r p b
 
     pub figures-are : (i : ℕ) → i < figures-each → getD (l .figures) (figures-each * r + i) (pos 0) ≡ figures-of (the-settings part) (region part r) i
     figures-are i b =
@@ -128,18 +186,17 @@ module _ {head : List ℕ} {part : ℕ → List ℕ} {l₀ : Lent} {n : ℕ} {t 
     there : Long l₀ many
     there = w .long (omega arith)
 
-    pub numbers-are : getD (l .numbers) j 0 ≡ unit part j .number
+    pub numbers-are : getD (l .numbers) j 0 ≡ plant-at (unit part) j .number
     numbers-are = ap (λ (zs : List ℕ). getD zs j 0) (w .lent .numbers) ∙ filled-at many _ (l₀ .numbers) j 0 h (omega (arith, there .numbers))
 
-    pub homes-are : getD (l .homes) j 0 ≡ home-of (unit part j)
+    pub homes-are : getD (l .homes) j 0 ≡ home-at (unit part) (units-among (counts-in head .units) n) j
     homes-are = ap (λ (zs : List ℕ). getD zs j 0) (w .lent .homes) ∙ filled-at many _ (l₀ .homes) j 0 h (omega (arith, there .homes))
 
-    pub rows-are : (i : ℕ) → i < row-each →
-        getD (l .rows) (row-each * j + i) (pos 0) ≡ row-of (weight (the-settings part) (region part (unit part j .region))) (unit part j) i
+    pub rows-are : (i : ℕ) → i < row-each → in-row (l .rows) j i ≡ row-of (weight-of part j) (plant-at (unit part) j) i
     rows-are i b =
         ap (λ (zs : List ℤ). getD zs (row-each * j + i) (pos 0)) (w .lent .rows)
         ∙ block-at row-each many (row-at part) (l₀ .rows) j i (pos 0) b h (omega (arith, there .rows))
-        ∙ in-block row-each (λ j. row-of (weight (the-settings part) (region part (unit part j .region))) (unit part j)) j i b
+        ∙ in-block row-each (λ j. row-of (weight-of part j) (plant-at (unit part) j)) j i b
 
 -- ---- what a chain leaves is fixed by what was taken and what was lent: neither a refused call nor anything else shows
 tally-of : ℕ → ℕ → ℕ → ℕ → Settings → Tally
@@ -162,15 +219,16 @@ same-tally t t′ us qs rs ls s =
     (settings-of t′) = cc in
     e
 
-lent-of : List ℤ → List ℤ → List ℤ → List ℕ → List ℕ → List ℤ → Lent
-lent-of ms ss gs us hs rs = record { measures = ms; sums = ss; figures = gs; numbers = us; homes = hs; rows = rs }
+lent-of : List ℤ → List ℤ → List ℤ → List ℕ → List ℕ → List ℤ → List ℕ → List ℤ → Lent
+lent-of ms ss gs us hs rs ks ds =
+    record { measures = ms; sums = ss; figures = gs; numbers = us; homes = hs; rows = rs; groups = ks; deviations = ds }
 
 pub same-lent : (l l′ : Lent) → l .measures ≡ l′ .measures → l .sums ≡ l′ .sums → l .figures ≡ l′ .figures → l .numbers ≡ l′ .numbers →
-    l .homes ≡ l′ .homes → l .rows ≡ l′ .rows → l ≡ l′
+    l .homes ≡ l′ .homes → l .rows ≡ l′ .rows → l .groups ≡ l′ .groups → l .deviations ≡ l′ .deviations → l ≡ l′
 unfolding lent-of
-same-lent l l′ ms ss gs us hs rs =
-    let e : lent-of (l .measures) (l .sums) (l .figures) (l .numbers) (l .homes) (l .rows) ≡
-    lent-of (l′ .measures) (l′ .sums) (l′ .figures) (l′ .numbers) (l′ .homes) (l′ .rows) = cc in
+same-lent l l′ ms ss gs us hs rs ks ds =
+    let e : lent-of (l .measures) (l .sums) (l .figures) (l .numbers) (l .homes) (l .rows) (l .groups) (l .deviations) ≡
+    lent-of (l′ .measures) (l′ .sums) (l′ .figures) (l′ .numbers) (l′ .homes) (l′ .rows) (l′ .groups) (l′ .deviations) = cc in
     e
 
 module _ {head : List ℕ} {part : ℕ → List ℕ} {l₀ : Lent} where
@@ -183,7 +241,7 @@ module _ {head : List ℕ} {part : ℕ → List ℕ} {l₀ : Lent} where
         same-tally t t′ (v .units ∙ sym (w .units)) (v .requirements ∙ sym (w .requirements)) (v .records ∙ sym (w .records)) (v .least ∙ sym (w .least))
             (kept n v w),
         same-lent l l′ (x .measures ∙ sym (y .measures)) (x .sums ∙ sym (y .sums)) (x .figures ∙ sym (y .figures)) (x .numbers ∙ sym (y .numbers))
-            (x .homes ∙ sym (y .homes)) (x .rows ∙ sym (y .rows)),
+            (x .homes ∙ sym (y .homes)) (x .rows ∙ sym (y .rows)) (x .groups ∙ sym (y .groups)) (x .deviations ∙ sym (y .deviations)),
       )
     where
       kept : (n : ℕ) {t t′ : Tally} {l l′ : Lent} → Means head part l₀ n t l → Means head part l₀ n t′ l′ → settings-of t ≡ settings-of t′

@@ -1,9 +1,11 @@
 pub mod ChainLaws
+pub mod PlantsAt
 pub mod Long
 pub mod Taken
 pub mod ChainSteps
 pub mod ChainTheorem
 pub mod ChainValues
+pub mod RowFine
 pub mod Judged
 pub mod Mixed
 pub mod BookRecords

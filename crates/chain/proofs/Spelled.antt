@@ -20,7 +20,7 @@ use Rattle.rules.specs.FrequencyRecord.{frequency-record}
 use Rattle.rules.specs.UnitRecord.{unit-record}
 use Rattle.rules.specs.RequirementRecord.{requirement-in, requirement-fine, requirement-record}
 use Rattle.rules.specs.WholeBook.{book}
-use Rattle.laws.proofs.LimitsLaws.{passed}
+use Rattle.laws.proofs.LimitsLaws.{passed, in-group}
 use Rattle.interval.specs.declared.Tally.{Tally}
 use Rattle.interval.specs.Tally.{before-units}
 use Rattle.interval.specs.Lent.{Lent}
@@ -75,7 +75,7 @@ record-long part c m w = go (decLt m 1) (decLt m before-units) (decLt m (before-
     go : Dec (m < 1) → Dec (m < before-units) → Dec (m < before-units + c .units) → record-size (c .units) m ≤ length (part m)
     go (yes x) _ _ = omega (arith, settings-sized (c .units) m (omega arith), long settings-size _ _ (w .as-settings (omega arith)))
     go (no x) (yes y) _ = omega (arith, frequency-sized (c .units) m (omega arith) y, long frequency-size _ _ (w .as-frequency (omega arith) y))
-    go (no x) (no y) (yes z) = omega (arith, unit-sized (c .units) m (omega arith) z, long unit-size _ _ (w .as-unit (omega arith) z))
+    go (no x) (no y) (yes z) = omega (arith, unit-sized (c .units) m (omega arith) z, long unit-size _ _ (in-group _ (unit-record _ (part m)) _ (w .as-unit (omega arith) z) .0))
     go (no x) (no y) (no z) = omega (arith, requirement-sized (c .units) m (omega arith), long requirement-size _ _ (w .as-requirement (omega arith)))
 
 last-ends : (least : ℕ) (p : List ℕ) (q : Requirement) → requirement-record least true p ≡ taken q → length p ≡ requirement-size

@@ -1,5 +1,5 @@
 -- What a record or a call that was taken went through: the record is the one in its bytes, and every test of the call held.
-use mathlib.Core.Path.{_≡_, refl, ap, subst}
+use mathlib.Core.Path.{_≡_, refl, _∙_, ap, subst}
 use mathlib.Core.Bool.{Bool, true, not, _&&_, _||_}
 use mathlib.Core.List.{List}
 use Prim.Native.Nat.{ℕ, _+_, _*_, _≤_, _<_}
@@ -21,6 +21,7 @@ use Rattle.rules.specs.declared.Refusal.the-variants.{
   RequirementField,
   WrongState,
   TooShort,
+  WrongGroup,
 }
 use Rattle.rules.specs.Quantities.{
   regions,
@@ -33,7 +34,8 @@ use Rattle.rules.specs.Quantities.{
   residual-default-limit,
 }
 use Rattle.rules.specs.Bytes.{number-at}
-use Rattle.rules.specs.Refusals.{Reply, taken, refused, located, at}
+use Rattle.rules.specs.Refusals.{Reply, taken, refused, located, at, _>>=_}
+use Rattle.rules.specs.Groups.{group-fine, in-its-group}
 use Rattle.rules.specs.Book.{Settings, Region, Unit, Requirement}
 use Rattle.rules.specs.Contents.{Counts, contents, contents-size, mark, entry, items, settings-size, frequency-size, unit-size, requirement-size}
 use Rattle.rules.specs.SettingsRecord.{settings, settings-in, settings-fine}
@@ -41,13 +43,13 @@ use Rattle.rules.specs.Fields.{spare-bits-zero, defaults-fine, sized}
 use Rattle.rules.specs.FrequencyRecord.{region-in, frequencies-fine, frequency-record}
 use Rattle.rules.specs.UnitRecord.{unit-in, readings-fine, unit-record}
 use Rattle.rules.specs.RequirementRecord.{requirement-in, requirement-fine, requirement-record}
-use Rattle.laws.proofs.LimitsLaws.{passed, took}
+use Rattle.laws.proofs.LimitsLaws.{passed, took, went-on}
 use Rattle.interval.specs.declared.Tally.{Tally}
 use Rattle.interval.specs.declared.Taking as k
 use Rattle.interval.specs.declared.Step.{Step}
 use Rattle.interval.specs.Tally.{next-place, in-range, settings-turn, frequency-turn, unit-turn, requirement-turn, units-taken, before-units, units-end, book-end}
-use Rattle.interval.specs.Lent.{Lent, regions-long, of-interval, named-region, series-in-range}
-use Rattle.interval.specs.Calls.{left, stepped, settings-reply, frequency-reply, unit-long, unit-reply, requirement-reply}
+use Rattle.interval.specs.Lent.{Lent, regions-long, of-interval, named-region, named-group, series-in-range, plant-in-range, group-fits}
+use Rattle.interval.specs.Calls.{left, stepped, settings-reply, frequency-reply, unit-long, in-lent-group, unit-reply, requirement-reply}
 use Rattle.chain.proofs.Long.{passes-regions, passes-long}
 use Rattle.chain.specs.Taken.{CountsFit, FrequencyTaken, UnitTaken, counts-in}
 
@@ -99,7 +101,7 @@ unit-is least bs u e =
     let header = passed (ltb (unit-in bs .region) regions && leb (number-at 1 3 bs) 1 && sized power-limit (unit-in bs .start)
     && sized power-limit (unit-in bs .end)) _ _ u (whole .1) in
     let defaults = passed (defaults-fine unit-default-limit (unit-in bs .defaults)) _ _ u (header .1) in
-    let quality = passed (spare-bits-zero 60 bs && eqb (number-at 2 70 bs) 0) _ _ u (defaults .1) in
+    let quality = passed (spare-bits-zero 60 bs) _ _ u (defaults .1) in
     let values = passed (readings-fine (unit-in bs)) _ _ u (quality .1) in
     let rises = passed (leb least (unit-in bs .number)) UnitNotRising _ u (values .1) in
     took (rises .1)
@@ -112,6 +114,10 @@ requirement-is least last bs q e =
     (whole .1) in
     let last = passed (not last || eqb (length bs) requirement-size) BytesFollow _ q (fields .1) in
     took (last .1)
+
+-- ---- a unit behind others: its record is taken, and it may stand in its group
+pub behind-taken : (before : List Unit) (m : Reply Unit) (u : Unit) → m ≡ taken u → group-fine before u ≡ true → (m >>= in-its-group before) ≡ taken u
+behind-taken before m u e fine = rw (e, fine)
 
 -- ---- the tests of each call
 pub settings-passed : (t : Tally) (p : List ℕ) (s : Settings) → settings-reply t p ≡ taken s → (t .records ≡ 0) × (settings p ≡ taken s)
@@ -134,8 +140,17 @@ unit-passed t p l u e =
     let in-turn = passed (in-range t && unit-turn t) WrongState _ u e in
     let turn = both (leb before-units (t .records)) (ltb (t .records) (units-end t)) (both (in-range t) (unit-turn t) (in-turn .0) .1) in
     let long = passed (unit-long (units-taken t + 1) l) TooShort _ u (in-turn .1) in
-    let lent = passed (of-interval (t .interval) (l .figures) && series-in-range (named-region p) (units-taken t) l) WrongState _ u (long .1) in
-    record { first = leb-true _ _ (turn .0); last = ltb-true _ _ (turn .1); long = passes-long (long .0); record-taken = lent .1 }
+    let lent = passed (of-interval (t .interval) (l .figures)
+    && (series-in-range (named-region p) (units-taken t) l && plant-in-range (named-group p) (units-taken t) l)) WrongState _ u (long .1) in
+    let read = went-on (unit-record (t .least) p) (in-lent-group (units-taken t) l) u (lent .1) in
+    let group = passed (group-fits (units-taken t) (read .0) l) WrongGroup (taken (read .0)) u (read .2) in
+    record {
+      first = leb-true _ _ (turn .0);
+      last = ltb-true _ _ (turn .1);
+      long = passes-long (long .0);
+      record-taken = read .1 ∙ group .1;
+      group = subst (λ (u : Unit). group-fits (units-taken t) u l ≡ true) (took (group .1)) (group .0);
+    }
 
 pub requirement-passed : (t : Tally) (p : List ℕ) (q : Requirement) → requirement-reply t p ≡ taken q →
     (units-end t ≤ t .records) × (t .records < book-end t) × (requirement-record (t .least) (eqb (t .records + 1) (book-end t)) p ≡ taken q)

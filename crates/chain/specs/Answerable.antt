@@ -16,4 +16,5 @@ pub record Answerable (b : Book) (t : Tally) (l : Lent) : Type 0 where
   pub turn : units-end t ≤ t .records
   pub long : Long l (t .units)
   pub lent : kept-fine t l ≡ true
-  pub answers : (q : Requirement) → kept-answer t l q ≡ answer b q
+  -- its set names five regions at most, as the format asks
+  pub answers : (q : Requirement) → q .set ≤ 31 → kept-answer t l q ≡ answer b q

@@ -8,7 +8,7 @@ use lib.ListN.{drop}
 use Rattle.rules.specs.Quantities.{regions}
 use Rattle.rules.specs.Bytes.{number-at}
 use Rattle.rules.specs.Refusals.{LocatedReply, taken, _>>=_}
-use Rattle.rules.specs.Book.{Book}
+use Rattle.rules.specs.Book.{Unit, Book}
 use Rattle.rules.specs.Contents.{
   contents,
   contents-size,
@@ -21,6 +21,7 @@ use Rattle.rules.specs.Contents.{
   requirement-size,
 }
 use Rattle.rules.specs.SettingsRecord.{settings}
+use Rattle.rules.specs.UnitRecord.{unit-in}
 use Rattle.rules.specs.WholeBook.{frequency-body, unit-body, requirement-body}
 use Rattle.interval.specs.Tally.{before-units}
 use Rattle.chain.specs.Taken.{counts-in}
@@ -54,10 +55,15 @@ unfoldable pub least-from : ℕ → ℕ → List ℕ → ℕ → ℕ
 least-from size least bs zero = least
 least-from size least bs (suc i) = suc (number-at 2 0 (drop (size * i) bs))
 
+-- the units before unit i of a body, the last of them first
+unfoldable pub before-from : List Unit → List ℕ → ℕ → List Unit
+before-from before bs zero = before
+before-from before bs (suc i) = unit-in (drop (unit-size * i) bs) ∷ before-from before bs i
+
 -- ---- a book's bodies
 pub record Read (bs : List ℕ) (b : Book) : Type 0 where
   pub table : contents bs ≡ taken (counts-in bs)
   pub settings : settings (drop contents-size bs) ≡ taken (b .settings)
   pub regions : frequency-body regions 0 (drop frequency-start bs) ≡ taken (b .regions)
-  pub roster : unit-body (counts-in bs .units) 1 0 (drop unit-start bs) ≡ taken (b .roster)
+  pub roster : unit-body (counts-in bs .units) 1 0 [] (drop unit-start bs) ≡ taken (b .roster)
   pub requirements : requirement-body (counts-in bs .requirements) 1 0 (drop (requirement-start (counts-in bs .units)) bs) ≡ taken (b .requirements)

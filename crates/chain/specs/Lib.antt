@@ -1,5 +1,6 @@
 -- A chain of calls, what it leaves from the table of contents to the end of a book, and what the theorems in proofs/ speak of
 pub mod Long
+pub mod PlantsAt
 pub mod Taken
 pub mod Chain
 pub mod BookRecords

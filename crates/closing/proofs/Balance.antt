@@ -1,5 +1,5 @@
--- A region's good units and its residual add up to zero, and a requirement in which no default stands balances: each residual is minus its region's good units,
--- and each unit is in one region, so the payment performances of the members sum to zero, and those above zero weigh what those below do.
+-- A region's good plants and its residual add up to zero, and a requirement in which no default stands balances: each residual is minus its region's good
+-- plants, and each plant is in one region, so the payment performances of the members sum to zero, and those above zero weigh what those below do.
 use mathlib.Core.Path.{_≡_, refl, sym, _∙_, ap, ap₂}
 use mathlib.Core.Bool.{Bool, true, false, not, _||_, false≢true}
 use mathlib.Core.List.{List, [], _∷_, map}
@@ -11,7 +11,7 @@ use borrow.Author.Tests.{eqb-true}
 use Rattle.integers.specs.Pairs.{gain, loss}
 use Rattle.integers.specs.Sums.{when, both}
 use Rattle.integers.proofs.Sums.{when-there, every-at, sum-ext, sum-negation}
-use Rattle.integers.specs.Totals.{total, totalℕ, all}
+use Rattle.integers.specs.Totals.{total, totalℕ, those, all, All}
 use Rattle.integers.proofs.Totals.{total-ext, total-same, total-those, total-classes, total-parts, total-map, total-more, all-++, all-map, all-so}
 use Rattle.rules.specs.declared.Direction.{Direction}
 use Rattle.rules.specs.declared.Reason.{Reason}
@@ -19,23 +19,25 @@ use Rattle.rules.specs.declared.Reason.the-variants.{BadUnit, NoGoodUnit}
 use Rattle.rules.specs.declared.Standing.{Standing}
 use Rattle.rules.specs.declared.Standing.the-variants.{Live, Default}
 use Rattle.rules.specs.Quantities.{regions}
-use Rattle.rules.specs.Book.{Defaults, Unit, Requirement, covers, Book}
+use Rattle.rules.specs.Book.{Defaults, Requirement, covers, Book}
 use Rattle.rules.specs.Reliability.{reliable-in}
-use Rattle.rules.specs.Deviation.{deviation, good, good-units}
-use Rattle.rules.specs.Performance.{weight-in, performance, units-of, unit-performance, residual-performance}
+use Rattle.rules.specs.Deviation.{good}
+use Rattle.rules.specs.Plants.{Plant, alone, plants, good-plants}
+use Rattle.laws.proofs.PlantsLaws.{plants-fit, ungrouped}
+use Rattle.rules.specs.Performance.{weight-in, performance, plants-of, plant-performance, residual-performance}
 use Rattle.laws.proofs.PerformanceLaws.{residual-is}
-use Rattle.rules.specs.Standings.{standing, unit-standing, some-good-or-none, residual-standing, is-live, live-or}
-use Rattle.rules.specs.Members.{unit-member, over-regions, each-region, residual-or, residual-member, unit-members, members}
+use Rattle.rules.specs.Standings.{standing, plant-standing, some-good-or-none, residual-standing, is-live, live-or}
+use Rattle.rules.specs.Members.{plant-member, over-regions, each-region, residual-or, residual-member, plants-among, members}
 use Rattle.rules.specs.Refusals.{taken}
 use Rattle.rules.specs.WholeBook.{book}
 use Rattle.laws.proofs.LimitsLaws.{book-fits}
 use Rattle.closing.specs.Parties.{some-helpful, some-unhelpful, no-default, Placed}
 use Rattle.closing.proofs.PartiesLaws.{some-helpful-is, some-unhelpful-is}
-use Rattle.closing.specs.Balance.{unit-or}
+use Rattle.closing.specs.Balance.{plant-or}
 
--- in a book that the format takes every unit is of one of the five regions
+-- in a book that the format takes every plant is of one of the five regions
 pub taken-placed : (bs : List ℕ) (b : Book) → book bs ≡ taken b → Placed b
-taken-placed bs b e = all-so _ (λ u. u .region < regions) (λ u f. f .region) (b .roster) (book-fits bs b e .roster)
+taken-placed bs b e = all-so _ (λ p. p .region < regions) (λ p f. f .region) (plants (b .roster)) (plants-fit (b .roster) (book-fits bs b e .roster))
 
 -- ---- standings
 -- live: reliable, and nothing else amiss
@@ -66,35 +68,47 @@ passes false t e c = absurd (false≢true c)
 
 -- ---- a region
 module _ (b : Book) (r : ℕ) where
-  -- what counts of a unit: nothing unless it is a good one of the region
-  abbrev counted : (Unit → ℤ) → Unit → ℤ
-  counted f u = when (eqb r (u .region)) (when (good u) (f u))
+  -- what counts of a plant: nothing unless it is a good one of the region
+  abbrev counted : (Plant → ℤ) → Plant → ℤ
+  counted f p = when (eqb r (p .region)) (when (p .good) (f p))
 
-  -- a total over its good units is one over the roster
-  over-good-units : (f : Unit → ℤ) → total f (good-units (units-of b r)) ≡ total (counted f) (b .roster)
-  over-good-units f = total-those good f (units-of b r) ∙ total-those (λ u. eqb r (u .region)) (λ u. when (good u) (f u)) (b .roster)
+  -- a total over its good plants is one over all
+  over-good-plants : (f : Plant → ℤ) → total f (good-plants (plants-of b r)) ≡ total (counted f) (plants (b .roster))
+  over-good-plants f =
+      total-those (λ p. p .good) f (plants-of b r) ∙ total-those (λ p. eqb r (p .region)) (λ p. when (p .good) (f p)) (plants (b .roster))
 
-  same-over-good-units : (f g : Unit → ℤ) → ((u : Unit) → counted f u ≡ counted g u) → total f (good-units (units-of b r)) ≡ total g (good-units (units-of b r))
-  same-over-good-units f g e = over-good-units f ∙ total-same _ _ e (b .roster) ∙ sym (over-good-units g)
+  same-over-good-plants : (f g : Plant → ℤ) → ((p : Plant) → counted f p ≡ counted g p) →
+      total f (good-plants (plants-of b r)) ≡ total g (good-plants (plants-of b r))
+  same-over-good-plants f g e = over-good-plants f ∙ total-same _ _ e (plants (b .roster)) ∙ sym (over-good-plants g)
+
+  -- in a roster without groups its good plants are its good units, each by itself
+  pub over-good-units : All (λ u. u .group ≡ 0) (b .roster) → (f : Plant → ℤ) →
+      total f (good-plants (plants-of b r)) ≡ total (λ u. f (alone u)) (those good (those (λ u. eqb r (u .region)) (b .roster)))
+  over-good-units a f =
+      over-good-plants f
+      ∙ ap (total (counted f)) (ungrouped (b .roster) a)
+      ∙ total-map (counted f) alone (b .roster)
+      ∙ sym (total-those (λ u. eqb r (u .region)) (λ u. when (good u) (f (alone u))) (b .roster))
+      ∙ sym (total-those good (λ u. f (alone u)) (those (λ u. eqb r (u .region)) (b .roster)))
 
   module _ (d : Direction) where
-    -- its units' performances go by its own measures
-    residual-is-minus : residual-performance b d r ≡ negℤ (total (unit-performance b d) (good-units (units-of b r)))
-    unfolding residual-performance unit-performance
-    residual-is-minus = residual-is d (weight-in b r) (units-of b r) ∙ ap negℤ (same-over-good-units _ _ own)
+    -- its plants' performances go by its own measures
+    residual-is-minus : residual-performance b d r ≡ negℤ (total (plant-performance b d) (good-plants (plants-of b r)))
+    unfolding residual-performance plant-performance
+    residual-is-minus = residual-is d (weight-in b r) (plants-of b r) ∙ ap negℤ (same-over-good-plants _ _ own)
       where
-        own : (u : Unit) → counted (λ u. performance d (weight-in b r) (deviation u)) u ≡ counted (unit-performance b d) u
-        own u = sym (when-there (λ s. when (good u) (performance d (weight-in b s) (deviation u))) r (u .region))
+        own : (p : Plant) → counted (λ p. performance d (weight-in b r) (p .deviation)) p ≡ counted (plant-performance b d) p
+        own p = sym (when-there (λ s. when (p .good) (performance d (weight-in b s) (p .deviation))) r (p .region))
 
-    -- over the interval good units and residual add up to zero
-    pub interval-closes : total (unit-performance b d) (good-units (units-of b r)) +ℤ residual-performance b d r ≡ pos 0
-    interval-closes = rw residual-is-minus (+ℤ-invr (total (unit-performance b d) (good-units (units-of b r))))
+    -- over the interval good plants and residual add up to zero
+    pub interval-closes : total (plant-performance b d) (good-plants (plants-of b r)) +ℤ residual-performance b d r ≡ pos 0
+    interval-closes = rw residual-is-minus (+ℤ-invr (total (plant-performance b d) (good-plants (plants-of b r))))
 
     -- where the residual is live no default stands in for them
     pub live-closes : (field : Defaults → ℤ) → is-live (residual-standing b d r) ≡ true
-        → total (unit-or b d field) (good-units (units-of b r)) +ℤ residual-or b d field r ≡ pos 0
+        → total (plant-or b d field) (good-plants (plants-of b r)) +ℤ residual-or b d field r ≡ pos 0
     live-closes field l =
-        ap₂ _+ℤ_ (same-over-good-units _ _ each) (live-counts (residual-standing b d r) _ _ l) ∙ interval-closes
+        ap₂ _+ℤ_ (same-over-good-plants _ _ each) (live-counts (residual-standing b d r) _ _ l) ∙ interval-closes
       where
         counts : (own good reliable : Bool) (x y : ℤ) → (own ≡ true → reliable ≡ true)
             → when own (when good (live-or (standing reliable good BadUnit) x y)) ≡ when own (when good x)
@@ -103,42 +117,42 @@ module _ (b : Book) (r : ℕ) where
         counts true false reliable x y e = refl
         counts false good reliable x y e = refl
 
-        each : (u : Unit) → counted (unit-or b d field) u ≡ counted (unit-performance b d) u
-        each u =
-            counts (eqb r (u .region)) (good u) (reliable-in b d (u .region)) _ _
-            (λ e. ap (reliable-in b d) (sym (eqb-true r (u .region) e)) ∙ live-is (reliable-in b d r) (some-good-or-none b r) NoGoodUnit l .0)
+        each : (p : Plant) → counted (plant-or b d field) p ≡ counted (plant-performance b d) p
+        each p =
+            counts (eqb r (p .region)) (p .good) (reliable-in b d (p .region)) _ _
+            (λ e. ap (reliable-in b d) (sym (eqb-true r (p .region) e)) ∙ live-is (reliable-in b d r) (some-good-or-none b r) NoGoodUnit l .0)
 
 -- ---- a requirement
 module _ (b : Book) (q : Requirement) where
   abbrev d : Direction
   d = q .direction
 
-  -- its units' performances: those of the good ones
-  of-good : Unit → ℤ
-  of-good u = when (good u) (unit-performance b d u)
+  -- its plants' performances: those of the good ones
+  of-good : Plant → ℤ
+  of-good p = when (p .good) (plant-performance b d p)
 
-  units-part : ℤ
-  units-part = total of-good (unit-members b q)
+  plants-part : ℤ
+  plants-part = total of-good (plants-among b q)
 
   -- its regions' residuals together are minus that
-  residuals-are-minus : Placed b → over-regions q (residual-performance b d) ≡ negℤ units-part
-  unfolding of-good units-part
+  residuals-are-minus : Placed b → over-regions q (residual-performance b d) ≡ negℤ plants-part
+  unfolding of-good plants-part
   residuals-are-minus h =
       sum-ext regions _ _ (λ r _. ap (when (covers q r)) (residual r) ∙ when-negation (covers q r) _)
-      ∙ sum-negation regions (λ r. when (covers q r) (total of-good (units-of b r)))
-      ∙ ap negℤ (total-classes regions (covers q) (λ u. u .region) of-good (b .roster) h)
+      ∙ sum-negation regions (λ r. when (covers q r) (total of-good (plants-of b r)))
+      ∙ ap negℤ (total-classes regions (covers q) (λ p. p .region) of-good (plants (b .roster)) h)
     where
-      residual : (r : ℕ) → residual-performance b d r ≡ negℤ (total of-good (units-of b r))
-      residual r = residual-is-minus b r d ∙ ap negℤ (total-those good (unit-performance b d) (units-of b r))
+      residual : (r : ℕ) → residual-performance b d r ≡ negℤ (total of-good (plants-of b r))
+      residual r = residual-is-minus b r d ∙ ap negℤ (total-those (λ p. p .good) (plant-performance b d) (plants-of b r))
 
-  live-units : all (λ u. is-live (unit-standing b d u)) (unit-members b q) ≡ true → total (λ u. unit-member b d u .payment) (unit-members b q) ≡ units-part
-  unfolding of-good units-part unit-member
-  live-units l = total-ext (λ u. is-live (unit-standing b d u)) _ _ each (unit-members b q) l
+  live-plants : all (λ p. is-live (plant-standing b d p)) (plants-among b q) ≡ true → total (λ p. plant-member b d p .payment) (plants-among b q) ≡ plants-part
+  unfolding of-good plants-part plant-member
+  live-plants l = total-ext (λ p. is-live (plant-standing b d p)) _ _ each (plants-among b q) l
     where
-      each : (u : Unit) → is-live (unit-standing b d u) ≡ true → unit-or b d (λ f. f .payment) u ≡ of-good u
-      each u e =
-          live-counts (unit-standing b d u) _ _ e
-          ∙ sym (ap (λ (t : Bool). when t (unit-performance b d u)) (live-is (reliable-in b d (u .region)) (good u) _ e .1))
+      each : (p : Plant) → is-live (plant-standing b d p) ≡ true → plant-or b d (λ f. f .payment) p ≡ of-good p
+      each p e =
+          live-counts (plant-standing b d p) _ _ e
+          ∙ sym (ap (λ (t : Bool). when t (plant-performance b d p)) (live-is (reliable-in b d (p .region)) (p .good) _ e .1))
 
   live-residual : is-live (residual-member b q .standing) ≡ true → residual-member b q .payment ≡ over-regions q (residual-performance b d)
   unfolding residual-member
@@ -152,13 +166,13 @@ module _ (b : Book) (q : Requirement) where
   module _ (h : Placed b) (l : no-default b q ≡ true) where
     -- the payment performances sum to zero
     balance : total (λ m. m .payment) (members b q) ≡ pos 0
-    unfolding members unit-member all
+    unfolding members plant-member all
     balance =
-        let us : List Unit = unit-members b q in
-        let e = both _ _ (sym (all-++ (λ m. is-live (m .standing)) (map (unit-member b d) us) (residual-member b q ∷ [])) ∙ l) in
-        let units = total-map (λ m. m .payment) (unit-member b d) us ∙ live-units (sym (all-map (λ m. is-live (m .standing)) (unit-member b d) us) ∙ e .0) in
+        let ps : List Plant = plants-among b q in
+        let e = both _ _ (sym (all-++ (λ m. is-live (m .standing)) (map (plant-member b d) ps) (residual-member b q ∷ [])) ∙ l) in
+        let whole = total-map (λ m. m .payment) (plant-member b d) ps ∙ live-plants (sym (all-map (λ m. is-live (m .standing)) (plant-member b d) ps) ∙ e .0) in
         let residual = live-residual (both _ true (e .1) .0) ∙ residuals-are-minus h in
-        total-more (λ m. m .payment) (map (unit-member b d) us) (residual-member b q) ∙ ap₂ _+ℤ_ units residual ∙ +ℤ-invr units-part
+        total-more (λ m. m .payment) (map (plant-member b d) ps) (residual-member b q) ∙ ap₂ _+ℤ_ whole residual ∙ +ℤ-invr plants-part
 
     -- those above zero weigh what those below do
     same-weight : totalℕ (λ m. gain (m .payment)) (members b q) ≡ totalℕ (λ m. loss (m .payment)) (members b q)

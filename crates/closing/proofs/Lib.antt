@@ -5,4 +5,5 @@ pub mod PaperCloses
 pub mod PartiesLaws
 pub mod PartsLaws
 pub mod Replacing
+pub mod Rosters
 pub mod TwoForOneLaws

@@ -1,5 +1,5 @@
 -- The conditions of demand 3 are met: at the paper's book (01, One listing in full), whose residual is live and whose requirement has no default and both
--- parties; and at that book with the roster 1, 2, 3, whose unit 2 is drawn as units 2 and 9, which stand apart.
+-- parties; at that book with the roster 1, 2, 3, whose unit 2 is drawn as units 2 and 9, which stand apart; and at one in which a group stands between the two.
 use mathlib.Core.Path.{_≡_, refl, sym, _∙_, ap₂}
 use mathlib.Core.Bool.{true}
 use mathlib.Core.List.{[], _∷_}
@@ -21,21 +21,26 @@ use Rattle.integers.specs.Totals.{all, All}
 use Rattle.closing.specs.Parties.{some, some-helpful, no-default}
 use Rattle.closing.specs.Parts.{Parts, DefaultsAddUp}
 use Rattle.closing.specs.TwoForOne.{here, later}
-use Rattle.closing.specs.Drawn.{Drawn}
-use Rattle.closing.proofs.Demand3.{parties-meet, books-close}
+use Rattle.closing.specs.Drawn.{RosterDrawn, whole-groups}
+use Rattle.closing.proofs.Demand3.{parties-meet, taken-redrawn, books-close}
 use Rattle.closing.specs.PaperCloses.{
   PaperCloses,
+  RedrawnAroundGroup,
   ResponseGrows,
   UnitRedrawn,
+  around-group,
   before,
   behind,
+  follower,
   four-units,
   generator,
   larger,
+  primary,
   smaller,
   three-units,
   unused-alone,
   whole,
+  with-group,
 }
 
 pub paper-closes : PaperCloses
@@ -56,8 +61,9 @@ unfolding computing
 generator-parts k m n s c e g r p f h =
     record {
       good = refl;
-      first = record { good = refl; region = refl; kind = refl };
-      second = record { good = refl; region = refl; kind = refl };
+      group = refl;
+      first = record { good = refl; group = refl; region = refl; kind = refl };
+      second = record { good = refl; group = refl; region = refl; kind = refl };
       start = refl;
       end = refl;
       defaults = sides;
@@ -75,11 +81,16 @@ pub response-grows : ResponseGrows
 unfolding computing
 response-grows = record { parts = generator-parts 1 1 1 0 0 0 0 (pos 1) (negℤ (pos 1)) 0 0; one = refl; two = refl }
 
-pub unit-drawn : Drawn three-units four-units whole smaller larger
+whole-in-parts : Parts whole smaller larger
+whole-in-parts = generator-parts 2 2 9 4_000 6_000 4_001 6_001 (pos 4_040) (pos 6_060) 400 600
+
+pub unit-drawn : RosterDrawn three-units four-units whole smaller larger
+unfolding computing whole-groups
 unit-drawn =
     record {
-      parts = generator-parts 2 2 9 4_000 6_000 4_001 6_001 (pos 4_040) (pos 6_060) 400 600;
+      parts = whole-in-parts;
       places = record { others = before ∷ behind ∷ []; with-first = _; one = later here; first = later here; second = later (later (later here)) };
+      unsplit = refl;
       all-else = refl;
     }
 
@@ -90,8 +101,29 @@ unit-redrawn =
     record {
       old-taken = old;
       new-taken = refl;
-      redrawn = books-close (book-bytes three-units) three-units old .drawn four-units whole smaller larger unit-drawn;
+      redrawn = books-close (book-bytes three-units) three-units old .rosters four-units whole smaller larger unit-drawn;
       one = refl;
       first = refl;
       second = refl;
+    }
+
+pub redrawn-around-group : RedrawnAroundGroup
+unfolding computing
+redrawn-around-group =
+    let old : book (book-bytes with-group) ≡ taken with-group = refl in
+    let new : book (book-bytes around-group) ≡ taken around-group = refl in
+    record {
+      old-taken = old;
+      new-taken = new;
+      redrawn = taken-redrawn (book-bytes with-group) (book-bytes around-group) with-group around-group old new whole smaller larger whole-in-parts
+          (record {
+            others = before ∷ primary ∷ follower ∷ [];
+            with-first = _;
+            one = later here;
+            first = later here;
+            second = later (later (later (later here)));
+          })
+          refl;
+      old = refl;
+      new = refl;
     }

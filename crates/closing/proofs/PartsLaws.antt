@@ -11,7 +11,8 @@ use Rattle.rules.specs.declared.Kind.the-variants.{Generation, Load}
 use Rattle.rules.specs.Quantities.{points}
 use Rattle.rules.specs.Book.{Unit, Book}
 use Rattle.rules.specs.Deviation.{turned, line, deviation}
-use Rattle.rules.specs.Performance.{weight-in, performance, unit-performance}
+use Rattle.rules.specs.Plants.{alone}
+use Rattle.rules.specs.Performance.{weight-in, performance, plant-performance}
 use Rattle.laws.proofs.PerformanceLaws.{performance-ext, performance-plus}
 use Rattle.closing.specs.Parts.{Parts}
 
@@ -41,8 +42,8 @@ module _ {u x y : Unit} (h : Parts u x y) where
       at w = line (reads w) (w .start) (w .end) t
 
   -- by the measures of their region
-  pub performance-adds-up : (b : Book) (d : Direction) → unit-performance b d x +ℤ unit-performance b d y ≡ unit-performance b d u
-  unfolding unit-performance
+  pub performance-adds-up : (b : Book) (d : Direction) → plant-performance b d (alone x) +ℤ plant-performance b d (alone y) ≡ plant-performance b d (alone u)
+  unfolding plant-performance
   performance-adds-up b d =
       ap₂ (λ (r s : ℕ). performance d (weight-in b r) (deviation x) +ℤ performance d (weight-in b s) (deviation y)) (h .first .region) (h .second .region)
       ∙ sym (performance-plus d (weight-in b (u .region)) (deviation x) (deviation y))

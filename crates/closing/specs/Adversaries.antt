@@ -7,7 +7,8 @@ use lib.ListN.{length, getD, take}
 use Rattle.integers.specs.Nearest.{nearest}
 use Rattle.integers.specs.Totals.{total}
 use Rattle.rules.specs.Book.{Unit}
-use Rattle.rules.specs.Deviation.{turned, deviation, good-units}
+use Rattle.rules.specs.Deviation.{turned}
+use Rattle.rules.specs.Plants.{plants, good-plants}
 use Rattle.books.specs.Writing.{book-bytes}
 use Rattle.books.specs.PaperBook.{paper-book}
 
@@ -22,9 +23,9 @@ paper-bytes interval = book-bytes (paper-book interval)
 abbrev pub Residual : Type 0
 Residual = List Unit → ℕ → ℤ
 
--- demand 3's closing
+-- demand 3's closing, with the plants that these units are
 abbrev pub Closes : Residual → Type 0
-Closes R = (us : List Unit) (t : ℕ) → total (λ u. deviation u t) (good-units us) +ℤ R us t ≡ pos 0
+Closes R = (us : List Unit) (t : ℕ) → total (λ p. p .deviation t) (good-plants (plants us)) +ℤ R us t ≡ pos 0
 
 -- adds units in whole blocks of eight, as the first calculator did, right at 8, 64 and 512: with 477 the last five never enter the sums, and whatever they
 -- did would have to add up to zero

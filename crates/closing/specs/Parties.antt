@@ -7,6 +7,7 @@ use lib.Signed.{ltZ}
 use Rattle.integers.specs.Totals.{all, All}
 use Rattle.rules.specs.Quantities.{regions}
 use Rattle.rules.specs.Book.{Requirement, Book}
+use Rattle.rules.specs.Plants.{plants}
 use Rattle.rules.specs.Standings.{is-live}
 use Rattle.rules.specs.Members.{members}
 
@@ -25,6 +26,6 @@ some-unhelpful b q = some (λ m. ltZ (m .payment) (pos 0)) (members b q)
 abbrev pub no-default : Book → Requirement → Bool
 no-default b q = all (λ m. is-live (m .standing)) (members b q)
 
--- every unit is of one of the five regions
+-- every plant is of one of the five regions
 abbrev pub Placed : Book → Type 0
-Placed b = All (λ u. u .region < regions) (b .roster)
+Placed b = All (λ p. p .region < regions) (plants (b .roster))

@@ -1,4 +1,5 @@
--- One good unit in two parts: two good ones of its region and kind whose start, end, defaults and every reading add up to its own (the demand's words).
+-- One good unit in two parts: two good ones of its region and kind whose start, end, defaults and every reading add up to its own (the demand's words). None
+-- of the three is of a group (02, R-5).
 use mathlib.Core.Path.{_≡_}
 use mathlib.Core.Bool.{true}
 use Prim.Native.Nat.{ℕ, _<_}
@@ -9,9 +10,10 @@ use Rattle.rules.specs.Quantities.{points}
 use Rattle.rules.specs.Book.{by, Defaults, Unit}
 use Rattle.rules.specs.Deviation.{good}
 
--- a good unit of another's region and kind
+-- a good unit without a group, of another's region and kind
 pub record Alike (u x : Unit) : Type 0 where
   pub good : good x ≡ true
+  pub group : x .group ≡ 0
   pub region : x .region ≡ u .region
   pub kind : x .kind ≡ u .kind
 
@@ -23,6 +25,7 @@ pub record DefaultsAddUp (f g h : Defaults) : Type 0 where
 -- the good unit u in two good ones, x and y; their numbers are free
 pub record Parts (u x y : Unit) : Type 0 where
   pub good : good u ≡ true
+  pub group : u .group ≡ 0
   pub first : Alike u x
   pub second : Alike u y
   pub start : x .start +ℤ y .start ≡ u .start

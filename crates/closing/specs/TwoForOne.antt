@@ -1,5 +1,5 @@
 -- Two elements of a list for one: the two stand anywhere, in either order, and all others stay in their order. It is said of a roster in which a unit is drawn
--- as two, and of the members that these units are.
+-- as two, of its plants, and of the members that they are.
 use mathlib.Core.List.{List, _∷_}
 
 -- `whole` is `rest` with z put in at one place: in front, or somewhere behind the first

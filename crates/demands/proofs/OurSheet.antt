@@ -15,7 +15,9 @@ use Rattle.rules.specs.declared.Verdict.the-variants.{Possible}
 use Rattle.rules.specs.Quantities.{billion, most-members, weight-limit}
 use Rattle.rules.specs.Refusals.{taken}
 use Rattle.rules.specs.Book.{Requirement, covers, Book}
-use Rattle.rules.specs.Members.{Member, unit-member, unit-members, residual-member, members}
+use Rattle.rules.specs.Plants.{plants}
+use Rattle.laws.proofs.PlantsLaws.{plants-few}
+use Rattle.rules.specs.Members.{Member, plant-member, plants-among, residual-member, members}
 use Rattle.rules.specs.Share.{share-of, larger-first}
 use Rattle.rules.specs.Factors.{factor, helpful, unhelpful}
 use Rattle.rules.specs.Answer.{lines-of, answered, answer}
@@ -63,9 +65,10 @@ module _ (b : Book) (q : Requirement) where
         omega (
           arith,
           length-map ms (λ m. m .payment),
-          length-append (map (unit-member b (q .direction)) (unit-members b q)) (residual-member b q ∷ []),
-          length-map (unit-members b q) (unit-member b (q .direction)),
-          those-length (λ u. covers q (u .region)) (b .roster),
+          length-append (map (plant-member b (q .direction)) (plants-among b q)) (residual-member b q ∷ []),
+          length-map (plants-among b q) (plant-member b (q .direction)),
+          those-length (λ p. covers q (p .region)) (plants (b .roster)),
+          plants-few (b .roster),
           h .few,
         )
 

@@ -125,12 +125,16 @@ pub extern "C" fn dullavane_unit(
     numbers: &mut [u16],
     homes: &mut [u8],
     rows: &mut [i64],
+    groups: &mut [u16],
+    deviations: &mut [i64],
 ) -> u64
     ensures { λ r. ⌜
         UnitCalled (now (tally .entry)) (now (part .entry))
-        (lent-unit (now (measures .entry)) (now (sums .entry)) (now (figures .entry)) (now (numbers .entry)) (now (homes .entry)) (now (rows .entry))) r
+        (lent-unit (now (measures .entry)) (now (sums .entry)) (now (figures .entry)) (now (numbers .entry)) (now (homes .entry)) (now (rows .entry))
+        (now (groups .entry)) (now (deviations .entry))) r
         (now (tally .exit))
-        (lent-unit (now (measures .entry)) (now (sums .exit)) (now (figures .entry)) (now (numbers .exit)) (now (homes .exit)) (now (rows .exit)))
+        (lent-unit (now (measures .entry)) (now (sums .exit)) (now (figures .entry)) (now (numbers .exit)) (now (homes .exit)) (now (rows .exit))
+        (now (groups .exit)) (now (deviations .exit)))
         ⌝ }
 {
     let refusal = words_refusal(tally);
@@ -146,6 +150,8 @@ pub extern "C" fn dullavane_unit(
         numbers,
         homes,
         rows,
+        groups,
+        deviations,
     );
     tell(step, tally)
 }
@@ -162,12 +168,16 @@ pub extern "C" fn dullavane_units(
     numbers: &mut [u16],
     homes: &mut [u8],
     rows: &mut [i64],
+    groups: &mut [u16],
+    deviations: &mut [i64],
 ) -> u64
     ensures { λ r. ⌜
         UnitsCalled (now (tally .entry)) (now (records .entry))
-        (lent-unit (now (measures .entry)) (now (sums .entry)) (now (figures .entry)) (now (numbers .entry)) (now (homes .entry)) (now (rows .entry))) r
+        (lent-unit (now (measures .entry)) (now (sums .entry)) (now (figures .entry)) (now (numbers .entry)) (now (homes .entry)) (now (rows .entry))
+        (now (groups .entry)) (now (deviations .entry))) r
         (now (tally .exit))
-        (lent-unit (now (measures .entry)) (now (sums .exit)) (now (figures .entry)) (now (numbers .exit)) (now (homes .exit)) (now (rows .exit)))
+        (lent-unit (now (measures .entry)) (now (sums .exit)) (now (figures .entry)) (now (numbers .exit)) (now (homes .exit)) (now (rows .exit))
+        (now (groups .exit)) (now (deviations .exit)))
         ⌝ }
 {
     let refusal = words_refusal(tally);
@@ -183,6 +193,8 @@ pub extern "C" fn dullavane_units(
         numbers,
         homes,
         rows,
+        groups,
+        deviations,
     );
     tell_run(step, tally)
 }

@@ -44,11 +44,15 @@ pub fn take(
     numbers: &mut [u16],
     homes: &mut [u8],
     rows: &mut [i64],
+    groups: &mut [u16],
+    deviations: &mut [i64],
 ) -> Step
     ensures { λ r. ⌜
         TurnPromise tally (now (part .entry))
-        (lent-unit (now (measures .entry)) (now (sums .entry)) (now (figures .entry)) (now (numbers .entry)) (now (homes .entry)) (now (rows .entry))) r
-        (lent-unit (now (measures .exit)) (now (sums .exit)) (now (figures .exit)) (now (numbers .exit)) (now (homes .exit)) (now (rows .exit)))
+        (lent-unit (now (measures .entry)) (now (sums .entry)) (now (figures .entry)) (now (numbers .entry)) (now (homes .entry)) (now (rows .entry))
+        (now (groups .entry)) (now (deviations .entry))) r
+        (lent-unit (now (measures .exit)) (now (sums .exit)) (now (figures .exit)) (now (numbers .exit)) (now (homes .exit)) (now (rows .exit))
+        (now (groups .exit)) (now (deviations .exit)))
         ⌝ }
 {
     if tally.records < 1 {
@@ -58,7 +62,18 @@ pub fn take(
         return frequency(tally, part, measures, sums, figures);
     }
     if tally.records - BEFORE_UNITS < tally.units {
-        return unit(tally, part, measures, sums, figures, numbers, homes, rows);
+        return unit(
+            tally,
+            part,
+            measures,
+            sums,
+            figures,
+            numbers,
+            homes,
+            rows,
+            groups,
+            deviations,
+        );
     }
     requirement(tally, part)
 }

@@ -62,12 +62,16 @@ fn take_units(
     numbers: &mut [u16; UNITS],
     homes: &mut [u8; UNITS],
     rows: &mut [i64; ROWS_LENGTH],
+    groups: &mut [u16; UNITS],
+    deviations: &mut [i64],
 ) -> Next
     requires { ⌜ 769 ≤ length (now bytes) ⌝ }
     ensures { λ r. ⌜
         TakenTo units-end
-        (lent-unit (now (measures .entry)) (now (sums .entry)) (now (figures .entry)) (now (numbers .entry)) (now (homes .entry)) (now (rows .entry))) r
-        (lent-unit (now (measures .exit)) (now (sums .exit)) (now (figures .exit)) (now (numbers .exit)) (now (homes .exit)) (now (rows .exit)))
+        (lent-unit (now (measures .entry)) (now (sums .entry)) (now (figures .entry)) (now (numbers .entry)) (now (homes .entry)) (now (rows .entry))
+        (now (groups .entry)) (now (deviations .entry))) r
+        (lent-unit (now (measures .exit)) (now (sums .exit)) (now (figures .exit)) (now (numbers .exit)) (now (homes .exit)) (now (rows .exit))
+        (now (groups .exit)) (now (deviations .exit)))
         ⌝ }
 {
     let opened = open(file, bytes);
@@ -92,6 +96,8 @@ fn take_units(
             numbers,
             homes,
             rows,
+            groups,
+            deviations,
         );
         let taking = step.taking;
         if let Taking::Refused(said) = taking {
@@ -158,14 +164,29 @@ pub fn take_book(
     numbers: &mut [u16; UNITS],
     homes: &mut [u8; UNITS],
     rows: &mut [i64; ROWS_LENGTH],
+    groups: &mut [u16; UNITS],
+    deviations: &mut [i64],
 ) -> Next
     ensures { λ r. ⌜
         TakenTo book-end
-        (lent-unit (now (measures .entry)) (now (sums .entry)) (now (figures .entry)) (now (numbers .entry)) (now (homes .entry)) (now (rows .entry))) r
-        (lent-unit (now (measures .exit)) (now (sums .exit)) (now (figures .exit)) (now (numbers .exit)) (now (homes .exit)) (now (rows .exit)))
+        (lent-unit (now (measures .entry)) (now (sums .entry)) (now (figures .entry)) (now (numbers .entry)) (now (homes .entry)) (now (rows .entry))
+        (now (groups .entry)) (now (deviations .entry))) r
+        (lent-unit (now (measures .exit)) (now (sums .exit)) (now (figures .exit)) (now (numbers .exit)) (now (homes .exit)) (now (rows .exit))
+        (now (groups .exit)) (now (deviations .exit)))
         ⌝ }
     ensures { λ r. ⌜ RoomFor 32 r ⌝ }
 {
-    let listed = take_units(file, bytes, measures, sums, figures, numbers, homes, rows);
+    let listed = take_units(
+        file,
+        bytes,
+        measures,
+        sums,
+        figures,
+        numbers,
+        homes,
+        rows,
+        groups,
+        deviations,
+    );
     take_requirements(file, listed, alone, bytes)
 }

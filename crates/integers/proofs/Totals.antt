@@ -137,16 +137,21 @@ module _ {A : Type 0} where
   totalℕ-++ f [] ys = omega arith
   totalℕ-++ f (x ∷ xs) ys = omega (arith, totalℕ-++ f xs ys)
 
-  -- at most k each is at most k times the length, also of those that pass a test
-  pub totalℕ-those-≤ : (P : A → Type 0) (k : ℕ) (p : A → Bool) (f : A → ℕ) → ((x : A) → P x → f x ≤ k) → (xs : List A) → All P xs →
-      totalℕ f (those p xs) ≤ length xs * k
+  pub totalℕ-times : (f : A → ℕ) (k : ℕ) (xs : List A) → totalℕ (λ x. f x * k) xs ≡ totalℕ f xs * k
+  unfolding totalℕ
+  totalℕ-times f k [] = omega arith
+  totalℕ-times f k (x ∷ xs) = omega (arith, totalℕ-times f k xs, add-mul (f x) (totalℕ f xs) k)
+
+  -- at most so much each is at most the total of that, also of those that pass a test
+  pub totalℕ-those-≤ : (P : A → Type 0) (g : A → ℕ) (p : A → Bool) (f : A → ℕ) → ((x : A) → P x → f x ≤ g x) → (xs : List A) → All P xs →
+      totalℕ f (those p xs) ≤ totalℕ g xs
   unfolding All totalℕ those
-  totalℕ-those-≤ P k p f h [] a = omega arith
-  totalℕ-those-≤ P k p f h (x ∷ xs) a = go (totalℕ-those-≤ P k p f h xs (a .1)) (p x)
+  totalℕ-those-≤ P g p f h [] a = omega arith
+  totalℕ-those-≤ P g p f h (x ∷ xs) a = go (totalℕ-those-≤ P g p f h xs (a .1)) (p x)
     where
-      go : totalℕ f (those p xs) ≤ length xs * k → (t : Bool) → totalℕ f (cond t (x ∷ those p xs) (those p xs)) ≤ suc (length xs) * k
-      go ih true = omega (arith, h x (a .0), add-mul 1 (length xs) k)
-      go ih false = omega (arith, add-mul 1 (length xs) k)
+      go : totalℕ f (those p xs) ≤ totalℕ g xs → (t : Bool) → totalℕ f (cond t (x ∷ those p xs) (those p xs)) ≤ g x + totalℕ g xs
+      go ih true = omega (arith, h x (a .0))
+      go ih false = omega arith
 
 -- ---- those that pass
 module _ {A : Type 0} where

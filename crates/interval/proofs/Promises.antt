@@ -2,16 +2,19 @@
 use mathlib.Core.Path.{_≡_, sym, _∙_}
 use mathlib.Core.Bool.{Bool, _&&_}
 use mathlib.Core.List.{List}
-use Prim.Native.Nat.{ℕ}
-use lib.Dec.{leb}
-use lib.IntN.{ℤ}
+use Prim.Native.Nat.{ℕ, _+_, _*_}
+use lib.Dec.{leb, ltb}
+use lib.IntN.{ℤ, natAbs}
+use lib.Signed.{leZ}
+use Rattle.integers.specs.Pairs.{gain, loss}
 use lib.ListN.{length}
 use Rattle.rules.specs.declared.Refusal.{Refusal}
 use Rattle.interval.specs.declared.Tally.{Tally}
 use Rattle.interval.specs.declared.Opened.{Opened}
 use Rattle.interval.specs.declared.Step.{Step}
 use Rattle.interval.specs.Tally.{in-range, frequency-turn, unit-turn, answer-turn}
-use Rattle.interval.specs.Lent.{Lent, figures-length, of-interval, measure-held}
+use Rattle.interval.specs.Lent.{Lent, figures-length, of-interval, measure-held, row-fine}
+use Rattle.interval.specs.Ranges.{six-fine}
 use Rattle.interval.specs.Calls.{refused-step, count-step, least-after}
 use Rattle.interval.specs.Promises.{ContentsPromise, FrequencyPromise, RequirementPromise, SettingsPromise, UnitPromise}
 
@@ -57,3 +60,27 @@ of-interval-only n figures a b = a ∙ sym b
 
 pub measure-held-only : (m : ℤ) {r r′ : ℤ} → r ≡ measure-held m → r′ ≡ measure-held m → r ≡ r′
 measure-held-only m a b = a ∙ sym b
+
+-- ---- numbers in range
+pub above-only : (x : ℤ) {r r′ : ℕ} → r ≡ gain x → r′ ≡ gain x → r ≡ r′
+above-only x a b = a ∙ sym b
+
+pub below-only : (x : ℤ) {r r′ : ℕ} → r ≡ loss x → r′ ≡ loss x → r ≡ r′
+below-only x a b = a ∙ sym b
+
+pub size-only : (x : ℤ) {r r′ : ℕ} → r ≡ natAbs x → r′ ≡ natAbs x → r ≡ r′
+size-only x a b = a ∙ sym b
+
+pub within-bounds-only : (low high x : ℤ) {r r′ : Bool} → r ≡ (leZ low x && leZ x high) → r′ ≡ (leZ low x && leZ x high) → r ≡ r′
+within-bounds-only low high x a b = a ∙ sym b
+
+pub six-in-range-only :
+    (least : ℤ) (start : ℕ) (xs : List ℤ) {r r′ : Bool} → r ≡ (leb (start + 6) (length xs) && six-fine least start xs) →
+    r′ ≡ (leb (start + 6) (length xs) && six-fine least start xs) → r ≡ r′
+six-in-range-only least start xs a b = a ∙ sym b
+
+pub row-in-range-only :
+    (units row : ℕ) (xs : List ℤ) {r r′ : Bool} →
+    r ≡ (leb units 512 && (ltb row 512 && (leb (8 * row + 8) (length xs) && row-fine units row xs))) →
+    r′ ≡ (leb units 512 && (ltb row 512 && (leb (8 * row + 8) (length xs) && row-fine units row xs))) → r ≡ r′
+row-in-range-only units row xs a b = a ∙ sym b

@@ -6,9 +6,10 @@ use Prim.Native.Nat.{ℕ, _+_}
 use lib.Dec.{eqb, leb, ltb}
 use lib.ListN.{length}
 use Rattle.rules.specs.declared.Refusal.{Refusal}
-use Rattle.rules.specs.declared.Refusal.the-variants.{WrongState, TooShort}
+use Rattle.rules.specs.declared.Refusal.the-variants.{WrongState, TooShort, WrongGroup}
 use Rattle.rules.specs.declared.Located.{Located}
-use Rattle.rules.specs.Refusals.{Reply, taken, refused, unless, located}
+use Rattle.rules.specs.Refusals.{Reply, taken, refused, unless, located, _>>=_}
+use Rattle.rules.specs.Quantities.{points}
 use Rattle.rules.specs.Book.{Settings, Region, Unit, Requirement}
 use Rattle.rules.specs.Contents.{Counts}
 use Rattle.rules.specs.SettingsRecord.{settings}
@@ -35,7 +36,17 @@ use Rattle.interval.specs.Tally.{
   book-end,
   most-records,
 }
-use Rattle.interval.specs.Lent.{Lent, regions-long, rows-long, of-interval, named-region, series-in-range}
+use Rattle.interval.specs.Lent.{
+  Lent,
+  regions-long,
+  rows-long,
+  of-interval,
+  named-region,
+  named-group,
+  series-in-range,
+  plant-in-range,
+  group-fits,
+}
 
 -- ---- the table of contents starts a tally
 abbrev pub fresh : Counts → Tally
@@ -108,16 +119,22 @@ frequency-reply t part l =
     (frequency-record (next-region t) part))
 
 -- ---- a unit
--- long enough for one unit more
+-- long enough for one unit more, and for the deviations of a group
 abbrev pub unit-long : ℕ → Lent → Bool
-unit-long n l = regions-long l && (leb n (length (l .numbers)) && rows-long n l)
+unit-long n l =
+    regions-long l && (leb n (length (l .numbers)) && (rows-long n l && (leb n (length (l .groups)) && leb points (length (l .deviations)))))
+
+-- the unit of a record, where it may stand in its group
+abbrev pub in-lent-group : ℕ → Lent → Unit → Reply Unit
+in-lent-group n l u = unless (group-fits n u l) WrongGroup (taken u)
 
 unfoldable pub unit-reply : Tally → List ℕ → Lent → Reply Unit
 unit-reply t part l =
     unless (in-range t && unit-turn t) WrongState
     (unless (unit-long (units-taken t + 1) l) TooShort
-    (unless (of-interval (t .interval) (l .figures) && series-in-range (named-region part) (units-taken t) l) WrongState
-    (unit-record (t .least) part)))
+    (unless (of-interval (t .interval) (l .figures)
+    && (series-in-range (named-region part) (units-taken t) l && plant-in-range (named-group part) (units-taken t) l)) WrongState
+    (unit-record (t .least) part >>= in-lent-group (units-taken t) l)))
 
 -- after the last unit the first requirement may have any number
 abbrev pub least-after : Tally → ℕ → ℕ

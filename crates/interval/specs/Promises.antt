@@ -19,12 +19,19 @@ use Rattle.interval.specs.Lent.{
   weight-held,
   sums-each,
   sums-start,
-  summed,
+  part-of,
+  moved,
   figures-each,
   figures-of,
-  home-of,
   row-each,
-  row-of,
+  good-before,
+  deviation-before,
+  number-with,
+  good-with,
+  deviation-with,
+  row-with,
+  homes-with,
+  deviations-with,
 }
 use Rattle.interval.specs.Calls.{opened, stepped, left, settings-reply, settled, frequency-reply, counted, unit-reply, unit-counted, requirement-reply}
 
@@ -46,25 +53,30 @@ region-kept t x l =
       numbers = l .numbers;
       homes = l .homes;
       rows = l .rows;
+      groups = l .groups;
+      deviations = l .deviations;
     }
 
 pub record FrequencyPromise (t : Tally) (part : List ℕ) (l : Lent) (r : Step) (l′ : Lent) : Type 0 where
   pub reply : r ≡ stepped (λ _. counted 0 t) (frequency-reply t part l) t
   pub lent : l′ ≡ left (region-kept t) (frequency-reply t part l) l
 
--- ---- a unit: its deviations in its region's sums if it is good, its number, its home and its row
+-- ---- a unit: its plant's part in its region's sums, and its plant's number, home and row up to this unit; its group, and the group's deviations
 abbrev pub weighed : Lent → Unit → ℕ → ℤ
 weighed l u i = weight-held (getD (l .measures) (series-start (u .region) + i) (pos 0))
 
 abbrev pub unit-kept : Tally → Unit → Lent → Lent
 unit-kept t u l =
+    let n = units-taken t in
     record {
       measures = l .measures;
-      sums = summed u (l .sums);
+      sums = moved (u .region) (part-of (good-before n u l) (deviation-before n u l)) (part-of (good-with n u l) (deviation-with n u l)) (l .sums);
       figures = l .figures;
-      numbers = set (l .numbers) (units-taken t) (u .number);
-      homes = set (l .homes) (units-taken t) (home-of u);
-      rows = put-from (row-each * units-taken t) row-each (row-of (weighed l u) u) (l .rows);
+      numbers = set (l .numbers) n (number-with n u l);
+      homes = homes-with n u l;
+      rows = put-from (row-each * n) row-each (row-with n u l (weighed l u)) (l .rows);
+      groups = set (l .groups) n (u .group);
+      deviations = deviations-with n u l;
     }
 
 pub record UnitPromise (t : Tally) (part : List ℕ) (l : Lent) (r : Step) (l′ : Lent) : Type 0 where

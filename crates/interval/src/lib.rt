@@ -19,6 +19,16 @@ pub const ROW_EACH: usize = 8;
 
 pub const ROWS_LENGTH: usize = 4096;
 
+// Where a plant's numbers stand in its row; from ROW_DEFAULTS on its six defaults.
+pub const RAISE_PERFORMANCE: usize = 0;
+
+pub const LOWER_PERFORMANCE: usize = 1;
+
+pub const ROW_DEFAULTS: usize = 2;
+
+// The home of a row that stands for no member: the next unit has joined its group, which stands in that unit's row.
+pub const PASSED_OVER: u8 = 10;
+
 // At a point that is dropped from performance its measure is kept as FM and so much more: twice the limit of FM, and 1.
 pub const MARK: i32 = 10_000_001;
 
@@ -29,6 +39,7 @@ pub mod contents;
 pub mod lent;
 pub mod requirement;
 pub mod settings;
+pub mod sizes;
 pub mod steps;
 pub mod turns;
 

@@ -1,4 +1,4 @@
--- What the calls have kept of a book, read as what the rules ask for: regions by their figures, units by their homes and rows. The members, RCR and
+-- What the calls have kept of a book, read as what the rules ask for: regions by their figures, plants by their homes and rows. The members, RCR and
 -- the answer are then those of `rules`, over what is kept; that they are the answer over the book itself is the theorem `answer-is`.
 use mathlib.Core.Bool.{Bool, cond, not, _&&_, _||_}
 use mathlib.Core.List.{List, [], _∷_, _++_, map}
@@ -21,7 +21,7 @@ use Rattle.rules.specs.Standings.{standing, live-or}
 use Rattle.rules.specs.Members.{unit, residual, Member, over-regions, each-region}
 use Rattle.rules.specs.Answer.{Answer, answered}
 use Rattle.interval.specs.declared.Tally.{Tally}
-use Rattle.interval.specs.Lent.{Lent, series-start, measure-held, sum-place, figures-each, row-each}
+use Rattle.interval.specs.Lent.{Lent, series-start, measure-held, sum-place, figures-each, in-row}
 
 module _ (l : Lent) where
   -- ---- a region's figures, by its number
@@ -40,23 +40,20 @@ module _ (l : Lent) where
   residual-default Raise field r = figure r (4 + field)
   residual-default Lower field r = figure r (7 + field)
 
-  -- ---- a unit's home and row, by its place in the roster
+  -- ---- a unit's home and row, by its place in the roster: its plant's up to it. A row that is passed over is of region 5, which no requirement covers
   abbrev pub region-of : ℕ → ℕ
   region-of i = getD (l .homes) i 0 / 2
 
   abbrev pub good-of : ℕ → Bool
   good-of i = eqb (getD (l .homes) i 0 % 2) 1
 
-  abbrev pub in-row : ℕ → ℕ → ℤ
-  in-row i j = getD (l .rows) (row-each * i + j) (pos 0)
-
   abbrev pub performance-of : Direction → ℕ → ℤ
-  performance-of Raise i = in-row i 0
-  performance-of Lower i = in-row i 1
+  performance-of Raise i = in-row (l .rows) i 0
+  performance-of Lower i = in-row (l .rows) i 1
 
   abbrev pub unit-default : Direction → ℕ → ℕ → ℤ
-  unit-default Raise field i = in-row i (2 + field)
-  unit-default Lower field i = in-row i (5 + field)
+  unit-default Raise field i = in-row (l .rows) i (2 + field)
+  unit-default Lower field i = in-row (l .rows) i (5 + field)
 
   -- ---- members
   -- a unit's, and the value that a share goes by: live, or the default of a field

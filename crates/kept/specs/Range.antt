@@ -1,20 +1,21 @@
 -- Which lent numbers are in range when a requirement is answered (01, Numbers the box can say no with): kept fields within the limits of their fields, sums of
--- deviations within 15,000,000 for each unit taken, performances within a unit's limit. Each unit stands in one region, so the sizes of the five regions'
+-- deviations within 15,000,000 for each unit taken, performances within a unit's limit for each unit of their plant. Each unit stands in one region, so the sizes of the five regions'
 -- sums are within the limit together.
-use mathlib.Core.Bool.{Bool, _&&_}
-use Prim.Native.Nat.{ℕ, _+_, _*_}
-use lib.Dec.{leb, ltb}
+use mathlib.Core.Bool.{Bool, cond, _&&_}
+use mathlib.Core.List.{List}
+use Prim.Native.Nat.{ℕ, zero, suc, _+_, _*_}
+use lib.Dec.{eqb, leb}
 use lib.IntN.{ℤ, pos, natAbs}
 use lib.ListN.{getD}
 use lib.Signed.{leZ}
 use Rattle.integers.specs.Sums.{sumℕ, every}
-use Rattle.rules.specs.Quantities.{points, regions, measure-limit, amount-limit, deviation-limit, performance-limit, unit-default-limit, residual-default-limit}
+use Rattle.rules.specs.Quantities.{points, regions, measure-limit, amount-limit, deviation-limit, residual-default-limit}
 use Rattle.rules.specs.Fields.{default-fine, sized}
 use Rattle.rules.specs.declared.Direction.{Direction}
 use Rattle.rules.specs.declared.Direction.the-variants.{Raise, Lower}
 use Rattle.interval.specs.declared.Tally.{Tally}
-use Rattle.interval.specs.Lent.{Lent, series-start, measure-held, sum-place, of-interval}
-use Rattle.kept.specs.Kept.{figure, in-row}
+use Rattle.interval.specs.Lent.{Lent, series-start, measure-held, sum-place, passed-over, row-fine, of-interval}
+use Rattle.kept.specs.Kept.{figure}
 
 -- from 0 to a limit
 abbrev pub from-0 : ℕ → ℤ → Bool
@@ -40,15 +41,16 @@ region-fine l r =
 unfoldable pub figures-fine : Tally → Lent → Bool
 figures-fine t l = of-interval (t .interval) (l .figures) && every regions (region-fine l)
 
--- ---- of a unit: its home, both performances, six defaults
-abbrev pub row-fine : Lent → ℕ → Bool
-row-fine l i =
-    ltb (getD (l .homes) i 0) (2 * regions)
-    && (sized performance-limit (in-row l i 0)
-    && (sized performance-limit (in-row l i 1) && every 6 (λ f. default-fine unit-default-limit (in-row l i (2 + f)))))
+-- ---- of a unit: its home, and its row, for as many units as its plant has up to it: 1 more than the rows right before it that are passed over
+unfoldable pub units-at : List ℕ → ℕ → ℕ
+units-at homes zero = 1
+units-at homes (suc i) = cond (eqb (getD homes i 0) passed-over) (units-at homes i + 1) 1
+
+abbrev pub unit-fine : Lent → ℕ → Bool
+unit-fine l i = leb (getD (l .homes) i 0) passed-over && row-fine (units-at (l .homes) i) i (l .rows)
 
 unfoldable pub rows-fine : Tally → Lent → Bool
-rows-fine t l = every (t .units) (row-fine l)
+rows-fine t l = every (t .units) (unit-fine l)
 
 abbrev pub kept-fine : Tally → Lent → Bool
 kept-fine t l = series-fine t l && (figures-fine t l && rows-fine t l)

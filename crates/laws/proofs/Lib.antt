@@ -7,6 +7,7 @@ pub mod LimitsLaws
 pub mod MeasureLaws
 pub mod DroppedLaws
 pub mod DeviationLaws
+pub mod PlantsLaws
 pub mod PerformanceLaws
 pub mod SeriesLaws
 pub mod MembersLaws

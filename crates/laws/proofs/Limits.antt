@@ -1,7 +1,7 @@
 -- What a record that was taken satisfies: each field is within its limit (01, The book). Laws of the rules ask for these facts and for nothing else of a book.
 use mathlib.Core.Path.{_≡_}
 use mathlib.Core.Bool.{true}
-use Prim.Native.Nat.{ℕ, _≤_, _<_}
+use Prim.Native.Nat.{ℕ, _*_, _≤_, _<_}
 use lib.IntN.{ℤ, pos, _-ℤ_}
 use lib.ListN.{length, getD}
 use lib.Signed.{_≤ℤ_}
@@ -16,6 +16,7 @@ use Rattle.rules.specs.Quantities.{
   measure-limit,
   power-limit,
   amount-limit,
+  deviation-limit,
   unit-default-limit,
   residual-default-limit,
   price-limit,
@@ -23,6 +24,7 @@ use Rattle.rules.specs.Quantities.{
 }
 use Rattle.rules.specs.Book.{by, Settings, Defaults, Region, Unit, Requirement, Book, regionOf}
 use Rattle.rules.specs.Fields.{good-at}
+use Rattle.rules.specs.Plants.{Plant}
 
 pub record SettingsFit (s : Settings) : Type 0 where
   pub smoothing-least : 1 ≤ s .smoothing
@@ -52,6 +54,13 @@ pub record UnitFits (u : Unit) : Type 0 where
   pub end : Within power-limit (u .end)
   pub defaults : (d : Direction) → DefaultsFit unit-default-limit (by d (u .defaults))
   pub reading : (t : ℕ) → t < points → Within power-limit (getD (u .reading) t (pos 0))
+
+-- so much for each of its units
+pub record PlantFits (p : Plant) : Type 0 where
+  pub region : p .region < regions
+  pub some : 1 ≤ p .units
+  pub defaults : (d : Direction) → DefaultsFit unit-default-limit (by d (p .defaults))
+  pub deviation : (t : ℕ) → t < points → Within (p .units * deviation-limit) (p .deviation t)
 
 pub record RequirementFits (q : Requirement) : Type 0 where
   pub set : q .set ≤ 31

@@ -1,7 +1,7 @@
 -- Every record that a reader takes is within its limits, and so is every book: what the laws of the rules ask for, the format gives.
-use mathlib.Core.Path.{_≡_, refl, ap, subst}
+use mathlib.Core.Path.{_≡_, refl, _∙_, ap, subst}
 use mathlib.Core.Bool.{Bool, true, false, not, _&&_, _||_, false≢true}
-use mathlib.Core.List.{List, _∷_}
+use mathlib.Core.List.{List, [], _∷_}
 use Prim.Native.Nat.{ℕ, zero, suc, _+_, _*_, _≤_, _<_}
 use native.Mathlib.Omega.{arith}
 use lib.Dec.{leb, ltb, eqb}
@@ -28,6 +28,7 @@ use Rattle.rules.specs.declared.Refusal.the-variants.{
   SettingsField,
   UnitNotRising,
   RequirementField,
+  WrongGroup,
 }
 use Rattle.rules.specs.Bytes.{number-at}
 use Rattle.rules.specs.Quantities.{
@@ -68,6 +69,7 @@ use Rattle.rules.specs.Fields.{good-at, spare-bits-zero, default-fine, three-fi
 use Rattle.rules.specs.FrequencyRecord.{region-in, frequency-fine, frequencies-fine, frequency-record}
 use Rattle.rules.specs.UnitRecord.{unit-in, reading-fine, readings-fine, unit-record}
 use Rattle.rules.specs.RequirementRecord.{requirement-in, set-fine, requirement-fine, requirement-record}
+use Rattle.rules.specs.Groups.{group-fine, in-its-group}
 use Rattle.rules.specs.WholeBook.{frequency-body, unit-body, requirement-body, book}
 use Rattle.laws.proofs.Limits.{SettingsFit, DefaultFits, DefaultsFit, RegionFits, UnitFits, RequirementFits, BookFits}
 
@@ -175,7 +177,7 @@ unit-fits least bs u e =
     let whole = passed (leb unit-size (length bs)) EndsEarly _ u e in
     let header = passed (header-fine (unit-in bs)) _ _ u (whole .1) in
     let defaults = passed (defaults-fine unit-default-limit (unit-in bs .defaults)) _ _ u (header .1) in
-    let quality = passed (spare-bits-zero 60 bs && eqb (number-at 2 70 bs) 0) _ _ u (defaults .1) in
+    let quality = passed (spare-bits-zero 60 bs) _ _ u (defaults .1) in
     let values = passed (readings-fine (unit-in bs)) _ _ u (quality .1) in
     let rises = passed (leb least (unit-in bs .number)) UnitNotRising _ u (values .1) in
     subst UnitFits (took (rises .1)) (fit (unit-in bs) (header .0) (defaults .0) (values .0))
@@ -228,15 +230,23 @@ requirement-fits least last bs q e =
         }
 
 -- ---- bodies and book
-units-fit : (n place least : ℕ) (bs : List ℕ) (us : List Unit) → unit-body n place least bs ≡ taken us → All UnitFits us × (length us ≡ n)
+-- a unit that may stand in its group is the one that the record says
+pub in-group : (before : List Unit) (m : Reply Unit) (u : Unit) → (m >>= in-its-group before) ≡ taken u → (m ≡ taken u) × (group-fine before u ≡ true)
+in-group before m u e =
+    let read = went-on m (in-its-group before) u e in
+    let p = passed (group-fine before (read .0)) WrongGroup (taken (read .0)) u (read .2) in
+    (read .1 ∙ p .1, subst (λ (u : Unit). group-fine before u ≡ true) (took (p .1)) (p .0))
+
+units-fit : (n place least : ℕ) (before : List Unit) (bs : List ℕ) (us : List Unit) → unit-body n place least before bs ≡ taken us →
+    All UnitFits us × (length us ≡ n)
 unfolding unit-body All
-units-fit zero place least bs us e = subst (λ (l : List Unit). All UnitFits l × (length l ≡ 0)) (took e) (tt, refl)
-units-fit (suc n) place least bs us e =
-    let first = went-on (at place (unit-record least bs)) _ us e in
-    let rest = went-on (unit-body n (suc place) (suc (first .0 .number)) (drop unit-size bs)) _ us (first .2) in
-    let tail = units-fit n (suc place) (suc (first .0 .number)) (drop unit-size bs) (rest .0) (rest .1) in
+units-fit zero place least before bs us e = subst (λ (l : List Unit). All UnitFits l × (length l ≡ 0)) (took e) (tt, refl)
+units-fit (suc n) place least before bs us e =
+    let first = went-on (at place (unit-record least bs >>= in-its-group before)) _ us e in
+    let rest = went-on (unit-body n (suc place) (suc (first .0 .number)) (first .0 ∷ before) (drop unit-size bs)) _ us (first .2) in
+    let tail = units-fit n (suc place) (suc (first .0 .number)) (first .0 ∷ before) (drop unit-size bs) (rest .0) (rest .1) in
     subst (λ (l : List Unit). All UnitFits l × (length l ≡ suc n)) (took (rest .2))
-    ((unit-fits least bs (first .0) (there place _ (first .0) (first .1)), tail .0), ap suc (tail .1))
+    ((unit-fits least bs (first .0) (in-group before (unit-record least bs) (first .0) (there place _ (first .0) (first .1)) .0), tail .0), ap suc (tail .1))
 
 regions-fit : (n r : ℕ) (bs : List ℕ) (rs : List Region) → frequency-body n r bs ≡ taken rs → (i : ℕ) → i < n → RegionFits (getD rs i no-region)
 unfolding frequency-body
@@ -293,9 +303,9 @@ book-fits bs b e =
     let counts = went-on (at 0 (contents bs)) _ b e in
     let s = went-on (at 1 (settings (drop contents-size bs))) _ b (counts .2) in
     let rs = went-on (frequency-body regions 0 (drop frequency-start bs)) _ b (s .2) in
-    let us = went-on (unit-body (counts .0 .units) 1 0 (drop unit-start bs)) _ b (rs .2) in
+    let us = went-on (unit-body (counts .0 .units) 1 0 [] (drop unit-start bs)) _ b (rs .2) in
     let qs = went-on (requirement-body (counts .0 .requirements) 1 0 (drop (requirement-start (counts .0 .units)) bs)) _ b (us .2) in
-    let units = units-fit (counts .0 .units) 1 0 (drop unit-start bs) (us .0) (us .1) in
+    let units = units-fit (counts .0 .units) 1 0 [] (drop unit-start bs) (us .0) (us .1) in
     subst BookFits (took (qs .2))
     (record {
       settings = settings-fit (drop contents-size bs) (s .0) (there 1 _ (s .0) (s .1));

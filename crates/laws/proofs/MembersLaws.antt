@@ -3,66 +3,67 @@ use mathlib.Core.Path.{_≡_, _∙_}
 use mathlib.Core.Bool.{Bool, true, false}
 use mathlib.Core.List.{List, [], _∷_, map}
 use Prim.Native.Nat.{ℕ, suc, _+_, _*_, _≤_, _<_}
-use native.Mathlib.Nat.{mul-le-mul-right, add-mul}
+use native.Mathlib.Nat.{mul-le-mul-right, add-mul, one-mul}
 use native.Mathlib.Omega.{arith}
 use lib.Dec.{eqb}
 use lib.IntN.{ℤ, natAbs}
 use lib.ListN.{length, getD}
 use Rattle.integers.specs.Pairs.{gain, loss}
 use Rattle.integers.specs.Bounds.{Within}
-use Rattle.integers.proofs.Bounds.{abs-add, abs-neg, gain-≤, loss-≤}
+use Rattle.integers.proofs.Bounds.{abs-add, abs-neg, gain-≤, loss-≤, within-wider}
 use Rattle.integers.specs.Sums.{one, sumℕ, when}
 use Rattle.integers.proofs.Sums.{count-one, sum-size, sumℕ-plus, sumℕ-times}
 use Rattle.integers.specs.Totals.{total, totalℕ, All}
-use Rattle.integers.proofs.Totals.{total-those, totalℕ-map, totalℕ-++, totalℕ-≤, totalℕ-those-≤}
+use Rattle.integers.proofs.Totals.{total-those, totalℕ-map, totalℕ-++, totalℕ-≤, totalℕ-times, totalℕ-those-≤}
 use Rattle.rules.specs.declared.Direction.{Direction}
 use Rattle.rules.specs.declared.Standing.{Standing}
 use Rattle.rules.specs.declared.Standing.the-variants.{Live, Default}
 use Rattle.rules.specs.Quantities.{points, regions, measure-limit, performance-limit, residual-default-limit, unit-default-limit, weight-limit}
-use Rattle.rules.specs.Book.{by, Defaults, Unit, Requirement, covers, Book, regionOf}
+use Rattle.rules.specs.Book.{by, Defaults, Requirement, covers, Book, regionOf}
 use Rattle.rules.specs.Fields.{good-at}
 use Rattle.rules.specs.Measure.{measure-in}
 use Rattle.laws.proofs.MeasureLaws.{measure-within}
-use Rattle.rules.specs.Deviation.{deviation, good}
-use Rattle.laws.proofs.DeviationLaws.{deviation-within}
-use Rattle.rules.specs.Performance.{weight-in, performance, units-of, unit-performance, residual-performance}
+use Rattle.rules.specs.Plants.{Plant, plants}
+use Rattle.laws.proofs.PlantsLaws.{plants-many, plants-fit}
+use Rattle.rules.specs.Performance.{weight-in, performance, plants-of, plant-performance, residual-performance}
 use Rattle.laws.proofs.PerformanceLaws.{weight-within, performance-within, residual-is}
-use Rattle.rules.specs.Standings.{unit-standing, residual-standing, live-or}
-use Rattle.rules.specs.Members.{Member, unit-member, residual-or, residual-member, unit-members, members, over-regions}
+use Rattle.rules.specs.Standings.{plant-standing, residual-standing, live-or}
+use Rattle.rules.specs.Members.{Member, plant-member, residual-or, residual-member, plants-among, members, over-regions}
 use Rattle.rules.specs.Factors.{helpful, unhelpful}
 use Rattle.rules.specs.Cents.{used-weights, unused-weights}
-use Rattle.laws.proofs.Limits.{DefaultsFit, UnitFits, BookFits}
+use Rattle.laws.proofs.Limits.{DefaultsFit, PlantFits, BookFits}
 
 -- ---- sizes
--- the total of what some of those pass that count is at most k for each that counts
-counted-size : {A : Type 0} (P : A → Type 0) (k : ℕ) (p g : A → Bool) (f : A → ℤ) → ((x : A) → P x → Within k (f x)) → (xs : List A) → All P xs →
-    natAbs (total (λ x. when (p x) (when (g x) (f x))) xs) ≤ totalℕ (λ x. one (p x)) xs * k
+-- the total of what some of those pass that count is at most k for each unit of those that count
+counted-size : {A : Type 0} (P : A → Type 0) (n : A → ℕ) (k : ℕ) (p g : A → Bool) (f : A → ℤ) → ((x : A) → P x → Within (n x * k) (f x)) →
+    (xs : List A) → All P xs → natAbs (total (λ x. when (p x) (when (g x) (f x))) xs) ≤ totalℕ (λ x. one (p x) * n x) xs * k
 unfolding All total totalℕ
-counted-size P k p g f h [] a = omega arith
-counted-size P k p g f h (x ∷ xs) a =
+counted-size P n k p g f h [] a = omega arith
+counted-size P n k p g f h (x ∷ xs) a =
     omega (
       arith,
       abs-add (when (p x) (when (g x) (f x))) (total (λ x. when (p x) (when (g x) (f x))) xs),
-      counted-size P k p g f h xs (a .1),
+      counted-size P n k p g f h xs (a .1),
       head (p x) (g x) (f x) (h x (a .0)),
-      add-mul (one (p x)) (totalℕ (λ x. one (p x)) xs) k,
+      add-mul (one (p x) * n x) (totalℕ (λ x. one (p x) * n x) xs) k,
     )
   where
-    head : (s t : Bool) (z : ℤ) → Within k z → natAbs (when s (when t z)) ≤ one s * k
-    head true true z h = omega (arith, h .size)
+    head : (s t : Bool) (z : ℤ) → Within (n x * k) z → natAbs (when s (when t z)) ≤ one s * n x * k
+    head true true z h = omega (arith, h .size, one-mul (n x))
     head true false z h = omega arith
     head false t z h = omega arith
 
--- a unit is in one region
-in-one-region : (us : List Unit) → sumℕ regions (λ r. totalℕ (λ u. one (eqb r (u .region))) us) ≤ length us
+-- a plant is in one region
+in-one-region : (ps : List Plant) → sumℕ regions (λ r. totalℕ (λ p. one (eqb r (p .region)) * p .units) ps) ≤ totalℕ (λ p. p .units) ps
 unfolding totalℕ sumℕ
 in-one-region [] = omega arith
-in-one-region (u ∷ us) =
+in-one-region (p ∷ ps) =
     omega (
       arith,
-      sumℕ-plus regions (λ r. one (eqb r (u .region))) (λ r. totalℕ (λ u. one (eqb r (u .region))) us),
-      count-one regions (u .region),
-      in-one-region us,
+      sumℕ-plus regions (λ r. one (eqb r (p .region)) * p .units) (λ r. totalℕ (λ p. one (eqb r (p .region)) * p .units) ps),
+      sumℕ-times regions (p .units) (λ r. one (eqb r (p .region))),
+      mul-le-mul-right (p .units) (count-one regions (p .region)),
+      in-one-region ps,
     )
 
 live-or-within : {k : ℕ} (s : Standing) (x y : ℤ) → Within k x → Within k y → Within k (live-or s x y)
@@ -79,36 +80,51 @@ module _ (b : Book) (h : BookFits b) where
   pub weight-in-within : (r : ℕ) → r < regions → (t : ℕ) → t < points → Within measure-limit (weight-in b r t)
   weight-in-within r l t k = weight-within (b .settings) (regionOf b r) t (measure-in-within r l t k)
 
-  -- a unit's performance by what any region's points weigh
-  pub unit-performance-within : (u : Unit) → UnitFits u → (d : Direction) (r : ℕ) → r < regions →
-      Within performance-limit (performance d (weight-in b r) (deviation u))
-  unit-performance-within u f d r l =
-      performance-within d (weight-in b r) (deviation u) (weight-in-within r l) (deviation-within u (f .start) (f .end) (f .reading))
+  -- a plant's performance by what any region's points weigh
+  pub plant-performance-within : (p : Plant) → PlantFits p → (d : Direction) (r : ℕ) → r < regions →
+      Within (p .units * performance-limit) (performance d (weight-in b r) (p .deviation))
+  plant-performance-within p f d r l = performance-within (p .units) d (weight-in b r) (p .deviation) (weight-in-within r l) (f .deviation)
 
-  -- a region's residual performance is at most that for each of its units
+  -- a region's residual performance is at most a unit's for each unit of its plants
   pub residual-performance-size : (d : Direction) (r : ℕ) → r < regions →
-      natAbs (residual-performance b d r) ≤ totalℕ (λ u. one (eqb r (u .region))) (b .roster) * performance-limit
+      natAbs (residual-performance b d r) ≤ totalℕ (λ p. one (eqb r (p .region)) * p .units) (plants (b .roster)) * performance-limit
   unfolding residual-performance
   residual-performance-size d r l =
       rw (
-        residual-is d (weight-in b r) (units-of b r),
+        residual-is d (weight-in b r) (plants-of b r),
         abs-neg,
-        total-those good (λ u. performance d (weight-in b r) (deviation u)) (units-of b r),
-        total-those (λ u. eqb r (u .region)) _ (b .roster),
+        total-those (λ p. p .good) (λ p. performance d (weight-in b r) (p .deviation)) (plants-of b r),
+        total-those (λ p. eqb r (p .region)) _ (plants (b .roster)),
       )
-      (counted-size UnitFits performance-limit (λ u. eqb r (u .region)) good _ (λ u f. unit-performance-within u f d r l) (b .roster) (h .roster))
+      (counted-size PlantFits (λ p. p .units) performance-limit (λ p. eqb r (p .region)) (λ p. p .good) _ (λ p f. plant-performance-within p f d r l)
+      (plants (b .roster)) (plants-fit (b .roster) (h .roster)))
+
+-- a default is within the limit of one unit
+within-some : {n : ℕ} {z : ℤ} → 1 ≤ n → Within unit-default-limit z → Within (n * performance-limit) z
+within-some {n} some w = within-wider (omega arith) w
 
 -- ---- the members' weights, by the default that stands in: `field` is payment or used
 module _ (b : Book) (q : Requirement) (h : BookFits b) (field : Defaults → ℤ) (fits : (k : ℕ) (f : Defaults) → DefaultsFit k f → Within k (field f)) where
   abbrev d : Direction
   d = q .direction
 
-  units-size : totalℕ (λ u. natAbs (live-or (unit-standing b d u) (unit-performance b d u) (field (by d (u .defaults))))) (unit-members b q) ≤ length
+  plants-size : totalℕ (λ p. natAbs (live-or (plant-standing b d p) (plant-performance b d p) (field (by d (p .defaults))))) (plants-among b q) ≤ length
       (b .roster) * performance-limit
-  unfolding unit-performance
-  units-size =
-      totalℕ-those-≤ UnitFits performance-limit _ _ (λ u f. live-or-within (unit-standing b d u) _ _ (unit-performance-within b h u f d (u .region) (f .region))
-      (fits unit-default-limit (by d (u .defaults)) (f .defaults d)) .size) (b .roster) (h .roster)
+  unfolding plant-performance
+  plants-size =
+      omega (
+        arith,
+        totalℕ-those-≤ PlantFits (λ p. p .units * performance-limit) (λ p. covers q (p .region))
+            (λ p. natAbs (live-or (plant-standing b d p) (plant-performance b d p) (field (by d (p .defaults)))))
+            (λ p f. live-or-within (plant-standing b d p) _ _ (plant-performance-within b h p f d (p .region) (f .region))
+            (within-some (f .some) (fits unit-default-limit (by d (p .defaults)) (f .defaults d))) .size) (plants (b .roster))
+            (plants-fit (b .roster) (h .roster)),
+        totalℕ-times (λ p. p .units) performance-limit (plants (b .roster)),
+        mul-le-mul-right performance-limit (same (plants-many (b .roster))),
+      )
+    where
+      same : {x y : ℕ} → x ≡ y → x ≤ y
+      same e = omega arith
 
   residual-size : natAbs (over-regions q (residual-or b d field)) ≤ length (b .roster) * performance-limit + 250_000_000_000_000_000
   unfolding sumℕ
@@ -120,11 +136,14 @@ module _ (b : Book) (q : Requirement) (h : BookFits b) (field : Defaults → ℤ
             (residual-performance-size b h d r l) (fits residual-default-limit (by d (regionOf b r .defaults)) (h .region r l .defaults d))),
         sumℕ-plus regions (λ r. n r * performance-limit) (λ r. residual-default-limit),
         sumℕ-times regions performance-limit n,
-        mul-le-mul-right performance-limit (in-one-region (b .roster)),
+        mul-le-mul-right performance-limit (few (in-one-region (plants (b .roster))) (plants-many (b .roster))),
       )
     where
       n : ℕ → ℕ
-      n r = totalℕ (λ u. one (eqb r (u .region))) (b .roster)
+      n r = totalℕ (λ p. one (eqb r (p .region)) * p .units) (plants (b .roster))
+
+      few : {x y z : ℕ} → x ≤ y → y ≡ z → x ≤ z
+      few h e = omega arith
 
       each : (t : Bool) (s : Standing) (x y : ℤ) (k : ℕ) → natAbs x ≤ k → Within residual-default-limit y →
           natAbs (when t (live-or s x y)) ≤ k + residual-default-limit
@@ -134,44 +153,46 @@ module _ (b : Book) (q : Requirement) (h : BookFits b) (field : Defaults → ℤ
 
 -- ---- all members together
 module _ (b : Book) (q : Requirement) where
-  members-total : (g : Member → ℕ) → totalℕ g (members b q) ≡ totalℕ (λ u. g (unit-member b (q .direction) u)) (unit-members b q) + g (residual-member b q)
+  members-total : (g : Member → ℕ) → totalℕ g (members b q) ≡ totalℕ (λ p. g (plant-member b (q .direction) p)) (plants-among b q) + g (residual-member b q)
   unfolding members totalℕ
   members-total g =
-      totalℕ-++ g (map (unit-member b (q .direction)) (unit-members b q)) (residual-member b q ∷ [])
-      ∙ omega (arith, totalℕ-map g (unit-member b (q .direction)) (unit-members b q))
+      totalℕ-++ g (map (plant-member b (q .direction)) (plants-among b q)) (residual-member b q ∷ [])
+      ∙ omega (arith, totalℕ-map g (plant-member b (q .direction)) (plants-among b q))
 
   module _ (h : BookFits b) where
     pub payment-size : totalℕ (λ m. natAbs (m .payment)) (members b q) ≤ weight-limit
-    unfolding unit-member residual-member
+    unfolding plant-member residual-member
     payment-size =
         omega (
           arith,
           members-total (λ m. natAbs (m .payment)),
-          units-size b q h (λ f. f .payment) (λ k f g. g .payment .size),
+          plants-size b q h (λ f. f .payment) (λ k f g. g .payment .size),
           residual-size b q h (λ f. f .payment) (λ k f g. g .payment .size),
           h .few,
         )
 
     pub used-size : totalℕ (λ m. natAbs (m .used)) (members b q) ≤ weight-limit
-    unfolding unit-member residual-member
+    unfolding plant-member residual-member
     used-size =
         omega (
           arith,
           members-total (λ m. natAbs (m .used)),
-          units-size b q h (λ f. f .used) (λ k f g. g .used .size),
+          plants-size b q h (λ f. f .used) (λ k f g. g .used .size),
           residual-size b q h (λ f. f .used) (λ k f g. g .used .size),
           h .few,
         )
 
     pub unused-size : totalℕ (λ m. natAbs (m .unused)) (members b q) ≤ weight-limit
-    unfolding unit-member residual-member sumℕ
+    unfolding plant-member residual-member sumℕ
     unused-size =
         let d = q .direction in
         omega (
           arith,
           members-total (λ m. natAbs (m .unused)),
-          totalℕ-those-≤ UnitFits unit-default-limit (λ u. covers q (u .region)) (λ u. natAbs (by d (u .defaults) .unused))
-              (λ u f. f .defaults d .unused .size .size) (b .roster) (h .roster),
+          totalℕ-those-≤ PlantFits (λ p. p .units * unit-default-limit) (λ p. covers q (p .region)) (λ p. natAbs (by d (p .defaults) .unused))
+              (λ p f. within-some (f .some) (f .defaults d .unused .size) .size) (plants (b .roster)) (plants-fit (b .roster) (h .roster)),
+          totalℕ-times (λ p. p .units) unit-default-limit (plants (b .roster)),
+          plants-many (b .roster),
           sum-size regions (λ r. when (covers q r) (by d (regionOf b r .defaults) .unused)) (λ r. residual-default-limit)
               (λ r l. counted (covers q r) (by d (regionOf b r .defaults) .unused) (h .region r l .defaults d .unused .size)),
           h .few,

@@ -16,6 +16,7 @@ use Rattle.rules.specs.declared.Refusal.the-variants.{
   WrongState,
   TooShort,
   AverageTooLow,
+  WrongGroup,
   WrongWeek,
   FrequencyHeader,
   FrequencyDefault,
@@ -58,6 +59,7 @@ tellable RequirementField = record { some = omega arith; few = omega arith; no-s
 tellable WrongState = record { some = omega arith; few = omega arith; no-seven = λ e. omega arith; no-eight = λ e. omega arith; no-thirteen = λ e. omega arith }
 tellable TooShort = record { some = omega arith; few = omega arith; no-seven = λ e. omega arith; no-eight = λ e. omega arith; no-thirteen = λ e. omega arith }
 tellable AverageTooLow = record { some = omega arith; few = omega arith; no-seven = λ e. omega arith; no-eight = λ e. omega arith; no-thirteen = λ e. omega arith }
+tellable WrongGroup = record { some = omega arith; few = omega arith; no-seven = λ e. omega arith; no-eight = λ e. omega arith; no-thirteen = λ e. omega arith }
 tellable WrongWeek = record { some = omega arith; few = omega arith; no-seven = λ e. omega arith; no-eight = λ e. omega arith; no-thirteen = λ e. omega arith }
 tellable FrequencyHeader = record { some = omega arith; few = omega arith; no-seven = λ e. omega arith; no-eight = λ e. omega arith; no-thirteen = λ e. omega arith }
 tellable FrequencyDefault = record { some = omega arith; few = omega arith; no-seven = λ e. omega arith; no-eight = λ e. omega arith; no-thirteen = λ e. omega arith }

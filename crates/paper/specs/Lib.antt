@@ -1,2 +1,3 @@
 pub mod PaperListing
 pub mod RefusedBooks
+pub mod GroupsOfOne

@@ -89,6 +89,7 @@ fn unit_fields(u: UnitFields) {
     let lower = u.lower;
     three(lower);
     say::flag(u.good);
+    say::unsigned(u.group as u64);
 }
 
 pub(crate) fn unit(bytes: &[u8], least: u32) {

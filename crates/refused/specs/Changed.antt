@@ -1,4 +1,5 @@
--- One book with fields changed, and the number, place and t that it is refused with: what the tables of the fields' limits state, and how they are proved by computing.
+-- One book with fields changed, and the number, place and t that it is refused with: what the tables of the fields' limits state, and how they are
+-- proved by computing.
 use mathlib.Core.Path.{_≡_, refl, sym, _∙_, ap, ap₂, subst}
 use mathlib.Core.Bool.{Bool, true}
 use mathlib.Core.List.{List, [], _∷_, _++_, map}

@@ -1,7 +1,7 @@
 -- Whatever follows the frequency records of the book that is changed, they are taken, and the units come next: tables of unit fields compute no more than the
 -- first unit.
 use mathlib.Core.Path.{refl}
-use mathlib.Core.List.{List}
+use mathlib.Core.List.{List, []}
 use Prim.Native.Nat.{ℕ}
 use lib.ListN.{drop}
 use Rattle.integers.specs.Sums.{every}
@@ -18,7 +18,7 @@ use Rattle.refused.specs.Changed.{Next}
 
 abbrev pub units : List ℕ → LocatedReply Book
 units bs = do
-  us ← unit-body 2 1 0 bs
+  us ← unit-body 2 1 0 [] bs
   qs ← requirement-body 2 1 0 (drop 744 bs)
   taken (record { settings = every-field .settings; regions = every-field .regions; roster = us; requirements = qs })
 
@@ -30,3 +30,8 @@ before-units = tt
 pub frequencies-taken : Next 1_904 2_276 units
 unfolding before-units
 frequencies-taken = record { is = λ f. refl }
+
+-- the same where both units follow
+pub two-units-follow : Next 1_904 2_648 units
+unfolding before-units
+two-units-follow = record { is = λ f. refl }

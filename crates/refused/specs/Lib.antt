@@ -14,3 +14,5 @@ pub mod RequirementFields
 pub mod Places
 pub mod ShareLimits
 pub mod UnitReach
+pub mod GroupFields
+pub mod WrongGroups

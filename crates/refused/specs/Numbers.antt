@@ -15,6 +15,7 @@ use Rattle.rules.specs.declared.Refusal.the-variants.{
   TooShort,
   AverageTooLow,
   WrongWeek,
+  WrongGroup,
   FrequencyHeader,
   FrequencyDefault,
   FrequencyQuality,
@@ -26,11 +27,11 @@ use Rattle.rules.specs.declared.Refusal.the-variants.{
 }
 use Rattle.rules.specs.Refusals.{number, point}
 
--- of the bytes, from the first to the last body
+-- of the bytes, from the first to the last body, and of a group (02, R-5)
 pub of-a-book :
     map number
-    (EndsEarly ∷ WrongMark ∷ WrongTable ∷ BytesFollow ∷ WrongCount ∷ SettingsField ∷ UnitNotRising ∷ RequirementField ∷ [])
-    ≡ (1 ∷ 2 ∷ 3 ∷ 4 ∷ 5 ∷ 6 ∷ 9 ∷ 10 ∷ [])
+    (EndsEarly ∷ WrongMark ∷ WrongTable ∷ BytesFollow ∷ WrongCount ∷ SettingsField ∷ UnitNotRising ∷ RequirementField ∷ WrongGroup ∷ [])
+    ≡ (1 ∷ 2 ∷ 3 ∷ 4 ∷ 5 ∷ 6 ∷ 9 ∷ 10 ∷ 16 ∷ [])
 of-a-book = refl
 
 -- of a frequency record and of a unit, header, default, quality and point or reading, which say their t
@@ -40,7 +41,7 @@ of-a-frequency = refl
 pub of-a-unit : map number (UnitHeader ∷ UnitDefault ∷ UnitQuality ∷ UnitReading 9 ∷ []) ≡ (81 ∷ 82 ∷ 83 ∷ 84 ∷ [])
 of-a-unit = refl
 
-pub points : map point (FrequencyPoint 9 ∷ UnitReading 75 ∷ UnitHeader ∷ WrongState ∷ []) ≡ (9 ∷ 75 ∷ 0 ∷ 0 ∷ [])
+pub points : map point (FrequencyPoint 9 ∷ UnitReading 75 ∷ UnitHeader ∷ WrongState ∷ WrongGroup ∷ []) ≡ (9 ∷ 75 ∷ 0 ∷ 0 ∷ 0 ∷ [])
 points = refl
 
 pub of-a-call : map number (WrongState ∷ TooShort ∷ []) ≡ (11 ∷ 12 ∷ [])

@@ -8,8 +8,8 @@ use lib.ListN.{take}
 use Rattle.integers.specs.Totals.{all}
 use Rattle.books.specs.Computing.{computing}
 use Rattle.books.specs.Told.{no}
-use Rattle.refused.specs.Changed.{refusal, base, with, all-changed, Next, Each, Together, alone-later, together-later}
-use Rattle.refused.specs.FrequenciesTaken.{before-units, units, frequencies-taken}
+use Rattle.refused.specs.Changed.{refusal, base, with, all-changed, Each, Together, alone-later, together-later}
+use Rattle.refused.specs.FrequenciesTaken.{frequencies-taken, two-units-follow}
 use Rattle.refused.specs.UnitsTaken.{units-taken}
 
 -- header (separation, FM before the interval), default, a spare quality bit, a good point out of range and a bad point that holds a value
@@ -20,15 +20,12 @@ pub of-a-frequency :
 unfolding computing
 of-a-frequency = record { refusals = refl }
 
-two-units-follow : Next 1_904 2_648 units
-unfolding before-units
-two-units-follow = record { is = λ f. refl }
-
--- header, default, a spare quality bit and the two bytes after it, a reading, a number that does not rise
+-- header, default, a spare quality bit, a reading, a number that does not rise; a group number in the two bytes after the quality bits is taken, and 1 is that
+-- of the requirement, of which no byte is there
 pub of-a-unit :
     Each 1_904 2_648
     (with 2_278 1 5 ∷ with 2_328 8 1 ∷ with 2_345 1 135 ∷ with 2_346 2 256 ∷ with 2_640 4 100_001 ∷ with 2_276 2 258 ∷ [])
-    (no 81 2 0 ∷ no 82 2 0 ∷ no 83 2 0 ∷ no 83 2 0 ∷ no 84 2 74 ∷ no 9 2 0 ∷ [])
+    (no 81 2 0 ∷ no 82 2 0 ∷ no 83 2 0 ∷ no 1 1 0 ∷ no 84 2 74 ∷ no 9 2 0 ∷ [])
 unfolding computing all
 of-a-unit = alone-later two-units-follow refl refl
 
@@ -82,13 +79,13 @@ pub header-and-default : Together 1_904 2_648 (no 81 2 0) (with 2_278 1 5 ∷ wi
 unfolding computing all-changed
 header-and-default = together-later two-units-follow refl refl
 
-pub default-and-zero-bytes : Together 1_904 2_648 (no 82 2 0) (with 2_288 8 1 ∷ with 2_346 2 1 ∷ [])
+pub default-and-quality : Together 1_904 2_648 (no 82 2 0) (with 2_288 8 1 ∷ with 2_345 1 135 ∷ [])
 unfolding computing all-changed
-default-and-zero-bytes = together-later two-units-follow refl refl
+default-and-quality = together-later two-units-follow refl refl
 
-pub zero-bytes-and-reading : Together 1_904 2_648 (no 83 2 0) (with 2_346 2 1 ∷ with 2_348 4 100_001 ∷ [])
+pub quality-and-reading : Together 1_904 2_648 (no 83 2 0) (with 2_345 1 135 ∷ with 2_348 4 100_001 ∷ [])
 unfolding computing all-changed
-zero-bytes-and-reading = together-later two-units-follow refl refl
+quality-and-reading = together-later two-units-follow refl refl
 
 pub two-readings : Together 1_904 2_648 (no 84 2 2) (with 2_352 4 100_001 ∷ with 2_644 4 100_001 ∷ [])
 unfolding computing all-changed

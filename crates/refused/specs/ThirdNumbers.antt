@@ -14,14 +14,24 @@ use Rattle.books.specs.Told.{no, told}
 
 abbrev unit : ℕ → List ℕ
 unit n =
-    unit-bytes (record { number = n; region = 0; kind = Generation; start = pos 0; end = pos 0; defaults = zeros; quality = flat true; reading = flat (pos 0) })
+    unit-bytes (record {
+      number = n;
+      region = 0;
+      kind = Generation;
+      start = pos 0;
+      end = pos 0;
+      defaults = zeros;
+      quality = flat true;
+      group = 0;
+      reading = flat (pos 0);
+    })
 
 abbrev requirement : ℕ → List ℕ
 requirement n = requirement-bytes (record { number = n; set = 1; direction = Raise; price = 0; cost = 0; enabled = 0; used = 0 })
 
 pub record ThirdNumbers : Type 0 where
-  pub rising-units : told (unit-body 3 1 0 (concat (map unit (1 ∷ 3 ∷ 4 ∷ [])))) ≡ no 0 0 0
-  pub third-unit : told (unit-body 3 1 0 (concat (map unit (1 ∷ 3 ∷ 2 ∷ [])))) ≡ no 9 3 0
+  pub rising-units : told (unit-body 3 1 0 [] (concat (map unit (1 ∷ 3 ∷ 4 ∷ [])))) ≡ no 0 0 0
+  pub third-unit : told (unit-body 3 1 0 [] (concat (map unit (1 ∷ 3 ∷ 2 ∷ [])))) ≡ no 9 3 0
   pub rising-requirements : told (requirement-body 3 1 0 (concat (map requirement (1 ∷ 3 ∷ 4 ∷ [])))) ≡ no 0 0 0
   pub third-requirement : told (requirement-body 3 1 0 (concat (map requirement (1 ∷ 3 ∷ 2 ∷ [])))) ≡ no 10 3 0
 

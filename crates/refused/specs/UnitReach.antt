@@ -24,6 +24,7 @@ largest =
       end = negℤ (pos 100_000);
       defaults = zeros;
       quality = flat true;
+      group = 0;
       reading = flat (pos 100_000);
     }
 

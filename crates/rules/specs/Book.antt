@@ -51,6 +51,7 @@ pub record Unit : Type 0 where
   pub end : ℤ
   pub defaults : ByDirection Defaults
   pub quality : List Bool
+  pub group : ℕ
   pub reading : List ℤ
 
 pub record Requirement : Type 0 where

@@ -8,12 +8,14 @@ pub mod SettingsRecord
 pub mod Fields
 pub mod FrequencyRecord
 pub mod UnitRecord
+pub mod Groups
 pub mod RequirementRecord
 pub mod WholeBook
 pub mod Measure
 pub mod Dropped
 pub mod Reliability
 pub mod Deviation
+pub mod Plants
 pub mod Performance
 pub mod Standings
 pub mod Members

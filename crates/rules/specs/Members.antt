@@ -1,4 +1,4 @@
--- Members (01, The rules): a requirement's members are the units of its regions in roster order, then one residual.
+-- Members (01, The rules; 02, R-5): a requirement's members are the plants of its regions in roster order, then one residual.
 use mathlib.Core.Bool.{Bool, not, _||_}
 use mathlib.Core.List.{List, [], _∷_, _++_, map}
 use Prim.Native.Nat.{ℕ}
@@ -8,12 +8,13 @@ use Rattle.rules.specs.declared.Direction.{Direction}
 use Rattle.rules.specs.declared.Standing.{Standing}
 use Rattle.rules.specs.declared.Reason.the-variants.{NoGoodUnit}
 use Rattle.rules.specs.Quantities.{regions}
-use Rattle.rules.specs.Book.{by, Defaults, Unit, Requirement, covers, Book, regionOf}
+use Rattle.rules.specs.Book.{by, Defaults, Requirement, covers, Book, regionOf}
 use Rattle.rules.specs.Reliability.{reliable-in}
-use Rattle.rules.specs.Deviation.{units-in}
-use Rattle.rules.specs.Performance.{unit-performance, residual-performance}
-use Rattle.rules.specs.Standings.{standing, unit-standing, some-good-or-none, residual-standing, live-or}
+use Rattle.rules.specs.Plants.{Plant, plants, plants-in}
+use Rattle.rules.specs.Performance.{plant-performance, residual-performance}
+use Rattle.rules.specs.Standings.{standing, plant-standing, some-good-or-none, residual-standing, live-or}
 
+-- a group goes by its primary's unit number
 pub data Name : Type 0 where
   unit : ℕ → Name
   residual : Name
@@ -26,12 +27,12 @@ pub record Member : Type 0 where
   pub used : ℤ
   pub unused : ℤ
 
-unfoldable pub unit-member : Book → Direction → Unit → Member
-unit-member b d u =
-    let s = unit-standing b d u in
-    let p = unit-performance b d u in
-    let f = by d (u .defaults) in
-    record { name = unit (u .number); standing = s; payment = live-or s p (f .payment); used = live-or s p (f .used); unused = f .unused }
+unfoldable pub plant-member : Book → Direction → Plant → Member
+plant-member b d p =
+    let s = plant-standing b d p in
+    let x = plant-performance b d p in
+    let f = by d (p .defaults) in
+    record { name = unit (p .number); standing = s; payment = live-or s x (f .payment); used = live-or s x (f .used); unused = f .unused }
 
 -- over the regions of a requirement: a sum, and a test that each has to pass
 abbrev pub over-regions : Requirement → (ℕ → ℤ) → ℤ
@@ -57,8 +58,8 @@ residual-member b q =
       unused = over-regions q (λ r. by d (regionOf b r .defaults) .unused);
     }
 
-abbrev pub unit-members : Book → Requirement → List Unit
-unit-members b q = units-in (covers q) (b .roster)
+abbrev pub plants-among : Book → Requirement → List Plant
+plants-among b q = plants-in (covers q) (plants (b .roster))
 
 unfoldable pub members : Book → Requirement → List Member
-members b q = map (unit-member b (q .direction)) (unit-members b q) ++ (residual-member b q ∷ [])
+members b q = map (plant-member b (q .direction)) (plants-among b q) ++ (residual-member b q ∷ [])

@@ -15,6 +15,7 @@ use Rattle.rules.specs.declared.Refusal.the-variants.{
   WrongState,
   TooShort,
   AverageTooLow,
+  WrongGroup,
   WrongWeek,
   FrequencyHeader,
   FrequencyDefault,
@@ -53,6 +54,8 @@ number TooShort = 12
 -- 13 is nobody's: no share could meet it (02, R-10), and it is not given again
 -- the average of a week is below the limit of its book field (02, R-7)
 number AverageTooLow = 14
+-- a group that is split, in two regions, or with a default off the primary (02, R-5)
+number WrongGroup = 16
 -- a week of more than 2,016 intervals, or a live performance that no such member can have (02, R-7)
 number WrongWeek = 17
 -- a frequency record's header, default, quality or point breaks its rule
@@ -60,7 +63,7 @@ number FrequencyHeader = 71
 number FrequencyDefault = 72
 number FrequencyQuality = 73
 number (FrequencyPoint t) = 74
--- a unit's header, default, quality (with the two bytes after it) or reading breaks its rule
+-- a unit's header, default, quality or reading breaks its rule
 number UnitHeader = 81
 number UnitDefault = 82
 number UnitQuality = 83
@@ -79,6 +82,7 @@ point RequirementField = 0
 point WrongState = 0
 point TooShort = 0
 point AverageTooLow = 0
+point WrongGroup = 0
 point WrongWeek = 0
 point FrequencyHeader = 0
 point FrequencyDefault = 0

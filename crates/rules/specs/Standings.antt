@@ -9,22 +9,22 @@ use Rattle.rules.specs.declared.Reason.{Reason}
 use Rattle.rules.specs.declared.Reason.the-variants.{UnreliableRegion, BadUnit, NoGoodUnit}
 use Rattle.rules.specs.declared.Standing.{Standing}
 use Rattle.rules.specs.declared.Standing.the-variants.{Live, Default}
-use Rattle.rules.specs.Book.{Unit, Book}
+use Rattle.rules.specs.Book.{Book}
 use Rattle.rules.specs.Reliability.{reliable-in}
-use Rattle.rules.specs.Deviation.{good, good-units}
-use Rattle.rules.specs.Performance.{units-of}
+use Rattle.rules.specs.Plants.{Plant, good-plants}
+use Rattle.rules.specs.Performance.{plants-of}
 
 -- live unless the region is unreliable or, in a reliable region, something else is amiss
 abbrev pub standing : Bool → Bool → Reason → Standing
 standing reliable fine why = cond reliable (cond fine Live (Default why)) (Default UnreliableRegion)
 
--- a unit is live in a direction if it is good and its region reliable there
-abbrev pub unit-standing : Book → Direction → Unit → Standing
-unit-standing b d u = standing (reliable-in b d (u .region)) (good u) BadUnit
+-- a plant is live in a direction if it is good and its region reliable there
+abbrev pub plant-standing : Book → Direction → Plant → Standing
+plant-standing b d p = standing (reliable-in b d (p .region)) (p .good) BadUnit
 
--- a residual is live if the region is reliable and has a good unit or no unit
+-- a residual is live if the region is reliable and has a good plant or none at all
 unfoldable pub some-good-or-none : Book → ℕ → Bool
-some-good-or-none b r = leb 1 (length (good-units (units-of b r))) || eqb (length (units-of b r)) 0
+some-good-or-none b r = leb 1 (length (good-plants (plants-of b r))) || eqb (length (plants-of b r)) 0
 
 abbrev pub residual-standing : Book → Direction → ℕ → Standing
 residual-standing b d r = standing (reliable-in b d r) (some-good-or-none b r) NoGoodUnit

@@ -11,6 +11,7 @@ use Rattle.rules.specs.Contents.{contents, contents-size, frequency-star
 use Rattle.rules.specs.SettingsRecord.{settings}
 use Rattle.rules.specs.FrequencyRecord.{frequency-record}
 use Rattle.rules.specs.UnitRecord.{unit-record}
+use Rattle.rules.specs.Groups.{in-its-group}
 use Rattle.rules.specs.RequirementRecord.{requirement-record}
 
 -- n frequency records, of the regions from r on
@@ -21,12 +22,12 @@ frequency-body (suc n) r bs = do
   rest ← frequency-body n (suc r) (drop frequency-size bs)
   taken (first ∷ rest)
 
--- n units from a place on, of which the first has at least the number `least`
-unfoldable pub unit-body : ℕ → ℕ → ℕ → List ℕ → LocatedReply (List Unit)
-unit-body zero place least bs = taken []
-unit-body (suc n) place least bs = do
-  first ← at place (unit-record least bs)
-  rest ← unit-body n (suc place) (suc (first .number)) (drop unit-size bs)
+-- n units behind others, the last of them first, from a place on; the first has at least the number `least`
+unfoldable pub unit-body : ℕ → ℕ → ℕ → List Unit → List ℕ → LocatedReply (List Unit)
+unit-body zero place least before bs = taken []
+unit-body (suc n) place least before bs = do
+  first ← at place (unit-record least bs >>= in-its-group before)
+  rest ← unit-body n (suc place) (suc (first .number)) (first ∷ before) (drop unit-size bs)
   taken (first ∷ rest)
 
 -- n requirements likewise; nothing follows the last
@@ -42,6 +43,6 @@ book bs = do
   counts ← at 0 (contents bs)
   s ← at 1 (settings (drop contents-size bs))
   rs ← frequency-body regions 0 (drop frequency-start bs)
-  us ← unit-body (counts .units) 1 0 (drop unit-start bs)
+  us ← unit-body (counts .units) 1 0 [] (drop unit-start bs)
   qs ← requirement-body (counts .requirements) 1 0 (drop (requirement-start (counts .units)) bs)
   taken (record { settings = s; regions = rs; roster = us; requirements = qs })

@@ -66,7 +66,7 @@ pub enum Verdict {
     WrongSide(Side),
 }
 
-// What the box says no with, in the order of the numbers 1 to 6, 9 to 12, 14, 17, 71 to 74 and 81 to 84. None has the number 7, 8 or 13, and none
+// What the box says no with, in the order of the numbers 1 to 6, 9 to 12, 14, 16, 17, 71 to 74 and 81 to 84. None has the number 7, 8 or 13, and none
 // will (02, R-1 and R-10). A refused point or reading says which, t = 1 to 75.
 pub enum Refusal {
     EndsEarly,
@@ -80,6 +80,7 @@ pub enum Refusal {
     WrongState,
     TooShort,
     AverageTooLow,
+    WrongGroup,
     WrongWeek,
     FrequencyHeader,
     FrequencyDefault,
@@ -113,6 +114,7 @@ pub fn refusal_number(refusal: Refusal) -> u32
         Refusal::WrongState => 11,
         Refusal::TooShort => 12,
         Refusal::AverageTooLow => 14,
+        Refusal::WrongGroup => 16,
         Refusal::WrongWeek => 17,
         Refusal::FrequencyHeader => 71,
         Refusal::FrequencyDefault => 72,

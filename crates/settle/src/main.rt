@@ -19,12 +19,12 @@ use rules::locate;
 
 // The buffers, in bytes, each array once:
 //   regions: measures 1,500, sums 6,000, figures 400
-//   units: numbers 1,024, homes 512, rows 32,768
+//   units: numbers 1,024, homes 512, rows 32,768, groups 1,024
 //   bytes 769
-//   columns: performances, factors, payments, used, unused 4,104 each
+//   columns: performances, factors, payments, used, unused 4,104 each; the first holds the deviations of a group while the book is read
 //   a line of text 165
-//   a third of a unit's readings 100 (`units`), a share's counters 1,024 (`share`)
-// Together 64,782, within 65,536.
+//   five of a unit's readings 20 (`units`), a share's counters 512 (`share`)
+// Together 65,214, within 65,536.
 fn main() {
     let mut measures = [0i32; SERIES_LENGTH];
     let mut sums = [0i64; SUMS_LENGTH];
@@ -32,6 +32,7 @@ fn main() {
     let mut numbers = [0u16; UNITS];
     let mut homes = [0u8; UNITS];
     let mut rows = [0i64; ROWS_LENGTH];
+    let mut groups = [0u16; UNITS];
     let mut bytes = [0u8; RECORDS];
     let mut performances = [0i64; MEMBERS];
     let mut factors = [0i64; MEMBERS];
@@ -49,6 +50,8 @@ fn main() {
         &mut numbers,
         &mut homes,
         &mut rows,
+        &mut groups,
+        &mut performances,
     );
     match next {
         Next::Taken(tally) => answers::print_book(

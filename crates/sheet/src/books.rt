@@ -11,6 +11,7 @@ use answer::Answered;
 use answer::Row;
 use answer::call::answer;
 use answer::roster::member;
+use book::POINTS;
 use book::REQUIREMENT;
 use intake::MEMBERS;
 use intake::RECORDS;
@@ -72,7 +73,7 @@ fn name_in(row: Row) -> Name {
     Name::Unit(number)
 }
 
-// The name of a requirement's member, from 1: past its units it is the residual.
+// The name of a requirement's member, from 1: past its units and groups it is the residual.
 fn name_of(
     place: u16,
     given: Answer,
@@ -203,6 +204,8 @@ fn judge_file(file: i32, wanted: u64) {
     let mut numbers = [0u16; UNITS];
     let mut homes = [0u8; UNITS];
     let mut rows = [0i64; ROWS_LENGTH];
+    let mut groups = [0u16; UNITS];
+    let mut deviations = [0i64; POINTS];
     let next = take_book(
         file,
         true,
@@ -213,6 +216,8 @@ fn judge_file(file: i32, wanted: u64) {
         &mut numbers,
         &mut homes,
         &mut rows,
+        &mut groups,
+        &mut deviations,
     );
     let Next::Taken(tally) = next else {
         untaken(next);

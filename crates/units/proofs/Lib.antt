@@ -1,3 +1,5 @@
+pub mod GroupsLaws
+pub mod PlantAnswer
 pub mod PointsLaws
 pub mod RangeLaws
 pub mod RowsLaws

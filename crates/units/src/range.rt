@@ -38,15 +38,15 @@ fn outside(limit: u64, x: i64) -> u64
     (above | below) / SIGN_BIT
 }
 
-// Is each of a region's 150 sums at most so much either way?
-pub(crate) fn each_sum_within(limit: u64, start: usize, sums: &[i64]) -> bool
-    requires { ⌜ (limit < 2 ^ 40) × (start + 150 ≤ length (now sums)) ⌝ }
-    ensures { λ r. ⌜ r ≡ each-sized limit start 150 (now (sums .entry)) ⌝ }
+// Is each of so many numbers from a place on at most so much either way?
+pub(crate) fn each_within(limit: u64, start: usize, many: u32, numbers: &[i64]) -> bool
+    requires { ⌜ (limit < 2 ^ 40) × (start + many ≤ length (now numbers)) ⌝ }
+    ensures { λ r. ⌜ r ≡ each-sized limit start many (now (numbers .entry)) ⌝ }
 {
     let mut any: u64 = 0;
     let mut t: u32 = 0;
-    while t < 150 {
-        any |= outside(limit, sums[start + t as usize]);
+    while t < many {
+        any |= outside(limit, numbers[start + t as usize]);
         t += 1;
     }
     any == 0

@@ -5,9 +5,11 @@ ghost use Rattle.book.specs.Unit.{unit-answer};
 ghost use Rattle.interval.specs.Tally.{units-taken};
 ghost use Rattle.interval.specs.Lent.{lent-unit};
 ghost use Rattle.interval.specs.Calls.{unit-reply};
-use super::lent::named_region;
+use super::group::in_group;
+use super::group::is_free;
+use super::lent::lent_in_range;
+use super::lent::named_group;
 use super::lent::regions_long;
-use super::lent::series_in_range;
 use super::lent::units_long;
 use book::UnitRead;
 use interval::Tally;
@@ -34,10 +36,12 @@ pub(crate) fn tested_unit(
     numbers: &[u16],
     homes: &[u8],
     rows: &[i64],
+    groups: &[u16],
+    deviations: &[i64],
 ) -> UnitRead
     ensures { λ r. ⌜
         r ≡ unit-answer (unit-reply tally (now (part .entry)) (lent-unit (now (measures .entry)) (now (sums .entry)) (now (figures .entry))
-        (now (numbers .entry)) (now (homes .entry)) (now (rows .entry))))
+        (now (numbers .entry)) (now (homes .entry)) (now (rows .entry)) (now (groups .entry)) (now (deviations .entry))))
         ⌝ }
 {
     if !unit_turn(tally) {
@@ -47,14 +51,28 @@ pub(crate) fn tested_unit(
         return UnitRead::Refused(Refusal::TooShort);
     }
     let row = next_row(tally);
-    if !units_long(row + 1, numbers.len(), homes.len(), rows.len()) {
+    if !units_long(
+        row + 1,
+        numbers.len(),
+        homes.len(),
+        rows.len(),
+        groups.len(),
+        deviations.len(),
+    ) {
         return UnitRead::Refused(Refusal::TooShort);
     }
+    let free = is_free(named_group(part), row, groups);
     if !of_interval(tally.interval, figures) {
         return UnitRead::Refused(Refusal::WrongState);
     }
-    if !series_in_range(named_region(part), row, measures, sums) {
+    if !lent_in_range(part, row, measures, sums, homes, rows, groups, deviations) {
         return UnitRead::Refused(Refusal::WrongState);
     }
-    book::unit::read_unit(part, tally.least)
+    in_group(
+        book::unit::read_unit(part, tally.least),
+        free,
+        row,
+        homes,
+        groups,
+    )
 }

@@ -297,6 +297,8 @@ fn take_unit(
     let mut numbers = [0u16; 1];
     let mut homes = [0u8; 1];
     let mut rows = [0i64; ROW_EACH];
+    let mut groups = [0u16; 1];
+    let mut deviations = [0i64; 75];
     let step = units::unit::unit(
         tally_after(6),
         part,
@@ -306,6 +308,8 @@ fn take_unit(
         &mut numbers,
         &mut homes,
         &mut rows,
+        &mut groups,
+        &mut deviations,
     );
     let taking = step.taking;
     is_taken(taking)

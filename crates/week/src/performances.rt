@@ -1,5 +1,5 @@
 // What the members of a book did. For each region and direction a requirement of that region that costs nothing is put to the calculator, and its answer has
-// the performances: of the region's units in their order, then of its residual. They are noted as the weeks stand: two for each row, raise and then lower, and
+// the performances: of the region's units and groups in their order, then of its residual. They are noted as the weeks stand: two for each row, raise and then lower, and
 // behind those two for each region's residual.
 ghost use Prim.Native.Nat.{_<_, _≤_};
 use super::running::Kept;

@@ -15,11 +15,13 @@ use rules::Refusal;
 use rules::locate;
 ghost use Prim.Native.Nat.{_+_, _*_, _<_, _≤_};
 ghost use lib.ListN.{length};
+use book::POINTS;
 use intake::RECORDS;
 use intake::input::fill;
 use intake::whole::Next;
 use intake::whole::take_book;
 use interval::FIGURES_LENGTH;
+use interval::PASSED_OVER;
 use interval::ROWS_LENGTH;
 use interval::SERIES_LENGTH;
 use interval::SUMS_LENGTH;
@@ -41,7 +43,7 @@ struct Turn {
     end: End,
 }
 
-// The numbers of a book's units join the names: how many there are then, one more than there is room for where one has none.
+// The numbers of a book's members join the names: how many there are then, one more than there is room for where one has none.
 fn join_all(numbers: &[u16; ROWS], units: u16, names: &mut [u16; MEMBERS], members: usize) -> usize
     requires { ⌜ (units ≤ 512) × (members ≤ 512) ⌝ }
     ensures { λ r. ⌜ r ≤ 513 ⌝ }
@@ -58,17 +60,46 @@ fn join_all(numbers: &[u16; ROWS], units: u16, names: &mut [u16; MEMBERS], membe
     joined
 }
 
-// What was done in a week's interval: whether it is live, and the performance.
+// What was done in a week's interval: by how many units, whether it is live, and the performance.
 struct Done {
+    units: u16,
     live: u8,
     performance: i64,
 }
 
-// What was done for the week at a place. A number's is that of its row, or not live where the book has no such unit.
+// The row of the member with this number, and how many units it has; behind the last row where the book has no such member. All rows of a group have its
+// number, and those that are passed over come before the member's own.
+struct Place {
+    row: usize,
+    units: u16,
+}
+
+fn place_of(number: u16, units: u16, numbers: &[u16; ROWS], homes: &[u8; ROWS]) -> Place
+    requires { ⌜ units ≤ 512 ⌝ }
+    ensures { λ r. ⌜ r .row ≤ units ⌝ }
+{
+    let most = units as usize;
+    let mut row = find(numbers, most, number);
+    let mut many: u16 = 1;
+    while row < most {
+        if homes[row] != PASSED_OVER {
+            return Place { row, units: many };
+        }
+        row += 1;
+        many += 1;
+    }
+    Place {
+        row: most,
+        units: many,
+    }
+}
+
+// What was done for the week at a place. A number's is that of its row, or not live where the book has no such member.
 fn done_at(
     at: usize,
     units: u16,
     numbers: &[u16; ROWS],
+    homes: &[u8; ROWS],
     names: &[u16; MEMBERS],
     done: &[i64; WEEKS],
     live: &[u8; WEEKS],
@@ -77,20 +108,23 @@ fn done_at(
 {
     if RESIDUALS <= at {
         return Done {
+            units: 1,
             live: live[at],
             performance: done[at],
         };
     }
-    let most = units as usize;
-    let row = find(numbers, most, names[at / 2]);
-    if most <= row {
+    let place = place_of(names[at / 2], units, numbers, homes);
+    let row = place.row;
+    if units as usize <= row {
         return Done {
+            units: 1,
             live: 0,
             performance: 0,
         };
     }
     let from = 2 * row + at % 2;
     Done {
+        units: place.units,
         live: live[from],
         performance: done[from],
     }
@@ -103,6 +137,7 @@ fn add_weeks(
     books: u16,
     units: u16,
     numbers: &[u16; ROWS],
+    homes: &[u8; ROWS],
     names: &[u16; MEMBERS],
     done: &[i64; WEEKS],
     live: &[u8; WEEKS],
@@ -114,10 +149,11 @@ fn add_weeks(
 {
     let mut at = from;
     while at < to {
-        let what = done_at(at, units, numbers, names, done, live);
+        let what = done_at(at, units, numbers, homes, names, done, live);
         let kept = add_at(
             at,
             books,
+            what.units,
             what.live != 0,
             what.performance,
             lives,
@@ -138,6 +174,7 @@ fn add_book(
     members: usize,
     units: u16,
     numbers: &[u16; ROWS],
+    homes: &[u8; ROWS],
     names: &[u16; MEMBERS],
     done: &[i64; WEEKS],
     live: &[u8; WEEKS],
@@ -153,6 +190,7 @@ fn add_book(
         books,
         units,
         numbers,
+        homes,
         names,
         done,
         live,
@@ -169,6 +207,7 @@ fn add_book(
         books,
         units,
         numbers,
+        homes,
         names,
         done,
         live,
@@ -227,6 +266,8 @@ fn replay_book(
     numbers: &mut [u16; ROWS],
     homes: &mut [u8; ROWS],
     rows: &mut [i64; ROWS_LENGTH],
+    groups: &mut [u16; ROWS],
+    deviations: &mut [i64; POINTS],
     names: &mut [u16; MEMBERS],
     lives: &mut [u16; WEEKS],
     highs: &mut [u16; WEEKS],
@@ -246,6 +287,8 @@ fn replay_book(
         numbers,
         homes,
         rows,
+        groups,
+        deviations,
     );
     let Next::Taken(tally) = next else {
         return stopped(end_of(next, books, members, place));
@@ -276,6 +319,7 @@ fn replay_book(
         joined,
         units,
         numbers,
+        homes,
         names,
         &done,
         &live,
@@ -300,6 +344,8 @@ pub(crate) fn replay(
     numbers: &mut [u16; ROWS],
     homes: &mut [u8; ROWS],
     rows: &mut [i64; ROWS_LENGTH],
+    groups: &mut [u16; ROWS],
+    deviations: &mut [i64; POINTS],
     names: &mut [u16; MEMBERS],
     lives: &mut [u16; WEEKS],
     highs: &mut [u16; WEEKS],
@@ -318,6 +364,8 @@ pub(crate) fn replay(
             numbers,
             homes,
             rows,
+            groups,
+            deviations,
             names,
             lives,
             highs,

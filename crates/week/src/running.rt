@@ -80,10 +80,19 @@ fn whose_at(at: usize) -> Whose {
     Whose::Residual
 }
 
-// An interval is added to the week at a place, of which so many have been seen.
+// Whose performance was done at a place, in an interval in which the member has so many units.
+fn doer_at(at: usize, units: u16) -> Whose {
+    if at < RESIDUALS {
+        return Whose::Group(units);
+    }
+    Whose::Residual
+}
+
+// An interval is added to the week at a place, of which so many have been seen; the member has so many units in it.
 pub(crate) fn add_at(
     at: usize,
     seen: u16,
+    units: u16,
     live: bool,
     performance: i64,
     lives: &mut [u16; WEEKS],
@@ -93,7 +102,7 @@ pub(crate) fn add_at(
     requires { ⌜ at < 1034 ⌝ }
 {
     let week = week_at(at, seen, lives, highs, lows);
-    let added = add(whose_at(at), live, performance, week);
+    let added = add(doer_at(at, units), live, performance, week);
     match added {
         Added::Next(next) => {
             lives[at] = next.live;

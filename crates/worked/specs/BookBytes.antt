@@ -27,6 +27,7 @@ use Rattle.books.specs.WorkedBooks.{
   dropped-reliability,
   table-15,
 }
+use Rattle.books.specs.GroupBooks.{groups, ungrouped, bad-groups, group-of-13, groups-of-one}
 
 abbrev sum-of : List ℕ → ℕ
 sum-of bs = little (length bs) bs % (2 ^ 61 - 1)
@@ -102,3 +103,23 @@ dropped-reliability-bytes = record { long = refl; same = refl }
 pub table-15-bytes : Written table-15 3_440 572_737_380_810_571_913
 unfolding computing
 table-15-bytes = record { long = refl; same = refl }
+
+pub groups-bytes : Written groups 5_324 711_819_952_014_808_377
+unfolding computing
+groups-bytes = record { long = refl; same = refl }
+
+pub ungrouped-bytes : Written (ungrouped groups) 5_324 702_805_192_694_848_821
+unfolding computing
+ungrouped-bytes = record { long = refl; same = refl }
+
+pub bad-groups-bytes : Written bad-groups 6_860 815_170_138_266_670_363
+unfolding computing
+bad-groups-bytes = record { long = refl; same = refl }
+
+pub group-of-13-bytes : Written group-of-13 7_136 1_448_965_914_848_333_592
+unfolding computing
+group-of-13-bytes = record { long = refl; same = refl }
+
+pub groups-of-one-bytes : Written groups-of-one 2_672 744_578_809_480_773_502
+unfolding computing
+groups-of-one-bytes = record { long = refl; same = refl }

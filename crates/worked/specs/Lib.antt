@@ -11,3 +11,7 @@ pub mod EveryField
 pub mod DroppedEdges
 pub mod DroppedReliability
 pub mod TableFifteen
+pub mod GroupListing
+pub mod UngroupedListing
+pub mod BadGroups
+pub mod GroupOfThirteen

@@ -7,20 +7,20 @@ use lib.IntN.{ℤ, pos, negℤ}
 use Rattle.rules.specs.declared.Direction.{Direction}
 use Rattle.rules.specs.declared.Direction.the-variants.{Raise, Lower}
 use Rattle.rules.specs.Measure.{measure-in}
-use Rattle.rules.specs.Deviation.{deviation, residual-deviation}
-use Rattle.rules.specs.Performance.{performance, unit-performance, residual-performance}
+use Rattle.rules.specs.Plants.{plants, residual-deviation}
+use Rattle.rules.specs.Performance.{performance, plant-performance, residual-performance}
 use Rattle.books.specs.Computing.{computing}
 use Rattle.books.specs.WorkedBooks.{table-15}
 
 -- units 1 to 4, then the residual
 abbrev over-kept : Direction → List ℤ
-over-kept d = map (unit-performance table-15 d) (table-15 .roster) ++ (residual-performance table-15 d 3 ∷ [])
+over-kept d = map (plant-performance table-15 d) (plants (table-15 .roster)) ++ (residual-performance table-15 d 3 ∷ [])
 
 -- the same with what every point would weigh if none were dropped: its FM
 abbrev over-all : Direction → List ℤ
 over-all d =
-    map (λ u. performance d (measure-in table-15 3) (deviation u)) (table-15 .roster)
-    ++ (performance d (measure-in table-15 3) (residual-deviation (table-15 .roster)) ∷ [])
+    map (λ p. performance d (measure-in table-15 3) (p .deviation)) (plants (table-15 .roster))
+    ++ (performance d (measure-in table-15 3) (residual-deviation (plants (table-15 .roster))) ∷ [])
 
 pub raise-kept : over-kept Raise ≡ pos 656_460_066 ∷ negℤ (pos 126_355_152) ∷ negℤ (pos 990_950_400) ∷ pos 549_074_262 ∷ negℤ (pos 88_228_776) ∷ []
 unfolding computing

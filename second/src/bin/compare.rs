@@ -8,15 +8,16 @@ use std::fs;
 use std::path::Path;
 use std::process::ExitCode;
 
-use second::book::{read_book, Refusal};
+use second::book::{read_book, Book, Refusal};
 use second::cents::settle_book;
+use second::chance::Chance;
 use second::library::{announcement, library_command, library_output};
 use second::listing::write_listing;
-use second::{damage, invariants, make, rules, write};
+use second::{damage, groups, invariants, make, rules, write};
 
 const DIFFERENCES: &str = "target/differences";
 /// What a book can be refused with.
-const NUMBERS: [u8; 16] = [1, 2, 3, 4, 5, 6, 71, 72, 73, 74, 81, 82, 83, 84, 9, 10];
+const NUMBERS: [u8; 17] = [1, 2, 3, 4, 5, 6, 71, 72, 73, 74, 81, 82, 83, 84, 9, 16, 10];
 
 /// A book to try, and how to make it again.
 struct Trial {
@@ -53,22 +54,38 @@ fn trial(turn: u64) -> Trial {
     } else {
         small[(spread / 16 % small.len() as u64) as usize]
     };
-    let book = make::make(turn, class, Some(roster)).expect("a class of the list");
+    let (book, of) = trial_book(turn, class, roster);
     let bytes = write::to_bytes(&book);
     if whole {
-        Trial { name: format!("{turn}-{class}-{roster}"), bytes, whole }
+        Trial { name: format!("{turn}-{class}-{of}"), bytes, whole }
     } else {
         let bytes = damage::damage(turn, &bytes);
-        Trial { name: format!("{turn}-{class}-{roster}-damaged"), bytes, whole }
+        Trial { name: format!("{turn}-{class}-{of}-damaged"), bytes, whole }
     }
 }
 
+/// The book of a turn, and how many units it has. Of sixteen turns eight cut the book's units into groups, which leaves its figures as they
+/// were: then it is made of fewer units, and told by both numbers.
+fn trial_book(turn: u64, class: &str, roster: usize) -> (Book, String) {
+    let made = |units: usize| make::make(turn, class, Some(units)).expect("a class of the list");
+    let is_cut = turn / 8 % 2 == 1 && !make::GROUPED.contains(&class);
+    if !is_cut {
+        return (made(roster), roster.to_string());
+    }
+    let mut chance = Chance::new(turn);
+    let members = if roster > 13 { chance.pick(&[1, 2, 5, 13, 76, roster]) } else { roster };
+    let units = if roster > 13 { roster } else { roster + chance.pick(&[1, 1, 2, 5, 7, 13]) };
+    let (book, _) = groups::cut(&mut chance, &made(members), units);
+    (book, format!("{members}-in-{units}"))
+}
+
 /// What a program has to print for a book, the shares in which the rule before request R-9 would differ, whether the
-/// rule of performance before request R-3 would, and what the book is refused with.
+/// rule of performance before request R-3 would, whether its groups show, and what the book is refused with.
 struct Expected {
     output: String,
     shares: BTreeSet<(&'static str, &'static str)>,
     dropping_tells: bool,
+    grouping_tells: bool,
     refusal: Option<Refusal>,
 }
 
@@ -84,14 +101,16 @@ fn second_output(trial: &Trial, turn: u64) -> Result<Expected, String> {
             invariants::splits_close(&book, &all, turn as usize)?;
             let output = write_listing(book.settings.interval, &all);
             let dropping_tells = rules::dropping_tells(&book, &all);
-            Ok(Expected { output, shares: rules::shares_of(&all), dropping_tells, refusal: None })
+            let grouping_tells = rules::grouping_tells(&book, &all);
+            let shares = rules::shares_of(&all);
+            Ok(Expected { output, shares, dropping_tells, grouping_tells, refusal: None })
         }
         Err(refusal) if trial.whole => Err(format!("a made book is refused {refusal}")),
         Err(refusal) if !NUMBERS.contains(&refusal.number) => Err(format!("refused {refusal}")),
         Err(refusal) => {
             let output = format!("refused {refusal}\n");
-            let refusal = Some(refusal);
-            Ok(Expected { output, shares: BTreeSet::new(), dropping_tells: false, refusal })
+            let (shares, refusal) = (BTreeSet::new(), Some(refusal));
+            Ok(Expected { output, shares, dropping_tells: false, grouping_tells: false, refusal })
         }
     }
 }
@@ -160,7 +179,7 @@ fn main() -> ExitCode {
     let mut refusals: Vec<Refusal> = Vec::new();
     let mut listings = 0;
     let mut shares: BTreeMap<(&str, &str), u64> = BTreeMap::new();
-    let mut told_apart = 0;
+    let (mut told_apart, mut grouping) = (0, 0);
     // Whole books, those of them that drop points with a difference, and damaged ones that do.
     let (mut whole, mut whole_dropping, mut damaged_dropping) = (0, 0, 0);
     let (mut passed, mut failed) = (0, 0);
@@ -171,6 +190,7 @@ fn main() -> ExitCode {
                 listings += u64::from(expected.refusal.is_none());
                 refusals.extend(expected.refusal);
                 told_apart += u64::from(!expected.shares.is_empty());
+                grouping += u64::from(expected.grouping_tells);
                 whole += u64::from(trial.whole);
                 whole_dropping += u64::from(trial.whole && expected.dropping_tells);
                 damaged_dropping += u64::from(!trial.whole && expected.dropping_tells);
@@ -195,6 +215,7 @@ fn main() -> ExitCode {
     let dropping = whole_dropping + damaged_dropping;
     println!("  listings that the rule before request R-3 would give otherwise: {dropping}");
     println!("    of {whole} whole books: {whole_dropping}");
+    println!("  listings that units without their groups would give otherwise: {grouping}");
     say_refusals(&refusals);
     println!("compare: {passed} passed, {failed} failed");
     if failed == 0 {

@@ -4,7 +4,7 @@
 
 use std::io::Write;
 
-use super::{span, Made, Script, CLASSES};
+use super::{span, ungrouped, Made, Script};
 use crate::book::CONTENTS_SIZE;
 use crate::boundary::*;
 use crate::damage::{spoil_once_or_twice, spoil_t, Kind};
@@ -19,13 +19,13 @@ const FAULTS: usize = 30;
 const TS_OF_A_RECORD: usize = POINTS / REGIONS;
 
 /// A call, and the bytes that it would take.
-struct Honest {
-    kind: &'static str,
-    part: Vec<u8>,
+pub(super) struct Honest {
+    pub(super) kind: &'static str,
+    pub(super) part: Vec<u8>,
 }
 
 /// A lent number that is another for one call.
-type Off = (&'static str, usize, i128);
+pub(super) type Off = (&'static str, usize, i128);
 
 fn interval_off(region: usize, number: i128) -> Off {
     ("figures", FIGURES_OF_A_REGION * region, number)
@@ -48,7 +48,7 @@ impl<W: Write> Script<W> {
     }
 
     /// One call with some lent numbers off and so many bytes, and everything as it was before.
-    fn cut_trial(&mut self, honest: &Honest, what: &str, off: &[Off], bytes: usize) {
+    pub(super) fn cut_trial(&mut self, honest: &Honest, what: &str, off: &[Off], bytes: usize) {
         let before = self.caller.lent.clone();
         for &(name, place, number) in off {
             self.put(name, place, &[number]);
@@ -58,12 +58,18 @@ impl<W: Write> Script<W> {
         self.restore(&before);
     }
 
-    fn trial(&mut self, honest: &Honest, what: &str, off: &[Off]) {
+    pub(super) fn trial(&mut self, honest: &Honest, what: &str, off: &[Off]) {
         self.cut_trial(honest, what, off, honest.part.len());
     }
 
     /// Both limits of a lent number, one past each, and the ends of its type.
-    fn around(&mut self, honest: &Honest, what: &str, at: (&'static str, usize), limits: (i128, i128)) {
+    pub(super) fn around(
+        &mut self,
+        honest: &Honest,
+        what: &str,
+        at: (&'static str, usize),
+        limits: (i128, i128),
+    ) {
         let (name, place) = at;
         let (lowest, highest) = limits;
         let (first, last) = span(name);
@@ -94,14 +100,14 @@ impl<W: Write> Script<W> {
     }
 
     /// A lent number that the call has nothing to do with may be any.
-    fn unread(&mut self, honest: &Honest, what: &str, name: &'static str, place: usize) {
+    pub(super) fn unread(&mut self, honest: &Honest, what: &str, name: &'static str, place: usize) {
         let (first, last) = span(name);
         for number in [first, last] {
             self.trial(honest, &format!("{what} of any size"), &[(name, place, number)]);
         }
     }
 
-    fn lengths(&mut self, honest: &Honest) {
+    pub(super) fn lengths(&mut self, honest: &Honest) {
         let tally = Tally::from_words(&self.tally_words());
         for &name in lists_of(honest.kind) {
             let least = length_for(honest.kind, name, &tally);
@@ -205,7 +211,14 @@ impl<W: Write> Script<W> {
         for field in 1..FIGURES_OF_A_REGION {
             self.unread(honest, "a figure", "figures", FIGURES_OF_A_REGION * region + field);
         }
-        for (name, places) in [("numbers", UNITS), ("homes", UNITS), ("rows", NUMBERS_OF_A_ROW * UNITS)] {
+        let lists = [
+            ("numbers", UNITS),
+            ("homes", UNITS),
+            ("rows", NUMBERS_OF_A_ROW * UNITS),
+            ("groups", UNITS),
+            ("deviations", POINTS),
+        ];
+        for (name, places) in lists {
             let place = self.chance.place(places);
             self.unread(honest, name, name, place);
         }
@@ -219,7 +232,7 @@ impl<W: Write> Script<W> {
             self.answer_limits_of_a_region(honest, region);
         }
         for row in [0, UNITS - 1] {
-            self.around(honest, "a home", ("homes", row), (0, 9));
+            self.around(honest, "a home", ("homes", row), (0, PASSED_OVER));
             for field in 0..NUMBERS_OF_A_ROW {
                 let (what, limits) = match field {
                     0 | 1 => ("a performance", (-PERFORMANCE_LIMIT, PERFORMANCE_LIMIT)),
@@ -265,7 +278,7 @@ impl<W: Write> Script<W> {
         let region = self.caller.lent.list("homes").numbers[row] as usize / 2;
         let other = (region + 1 + self.chance.place(REGIONS - 1)) % REGIONS;
         let own = FIGURES_OF_A_REGION * region;
-        self.around(honest, "its home", ("homes", row), (0, 9));
+        self.around(honest, "its home", ("homes", row), (0, PASSED_OVER));
         self.unread(honest, "another home", "homes", (row + 1) % UNITS);
         self.around(honest, "its reliability", ("figures", own + 2 + direction), (0, 1));
         self.unread(honest, "reliability the other way", "figures", own + 3 - direction);
@@ -302,7 +315,7 @@ impl<W: Write> Script<W> {
     }
 
     pub(super) fn limits(&mut self) {
-        let (class, _) = self.chance.pick(&CLASSES);
+        let class = self.chance.pick(&ungrouped());
         let mut book = make(self.chance.draw(), class, Some(UNITS)).expect("a class of the list");
         // So far from both ends that every wrong number is another one.
         book.settings.interval = self.chance.between(2, u32::MAX as i128 - 2);

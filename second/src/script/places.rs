@@ -5,7 +5,8 @@
 
 use std::io::Write;
 
-use super::{hex, Made, Script, CLASSES};
+use super::groups::{group_of, join_all, spoil_for_16};
+use super::{hex, ungrouped, Made, Script};
 use crate::book::*;
 use crate::boundary::*;
 use crate::chance::Chance;
@@ -38,7 +39,7 @@ fn spoil_for(chance: &mut Chance, number: u8, record: &mut [u8], before: i128) -
     let (at, width, value) = match number {
         81 => chance.pick(&header),
         82 => (12 + 8 * chance.place(6), 8, default),
-        83 => chance.pick(&[(69, 1, spare_bit), (70, 1, 1), (71, 1, 128)]),
+        83 => (69, 1, spare_bit),
         84 => {
             let good = chance.one_in(2);
             spoil_t(chance, Kind::Unit, record, t, good);
@@ -56,10 +57,13 @@ impl<W: Write> Script<W> {
     }
 
     /// A book with its frequency records taken, stored; its unit records are kept, and some that it does not announce.
-    fn store_a_book(&mut self) -> Made {
-        let (class, _) = self.chance.pick(&CLASSES);
+    fn store_a_book(&mut self, with_groups: bool) -> Made {
+        let class = self.chance.pick(&ungrouped());
         let mut book = make(self.chance.draw(), class, Some(UNITS)).expect("a class of the list");
         book.units.iter_mut().for_each(|unit| unit.region %= SPARE_REGION);
+        if with_groups {
+            join_all(&mut self.chance, &mut book.units);
+        }
         book.requirements.truncate(1);
         let made = Made::of(&book);
         self.lend_all(UNITS, &[0, 1, 5]);
@@ -118,9 +122,15 @@ impl<W: Write> Script<W> {
         (place + self.chance.pick(&AFTER)).min(UNITS)
     }
 
-    /// The kept record at this place with a fault, and the refusal that it is meant for.
-    fn keep_spoilt(&mut self, made: &Made, place: usize, number: u8) -> Refusal {
+    /// The kept record at this place with a fault, and the refusal that it is meant for; where no fault of its group is at hand, another.
+    /// One record of the run may be left out.
+    fn keep_spoilt(&mut self, made: &Made, place: usize, number: u8, left_out: usize) -> Refusal {
         let mut record = made.run(REGIONS + place, 1).to_vec();
+        if number == 16 && spoil_for_16(&mut self.chance, made, place, left_out, &mut record) {
+            self.keep(UNIT_SIZE * (place - 1), &record);
+            return Refusal::of(16);
+        }
+        let number = if number == 16 { 83 } else { number };
         let before = if place > 1 { &made.run(REGIONS + place - 1, 1)[..2] } else { &[0; 2][..] };
         let before = i128::from(u16::from_le_bytes(before.try_into().expect("two bytes")));
         let refusal = spoil_for(&mut self.chance, number, &mut record, before);
@@ -136,18 +146,18 @@ impl<W: Write> Script<W> {
     /// Two wrong records in a run, where there is room for the second: the first alone is told, and behind it the run is
     /// resumed, to be refused at the second, and resumed again.
     fn refused_by_a_record(&mut self, made: &Made, place: usize, number: u8) {
-        // The first unit may have any number.
-        if (place, number) == (1, 9) {
+        // The first unit may have any number, and any group.
+        if place == 1 && [9, 16].contains(&number) {
             return;
         }
         let length = self.length_from(place);
         self.recall();
-        let first = self.keep_spoilt(made, place, number);
+        let first = self.keep_spoilt(made, place, number, 0);
         let mut left = place;
         if place + 2 <= length {
             let second = place + 2 + self.chance.place(length - place - 1);
-            let number = self.chance.pick(&FAULTS);
-            let refusal = self.keep_spoilt(made, second, number);
+            let number = self.chance.pick(if number == 16 { &[16, 16, 9, 84] } else { &FAULTS[..] });
+            let refusal = self.keep_spoilt(made, second, number, place);
             self.run(0, length, Err(first.at_place(place)));
             self.run(place, length - place, Err(refusal.at_place(second - place)));
             self.keep_honest(made, second);
@@ -170,7 +180,7 @@ impl<W: Write> Script<W> {
         self.say(format!("lend {name} {short}"));
         if self.chance.one_in(2) {
             let number = self.chance.pick(&[81, 82, 83, 84]);
-            self.keep_spoilt(made, place, number);
+            self.keep_spoilt(made, place, number, 0);
         }
         self.run(0, length, Err(Refusal::of(12).at_place(place)));
         self.keep_honest(made, place);
@@ -216,9 +226,64 @@ impl<W: Write> Script<W> {
     fn every_place(&mut self, made: &Made) {
         for place in 1..=UNITS {
             FAULTS.iter().for_each(|&number| self.refused_by_a_record(made, place, number));
-            self.refused_by_a_list(made, place, ["numbers", "homes", "rows"][place % 3]);
+            self.refused_by_a_list(made, place, ["numbers", "homes", "rows", "groups"][place % 4]);
             self.refused_by_a_number(made, place, ["measures", "sums"][place % 2]);
             self.refused_past_the_last(place);
+        }
+    }
+
+    /// A run up to this place; then the next with a wrong group, refused at its first record, and as it should be.
+    fn refused_at_its_first(&mut self, made: &Made, place: usize) {
+        let length = self.length_from(place);
+        self.recall();
+        self.run(0, place - 1, Ok(()));
+        let refusal = self.keep_spoilt(made, place, 16, 0);
+        self.run(place - 1, length - place + 1, Err(refusal.at_place(1)));
+        self.keep_honest(made, place);
+        self.run(place - 1, length - place + 1, Ok(()));
+    }
+
+    /// A run up to this place, whose record joins a group; then a lent number of the group one past its limit, and at it.
+    fn refused_by_a_group(&mut self, made: &Made, place: usize) {
+        let groups = [place - 1, place].map(|place| group_of(made.run(REGIONS + place, 1)));
+        if groups[0] != groups[1] || groups[1] == 0 {
+            return;
+        }
+        let length = self.length_from(place);
+        let (taken, row) = (place as i128 - 1, NUMBERS_OF_A_ROW * (place - 2));
+        let (performance, deviation) = (PERFORMANCE_LIMIT * taken, DEVIATION_LIMIT * taken);
+        let (side, default, point) =
+            (self.chance.place(2), 2 + self.chance.place(6), self.chance.place(POINTS));
+        let choices = [
+            ("rows", row + side, performance + 1, performance),
+            ("rows", row + side, -performance - 1, -performance),
+            ("rows", row + default, 1, 0),
+            ("rows", row + default, UNIT_DEFAULT_LOWEST - 1, UNIT_DEFAULT_LOWEST),
+            ("deviations", point, deviation + 1, deviation),
+            ("deviations", point, -deviation - 1, -deviation),
+        ];
+        let (name, at, past, last) = self.chance.pick(&choices);
+        self.recall();
+        self.run(0, place - 1, Ok(()));
+        self.put(name, at, &[past]);
+        self.run(place - 1, length - place + 1, Err(Refusal::of(11).at_place(1)));
+        self.put(name, at, &[last]);
+        // The one record: the numbers that are too large for its group would be told at the next.
+        self.run(place - 1, 1, Ok(()));
+    }
+
+    /// The same for a book of groups: a wrong group at every place, and any other fault.
+    fn every_place_of_groups(&mut self, made: &Made) {
+        for place in 2..=UNITS {
+            let any = self.chance.pick(&FAULTS);
+            self.refused_by_a_record(made, place, 16);
+            self.refused_by_a_record(made, place, any);
+            self.refused_by_a_group(made, place);
+            match place % 3 {
+                0 => self.refused_at_its_first(made, place),
+                1 => self.refused_by_a_list(made, place, ["groups", "homes"][place % 2]),
+                _ => self.refused_past_the_last(place),
+            }
         }
     }
 
@@ -282,7 +347,7 @@ impl<W: Write> Script<W> {
 
     /// Every length and every place once.
     pub fn runs(&mut self) {
-        let made = self.store_a_book();
+        let made = self.store_a_book(false);
         self.short_at_the_first();
         self.another_interval();
         self.words_off();
@@ -290,8 +355,12 @@ impl<W: Write> Script<W> {
         self.past_every_length();
         self.every_ragged_length();
         self.by_pieces(&made);
-        let made = self.store_a_book();
+        let made = self.store_a_book(false);
         self.every_place(&made);
+        self.by_pieces(&made);
+        self.by_pieces(&made);
+        let made = self.store_a_book(true);
+        self.every_place_of_groups(&made);
         self.by_pieces(&made);
         self.by_pieces(&made);
     }

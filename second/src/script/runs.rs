@@ -3,11 +3,13 @@
 
 use std::io::Write;
 
+use super::groups::group_of;
 use super::{part, Made, Script, EXACT_OR_MORE};
 use crate::book::{UNITS_AT, UNIT_SIZE};
 use crate::boundary::*;
 use crate::damage::{spoil_once_or_twice, Kind};
 use crate::quantities::*;
+use crate::sweep::put;
 
 const RUN_LENGTHS: [usize; 11] = [0, 1, 1, 2, 3, 5, 5, 7, 13, 13, 76];
 const ROSTERS: [usize; 6] = [3, 5, 7, 13, 13, 26];
@@ -52,7 +54,32 @@ impl<W: Write> Script<W> {
                 spoil_once_or_twice(&mut self.chance, Kind::Unit, record);
             }
         }
+        if self.chance.one_in(3) {
+            broken.copy_from_slice(run);
+            self.spoil_a_group(&mut broken);
+        }
         broken
+    }
+
+    /// A record that joins the one before it in the run with a default or in another region, or returns to the group of an earlier one.
+    fn spoil_a_group(&mut self, run: &mut [u8]) {
+        if records_of(run) < 2 {
+            return;
+        }
+        let place = 1 + self.chance.place(records_of(run) - 1);
+        let earlier = self.chance.place(place);
+        let other = self.chance.pick(&[place - 1, place - 1, earlier]);
+        let (at, before) = (UNIT_SIZE * place, UNIT_SIZE * other);
+        let drawn = self.chance.between(1, 65_535);
+        let stands = group_of(&run[before..before + UNIT_SIZE]);
+        let group = if stands == 0 { drawn } else { stands };
+        put(run, before + 70, 2, group);
+        put(run, at + 70, 2, group);
+        match self.chance.place(3) {
+            0 => run[at + 2] = (run[before + 2] % REGIONS as u8 + 1) % REGIONS as u8,
+            1 => put(run, at + 12 + 8 * self.chance.place(6), 8, -1),
+            _ => {}
+        }
     }
 
     /// A run that is no whole number of records: a few bytes more or fewer.

@@ -4,7 +4,7 @@
 
 use std::io::Write;
 
-use super::{Made, Script, CLASSES, EXACT_OR_MORE, SMALL_ROSTERS};
+use super::{Made, Script, EXACT_OR_MORE, SMALL_ROSTERS};
 use crate::book::CONTENTS_SIZE;
 use crate::make::make;
 use crate::quantities::REGIONS;
@@ -34,17 +34,17 @@ struct Taken {
 impl<W: Write> Script<W> {
     /// The book after another: of another number, of the next, or sent again under the same, changed or not.
     fn book_after(&mut self, first: &Made) -> Made {
-        if self.chance.one_in(8) {
+        if self.chance.one_in(5) {
             return first.clone();
         }
-        let (class, _) = self.chance.pick(&CLASSES);
+        let class = self.any_class();
         let roster = self.chance.pick(&SMALL_ROSTERS);
         let mut book = make(self.chance.draw(), class, Some(roster)).expect("a class of the list");
         book.requirements.truncate(2);
         let same = first.interval;
         let next = (same + 1) % (1 << 32);
         let any = self.interval_number();
-        book.settings.interval = self.chance.pick(&[next, next, next, any, any, same, same]);
+        book.settings.interval = self.chance.pick(&[next, next, next, any, any, same, same, same]);
         Made::of(&book)
     }
 

@@ -8,12 +8,12 @@ use Rattle.dullavane.proofs.dullavane_unit.Statement.{statement}
 use Rattle.dullavane.proofs.dullavane_unit.Tie as tie
 
 abbrev called : tie.After-tell-arg → tie.After-unit
-called c = c .before .before .before .before .before .before .before
+called c = c .before .before .before .before .before .before .before .before .before .before
 
 abbrev taken-in : tie.After-tell-arg → tie.After-tally-in
-taken-in c = called c .before .before .before .before .before
+taken-in c = called c .before .before .before .before .before .before .before
 
-in-words : (c : tie.Else1) → Held (c .before .before .before .before .before .before .before .args .tally .now)
+in-words : (c : tie.Else1) → Held (c .before .before .before .before .before .before .before .before .args .tally .now)
 in-words c = held-means _ (c .before .words-refusal .ensures) (c .if1 .left)
 
 words-refusal-requires : tie.Need-words-refusal-requires
@@ -41,16 +41,22 @@ same-length-2 : tie.Need-same-length-2
 same-length-2 c = c .before .tally .given
 
 same-length-3 : tie.Need-same-length-3
-same-length-3 c = c .before .before .before .before .before .before .before .before .before .sums .given
+same-length-3 c = c .before .before .before .before .before .before .before .before .before .before .before .before .sums .given
 
 same-length-4 : tie.Need-same-length-4
-same-length-4 c = c .before .before .before .before .before .before .before .before .numbers .given
+same-length-4 c = c .before .before .before .before .before .before .before .before .before .before .before .numbers .given
 
 same-length-5 : tie.Need-same-length-5
-same-length-5 c = c .before .before .before .before .before .before .homes .given
+same-length-5 c = c .before .before .before .before .before .before .before .before .before .homes .given
 
 same-length-6 : tie.Need-same-length-6
-same-length-6 c = c .before .before .before .before .rows .given
+same-length-6 c = c .before .before .before .before .before .before .before .rows .given
+
+same-length-7 : tie.Need-same-length-7
+same-length-7 c = c .before .before .before .before .before .before .groups .given
+
+same-length-8 : tie.Need-same-length-8
+same-length-8 c = c .before .before .before .before .deviations .given
 
 returns-2 : tie.Need-returns-2
 returns-2 c =
@@ -73,4 +79,6 @@ dullavane-unit-spec =
     same-length-4
     same-length-5
     same-length-6
+    same-length-7
+    same-length-8
     returns-2)

@@ -7,12 +7,12 @@ use Rattle.dullavane.proofs.dullavane_units.Statement.{statement}
 use Rattle.dullavane.proofs.dullavane_units.Tie as tie
 
 abbrev called : tie.After-tell-run-arg → tie.After-run
-called c = c .before .before .before .before .before .before .before
+called c = c .before .before .before .before .before .before .before .before .before .before
 
 abbrev taken-in : tie.After-tell-run-arg → tie.After-tally-in
-taken-in c = called c .before .before .before .before .before
+taken-in c = called c .before .before .before .before .before .before .before
 
-in-words : (c : tie.Else1) → Held (c .before .before .before .before .before .before .before .args .tally .now)
+in-words : (c : tie.Else1) → Held (c .before .before .before .before .before .before .before .before .args .tally .now)
 in-words c = held-means _ (c .before .words-refusal .ensures) (c .if1 .left)
 
 words-refusal-requires : tie.Need-words-refusal-requires
@@ -57,6 +57,12 @@ same-length-5 c = search needs
 same-length-6 : tie.Need-same-length-6
 same-length-6 c = search needs
 
+same-length-7 : tie.Need-same-length-7
+same-length-7 c = search needs
+
+same-length-8 : tie.Need-same-length-8
+same-length-8 c = search needs
+
 returns-2 : tie.Need-returns-2
 returns-2 c =
     let s = c .before .before in
@@ -80,4 +86,6 @@ dullavane-units-spec =
     same-length-4
     same-length-5
     same-length-6
+    same-length-7
+    same-length-8
     returns-2)

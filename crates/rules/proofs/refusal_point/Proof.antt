@@ -18,6 +18,7 @@ use Rattle.rules.specs.declared.Refusal.the-variants.{
   WrongState,
   TooShort,
   AverageTooLow,
+  WrongGroup,
   WrongWeek,
   FrequencyHeader,
   FrequencyDefault,
@@ -35,7 +36,7 @@ use Rattle.rules.proofs.refusal_point.Tie as tie
 
 -- the variants by their place among them
 abbrev others : List ℕ
-others = 0 ∷ 1 ∷ 2 ∷ 3 ∷ 4 ∷ 5 ∷ 6 ∷ 7 ∷ 8 ∷ 9 ∷ 10 ∷ 11 ∷ 12 ∷ 13 ∷ 14 ∷ 16 ∷ 17 ∷ 18 ∷ []
+others = 0 ∷ 1 ∷ 2 ∷ 3 ∷ 4 ∷ 5 ∷ 6 ∷ 7 ∷ 8 ∷ 9 ∷ 10 ∷ 11 ∷ 12 ∷ 13 ∷ 14 ∷ 15 ∷ 17 ∷ 18 ∷ 19 ∷ []
 
 no-point : (r : Refusal) → OneOf others (tagOf the-type r) → 0 ≡ point r
 no-point EndsEarly k = refl
@@ -49,15 +50,16 @@ no-point RequirementField k = refl
 no-point WrongState k = refl
 no-point TooShort k = refl
 no-point AverageTooLow k = refl
+no-point WrongGroup k = refl
 no-point WrongWeek k = refl
 no-point FrequencyHeader k = refl
 no-point FrequencyDefault k = refl
 no-point FrequencyQuality k = refl
-no-point (FrequencyPoint t) k = absurd (miss others 15 tt k)
+no-point (FrequencyPoint t) k = absurd (miss others 16 tt k)
 no-point UnitHeader k = refl
 no-point UnitDefault k = refl
 no-point UnitQuality k = refl
-no-point (UnitReading t) k = absurd (miss others 19 tt k)
+no-point (UnitReading t) k = absurd (miss others 20 tt k)
 
 enum-known-refusal : tie.Need-enum-known-refusal
 enum-known-refusal c = search needs

@@ -5,6 +5,9 @@ use Rattle.intake.specs.Came.{RoomFor}
 use Rattle.settle.proofs.main.Statement.{statement}
 use Rattle.settle.proofs.main.Tie as tie
 
+slice-aggregate-take-book : tie.Need-slice-aggregate-take-book
+slice-aggregate-take-book c = search needs
+
 take-book-requires : tie.Need-take-book-requires
 take-book-requires c κs = search needs
 
@@ -14,7 +17,7 @@ enum-known-next c = search needs
 print-book-requires : tie.Need-print-book-requires
 print-book-requires c κs =
     let n = c .before .before .before .before .before .before .before .before .before .before .before .before .before .before in
-    subst (RoomFor 32) (n .next .given .1) (n .before .before .take-book .ensures .1)
+    subst (RoomFor 32) (n .next .given .1) (n .before .before .before .take-book .ensures .1)
 
 enum-told : tie.Need-enum-told
 enum-told c = search needs
@@ -53,6 +56,7 @@ pub main-spec : {M : Type 1} → statement M
 main-spec =
     tie.close
     (tie.spec
+    slice-aggregate-take-book
     take-book-requires
     enum-known-next
     print-book-requires

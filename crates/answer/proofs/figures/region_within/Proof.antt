@@ -1,9 +1,11 @@
 -- Each branch settles one figure, in their order; the six defaults last.
 use mathlib.Core.Path.{_≡_, sym, _∙_}
 use mathlib.Core.List.{[]}
-use Prim.Native.Nat.{ℕ, _*_}
+use Prim.Native.Nat.{ℕ, _+_, _*_}
+use lib.ListN.{length}
+use native.Mathlib.Omega.{arith}
 use borrow.Author.Needs.{needs, sfits-of}
-use borrow.Author.Tests.{not-true, not-false}
+use borrow.Author.Tests.{le-leb, not-true, not-false}
 use lib.IntN.{ℤ, pos, negℤ}
 use mir.Facts.{toZ-ofZ}
 use Rattle.rules.specs.Quantities.{amount-limit, residual-default-limit}
@@ -11,7 +13,7 @@ use Rattle.interval.specs.Lent.{figures-each}
 use Rattle.kept.specs.Kept.{figure}
 use Rattle.kept.specs.Range.{from-0}
 use Rattle.answer.specs.Asked.{lent-members}
-use Rattle.answer.proofs.Ranges.{six-behind}
+use Rattle.interval.proofs.RangesLaws.{six-behind}
 use Rattle.answer.proofs.figures.region_within.Statement.{statement}
 use Rattle.answer.proofs.figures.region_within.Tie as tie
 
@@ -121,7 +123,9 @@ returns-4 c =
       generation-told (d .before) ∙ not-false _ (d .if1 .left),
       raise-told (e .before) ∙ not-false _ (e .if2 .left),
       lower-told (f .before) ∙ not-false _ (f .if3 .left),
-    ) (c .six-in-range .ensures ∙ six-behind 4 (negℤ (pos residual-default-limit)) (figures-each * a .region) (a .figures .now))
+    )
+    (rw (le-leb (figures-each * a .region + 4 + 6) (length (a .figures .now)) (omega arith)) at (c .six-in-range .ensures)
+    ∙ six-behind 4 (negℤ (pos residual-default-limit)) (figures-each * a .region) (a .figures .now))
 
 pub region-within-spec : {M : Type 1} → statement M
 region-within-spec =

@@ -7,8 +7,8 @@ use borrow.Author.Needs.{needs, sfits-of}
 use lib.IntN.{pos}
 use lib.ListN.{getD}
 use mir.Facts.{toZ-ofZ}
-use Rattle.interval.specs.Lent.{Lent}
-use Rattle.kept.specs.Kept.{in-row, row-member}
+use Rattle.interval.specs.Lent.{Lent, in-row}
+use Rattle.kept.specs.Kept.{row-member}
 use Rattle.answer.specs.Asked.{lent-members}
 use Rattle.answer.specs.Made.{performance-at, defaults-at, field-at, field-of}
 use Rattle.answer.proofs.MadeLaws.{performance-at-≤, defaults-at-≤, field-at-≤, number-is}
@@ -23,15 +23,15 @@ lists s = lent-members (s .args .figures .now) (s .args .homes .now) (s .args .r
 
 number :
     (c : tie.After-goes-live) (t : Bool) → c .goes-live .result ≡ t → let a = start c .args in
-    cond t (in-row (lists (start c)) (a .row) (performance-at (a .direction)))
-    (in-row (lists (start c)) (a .row) (2 + defaults-at (a .direction) + field-at (a .field))) ≡
+    cond t (in-row (a .rows .now) (a .row) (performance-at (a .direction)))
+    (in-row (a .rows .now) (a .row) (2 + defaults-at (a .direction) + field-at (a .field))) ≡
     field-of (a .field) (row-member (lists (start c)) (a .direction) (a .row))
 number c t e =
     let a = start c .args in
-    let l = lists (start c) in
+    let row = in-row (a .rows .now) (a .row) in
     sym
-    (number-is l (a .field) (a .direction) (a .row) ∙ ap
-    (λ (s : Bool). cond s (in-row l (a .row) (performance-at (a .direction))) (in-row l (a .row) (2 + defaults-at (a .direction) + field-at (a .field))))
+    (number-is (lists (start c)) (a .field) (a .direction) (a .row)
+    ∙ ap (λ (s : Bool). cond s (row (performance-at (a .direction))) (row (2 + defaults-at (a .direction) + field-at (a .field))))
     (sym (c .goes-live .ensures) ∙ e))
 
 performs : (c : tie.After-performance-place) → c .performance-place .result ≤ 1

@@ -1,7 +1,6 @@
 -- A row of another region adds nothing, a bad unit one row, a good one its performance too.
 use mathlib.Core.Path.{_≡_, refl, sym, _∙_}
 use mathlib.Core.Bool.{true, false}
-use mathlib.Core.List.{[]}
 use Prim.Native.Nat.{_≤_, _%_}
 use lib.Dec.{eqb}
 use lib.IntN.{+ℤ-idr}
@@ -12,8 +11,7 @@ use mir.Facts.{toZ-ofZ}
 use native.Mathlib.Omega.{arith}
 use borrow.Author.Needs.{needs, sfits-of}
 use borrow.Author.Tests.{eq-eqb, ne-eqb, not-true, not-false}
-use Rattle.kept.specs.Kept.{in-row}
-use Rattle.answer.specs.Asked.{lent-members}
+use Rattle.interval.specs.Lent.{in-row}
 use Rattle.answer.proofs.ResidualLaws.{Fitting, holds-more, few-held, row-joins, added-fits, added-back}
 use Rattle.answer.proofs.residual.with_row.Statement.{statement}
 use Rattle.answer.proofs.residual.with_row.Tie as tie
@@ -29,7 +27,7 @@ met c = c .before .before .before
 
 joins :
     (c : tie.Else2) → let a = start (met c .before) .args in
-    Fitting (a .held .sum) (in-row (lent-members [] (a .homes .now) (a .rows .now)) (a .row) (a .at))
+    Fitting (a .held .sum) (in-row (a .rows .now) (a .row) (a .at))
 joins c =
     let s = start (met c .before) in
     row-joins (s .pre .0) (s .pre .1) (eq-eqb _ _ (met c .if1 .left)) (sym (c .before .is-good .ensures) ∙ not-false _ (c .if2 .left))

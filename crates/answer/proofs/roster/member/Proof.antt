@@ -13,7 +13,7 @@ use Rattle.interval.specs.Tally.{in-range, answer-turn}
 use Rattle.interval.specs.Lent.{Lent, lent-member, of-interval}
 use Rattle.answer.specs.Asked.{no-lists}
 use Rattle.answer.specs.Roster.{member-long, member-reply, row-answer}
-use Rattle.answer.proofs.RosterLaws.{member-long-means, row-told-is}
+use Rattle.answer.proofs.RosterLaws.{member-long-means, row-told-is, set-five}
 use Rattle.answer.proofs.roster.member.Statement.{statement}
 use Rattle.answer.proofs.roster.member.Tie as tie
 
@@ -105,7 +105,10 @@ shared-slice-read-unit-or-other-2 c =
     omega (arith, each-long f .2, there (f .before .before .before))
 
 unit-or-other-requires : tie.Need-unit-or-other-requires
-unit-or-other-requires c κs = each-long (c .before .before .before .before) .0
+unit-or-other-requires c κs =
+    let f = c .before .before .before .before in
+    let e = f .before .before .before in
+    (set-five (S2 e .args .set) (both (set-fine (S2 e .args .set)) _ (asked-well e) .0), each-long f .0)
 
 returns-5 : tie.Need-returns-5
 unfolding member-reply

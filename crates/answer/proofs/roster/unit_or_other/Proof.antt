@@ -1,14 +1,16 @@
--- The home and its region's reliability first, then the set.
+-- The home and its region's reliability first, then the set, which has no region of a row that is passed over.
 use mathlib.Core.Path.{_≡_, sym, _∙_, ap}
 use mathlib.Core.Bool.{true}
-use Prim.Native.Nat.{_<_}
+use Prim.Native.Nat.{_≤_}
 use native.Mathlib.Omega.{arith}
 use borrow.Author.Needs.{needs}
 use borrow.Author.Tests.{not-true, not-false}
 use Rattle.rules.specs.declared.Standing.{Standing}
+use Rattle.interval.specs.Lent.{passed-over}
 use Rattle.answer.specs.declared.Row.the-variants.{Unit}
 use Rattle.answer.specs.Roster.{home-fine}
 use Rattle.answer.proofs.RosterLaws.{home-means}
+use Rattle.answer.proofs.UnitsHeld.{in-a-region}
 use Rattle.answer.proofs.roster.unit_or_other.Statement.{statement}
 use Rattle.answer.proofs.roster.unit_or_other.Tie as tie
 
@@ -18,7 +20,7 @@ S c = c .before .before
 fine : (c : tie.Else1) → home-fine (S c .args .direction) (S c .args .home) (S c .args .figures .now) ≡ true
 fine c = sym (c .before .home-in-range .ensures) ∙ not-false _ (c .if1 .left)
 
-homed : (c : tie.Else1) → S c .args .home < 10
+homed : (c : tie.Else1) → S c .args .home ≤ passed-over
 homed c = home-means (S c .args .direction) (S c .args .home) (S c .args .figures .now) (fine c)
 
 home-in-range-requires : tie.Need-home-in-range-requires
@@ -34,7 +36,10 @@ returns-2 : tie.Need-returns-2
 returns-2 c = rw (fine (c .before .before), sym (c .before .in-set .ensures) ∙ not-true _ (c .if2 .taken))
 
 row-standing-requires : tie.Need-row-standing-requires
-row-standing-requires c κs = (homed (c .before .before), S (c .before .before) .pre)
+row-standing-requires c κs =
+    let g = c .before .before in
+    let s = S g in
+    (in-a-region (s .args .home) (s .args .set) (homed g) (s .pre .0) (sym (c .before .in-set .ensures) ∙ not-false _ (c .if2 .left)), s .pre .1)
 
 returns-3 : tie.Need-returns-3
 returns-3 c =

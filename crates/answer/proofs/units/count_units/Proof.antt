@@ -47,7 +47,7 @@ shared-slice-read-home : tie.Need-shared-slice-read-home Inv-loop μ-loop
 shared-slice-read-home c = omega (arith, c .before .before .before .before .pre .1 .long)
 
 in-set-requires : tie.Need-in-set-requires Inv-loop μ-loop
-in-set-requires c κs = S c .pre .1 .here (L c .loop .row) (omega arith)
+in-set-requires c κs = omega (arith, S c .pre .1 .here (L c .loop .row) (omega arith))
 
 counted-requires : tie.Need-counted-requires Inv-loop μ-loop
 counted-requires c κs = search needs
@@ -62,7 +62,7 @@ add-all c =
     )
 
 bad-in-set-requires : tie.Need-bad-in-set-requires Inv-loop μ-loop
-bad-in-set-requires c κs = S (c .before .before) .pre .1 .here (L (c .before .before) .loop .row) (omega arith)
+bad-in-set-requires c κs = omega (arith, S (c .before .before) .pre .1 .here (L (c .before .before) .loop .row) (omega arith))
 
 counted-requires-2 : tie.Need-counted-requires-2 Inv-loop μ-loop
 counted-requires-2 c κs = search needs

@@ -24,7 +24,7 @@ small : (c : tie.After-put-rows) → c .put-rows .result ≤ 512
 small c = omega (arith, c .put-rows .ensures .few, start c .pre .tested .regions .raise .few)
 
 put-rows-requires : tie.Need-put-rows-requires
-put-rows-requires c κs = let h = c .before .before .pre in (h .column, h .tested .rows)
+put-rows-requires c κs = let h = c .before .before .pre in (h .five, h .column, h .tested .rows)
 
 value-requires : tie.Need-value-requires
 value-requires c κs = search needs

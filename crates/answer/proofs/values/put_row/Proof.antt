@@ -1,10 +1,11 @@
--- A row of another region leaves all as it is; else its number is stored.
+-- A row of another region, or that is passed over, leaves all as it is; else its number is stored.
 use mathlib.Core.Path.{sym, _∙_, ap}
 use borrow.Author.Needs.{needs, sfits-of}
 use borrow.Author.Tests.{not-true, not-false}
 use lib.IntN.{ℤ}
-use lib.ListN.{set}
+use lib.ListN.{getD, set}
 use mir.Facts.{toZ-ofZ}
+use Rattle.answer.proofs.UnitsHeld.{in-a-region}
 use Rattle.answer.proofs.values.put_row.Statement.{statement}
 use Rattle.answer.proofs.values.put_row.Tie as tie
 
@@ -18,7 +19,11 @@ returns : tie.Need-returns
 returns c = let e = sym (c .before .in-set .ensures) ∙ not-true _ (c .if1 .taken) in record { many = rw e; put = rw e }
 
 row-value-requires : tie.Need-row-value-requires
-row-value-requires c κs = search needs
+row-value-requires c κs =
+    let s = c .before .before .before .before in
+    let home = getD (s .args .homes .now) (s .args .row) 0 in
+    let h = s .pre .2 in
+    (in-a-region home (s .args .set) (h .home) (s .pre .0) (sym (c .before .in-set .ensures) ∙ not-false _ (c .if1 .left)), h)
 
 mul-t15 : tie.Need-mul-t15
 mul-t15 c = search needs

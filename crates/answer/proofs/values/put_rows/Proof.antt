@@ -31,7 +31,8 @@ loop-holds c =
 put-row-requires : tie.Need-put-row-requires Inv-loop μ-loop
 put-row-requires c κs =
     let l = c .before .before in
-    (omega (arith, l .loop .inv .1 .few, same-long l), l .before .before .pre .1 .there (l .loop .row) (omega arith))
+    let s = l .before .before in
+    (s .pre .0, omega (arith, l .loop .inv .1 .few, same-long l), s .pre .2 .there (l .loop .row) (omega arith))
 
 add-row : tie.Need-add-row Inv-loop μ-loop
 add-row c = omega arith

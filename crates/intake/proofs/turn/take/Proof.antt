@@ -29,8 +29,9 @@ same-length-3 c = search needs
 returns-2 : tie.Need-returns-2
 returns-2 c =
     let f = c .before .before .before in
-    let a = f .before .before .before .before .before .before .before .before .before .before .before .args in
-    TurnPromise.as-frequency (omega arith) (omega arith) (f .frequency .ensures (lent-unit [] [] [] (a .numbers .now) (a .homes .now) (a .rows .now)))
+    let a = f .before .before .before .before .before .before .before .before .before .before .before .before .args in
+    TurnPromise.as-frequency (omega arith) (omega arith) (f .frequency .ensures (lent-unit [] [] [] (a .numbers .now) (a .homes .now) (a .rows .now)
+    (a .groups .now) (a .deviations .now)))
 
 unit-requires : tie.Need-unit-requires
 unit-requires c κs = search needs
@@ -53,8 +54,14 @@ same-length-8 c = search needs
 same-length-9 : tie.Need-same-length-9
 same-length-9 c = search needs
 
+same-length-10 : tie.Need-same-length-10
+same-length-10 c = search needs
+
+same-length-11 : tie.Need-same-length-11
+same-length-11 c = search needs
+
 returns-3 : tie.Need-returns-3
-returns-3 c = TurnPromise.as-unit (omega arith) (omega arith) (c .before .before .before .before .before .before .unit .ensures)
+returns-3 c = TurnPromise.as-unit (omega arith) (omega arith) (c .before .before .before .before .before .before .before .before .before .unit .ensures)
 
 requirement-requires : tie.Need-requirement-requires
 requirement-requires c κs = search needs
@@ -80,6 +87,8 @@ take-spec =
     same-length-7
     same-length-8
     same-length-9
+    same-length-10
+    same-length-11
     returns-3
     requirement-requires
     returns-4)

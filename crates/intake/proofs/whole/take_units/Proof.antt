@@ -13,23 +13,27 @@ use Rattle.intake.proofs.whole.take_units.Statement.{statement}
 use Rattle.intake.proofs.whole.take_units.Tie as tie
 
 abbrev Inv-loop : tie.InvT-loop
-Inv-loop file bytes₀ measures₀ sums₀ figures₀ numbers₀ homes₀ rows₀ tally₀ left₀ bytes
-    measures sums figures numbers homes rows tally left =
+Inv-loop file bytes₀ measures₀ sums₀ figures₀ numbers₀ homes₀ rows₀ groups₀ deviations₀ tally₀ left₀ bytes
+    measures sums figures numbers homes rows groups deviations tally left =
     (length bytes ≡ length bytes₀)
-    × Came (lent-unit measures₀ sums₀ figures₀ numbers₀ homes₀ rows₀) (tally .records) tally (lent-unit measures sums figures numbers homes rows)
+    × Came (lent-unit measures₀ sums₀ figures₀ numbers₀ homes₀ rows₀ groups₀ deviations₀) (tally .records) tally
+    (lent-unit measures sums figures numbers homes rows groups deviations)
     × (tally .records + left ≡ units-end tally)
+    × (length deviations ≡ length deviations₀)
 
 abbrev μ-loop : tie.MeasureT-loop
-μ-loop file bytes₀ measures₀ sums₀ figures₀ numbers₀ homes₀ rows₀ tally₀ left₀ bytes measures
-    sums figures numbers homes rows tally left =
+μ-loop file bytes₀ measures₀ sums₀ figures₀ numbers₀ homes₀ rows₀ groups₀ deviations₀ tally₀ left₀ bytes measures
+    sums figures numbers homes rows groups deviations tally left =
     left
 
 abbrev lent : tie.Start Inv-loop μ-loop → Lent
-lent s = let a = s .args in lent-unit (a .measures .now) (a .sums .now) (a .figures .now) (a .numbers .now) (a .homes .now) (a .rows .now)
+lent s =
+    let a = s .args in
+    lent-unit (a .measures .now) (a .sums .now) (a .figures .now) (a .numbers .now) (a .homes .now) (a .rows .now) (a .groups .now) (a .deviations .now)
 
 -- the call's start, behind which the bytes are as the reading left them
 abbrev asked-in : tie.After-take Inv-loop μ-loop → tie.After-slice-known3 Inv-loop μ-loop
-asked-in c = c .before .before .before .before .before .before .before .before .before .before
+asked-in c = c .before .before .before .before .before .before .before .before .before .before .before .before
 
 abbrev turn : tie.After-take Inv-loop μ-loop → tie.In-loop Inv-loop μ-loop
 turn c = asked-in c .before .before .before .before .before
@@ -68,7 +72,7 @@ loop-holds c =
     let a = o .before .before .before .before in
     let l = lent (a .before .before .before) in
     let came = subst (λ (x : Next). TakenTo (λ _. 0) l x l) (o .opened .given .1) (a .open .ensures l) in
-    (omega arith, came-here came, omega (arith, came-records came))
+    (omega arith, came-here came, omega (arith, came-records came), omega arith)
 
 size-requires : tie.Need-size-requires Inv-loop μ-loop
 size-requires c κs = search needs
@@ -88,6 +92,9 @@ fill-from-requires c κs = search needs
 same-length-2 : tie.Need-same-length-2 Inv-loop μ-loop
 same-length-2 c = omega arith
 
+same-length-3 : tie.Need-same-length-3 Inv-loop μ-loop
+same-length-3 c = omega (arith, c .before .before .before .before .before .before .before .loop .inv .3)
+
 returns-2 : tie.Need-returns-2 Inv-loop μ-loop
 returns-2 c = search needs
 
@@ -106,30 +113,35 @@ take-requires c κs = search needs
 enum-known-taking : tie.Need-enum-known-taking Inv-loop μ-loop
 enum-known-taking c = search needs
 
-same-length-3 : tie.Need-same-length-3 Inv-loop μ-loop
-same-length-3 c =
-    let a = asked-in (c .before .before .before) in
+same-length-4 : tie.Need-same-length-4 Inv-loop μ-loop
+same-length-4 c =
+    let a = asked-in (c .before .before .before .before) in
     let l = a .before .before .before .before .before .before in
     let o = l .before .before .before .before .before .before .before in
     omega (arith, a .before .bytes2 .given, a .before .before .fill-from .kept, l .loop .inv .0, o .open .kept)
 
+same-length-5 : tie.Need-same-length-5 Inv-loop μ-loop
+same-length-5 c =
+    let t = c .before .before .before .before in
+    omega (arith, c .before .before .before .deviations .given, t .take .kept, turn t .before .loop .inv .3)
+
 returns-3 : tie.Need-returns-3 Inv-loop μ-loop
 returns-3 c =
-    let a = c .before .before .before in
+    let a = c .before .before .before .before in
     came-stops (turn a .before .loop .inv .1) (inside a) (a .take .ensures) (c .before .taking .given .1)
 
 enum-told : tie.Need-enum-told Inv-loop μ-loop
 enum-told c = search needs
 
 sub-left : tie.Need-sub-left Inv-loop μ-loop
-sub-left c = omega (arith, asked-in (c .before .before .before) .before .before .before .before .before .loop-test .taken)
+sub-left c = omega (arith, asked-in (c .before .before .before .before) .before .before .before .before .before .loop-test .taken)
 
 loop-less : tie.Need-loop-less Inv-loop μ-loop
-loop-less c = omega (arith, asked-in (c .before .before .before) .before .before .before .before .before .loop-test .taken)
+loop-less c = omega (arith, asked-in (c .before .before .before .before) .before .before .before .before .before .loop-test .taken)
 
 loop-again : tie.Need-loop-again Inv-loop μ-loop
 loop-again c =
-    let t = c .before .before .before in
+    let t = c .before .before .before .before in
     let a = asked-in t in
     let l = turn t in
     let i = l .before .loop .inv in
@@ -138,17 +150,22 @@ loop-again c =
       omega (arith, a .before .bytes2 .given, a .before .before .fill-from .kept, i .0),
       more .0,
       omega (arith, m .records, m .units, i .2, l .loop-test .taken),
+      omega (arith, t .take .kept, i .3),
     )
 
-same-length-4 : tie.Need-same-length-4 Inv-loop μ-loop
-same-length-4 c = omega arith
+same-length-6 : tie.Need-same-length-6 Inv-loop μ-loop
+same-length-6 c = omega arith
+
+same-length-7 : tie.Need-same-length-7 Inv-loop μ-loop
+same-length-7 c = omega (arith, c .before .loop .inv .3)
 
 returns-4 : tie.Need-returns-4 Inv-loop μ-loop
 returns-4 c =
     let l = c .before .loop in
     let all : l .tally .records ≡ units-end (l .tally) = omega (arith, l .inv .2, c .loop-test .left) in
     let l₀ = lent (c .before .before .before .before .before .before .before .before .before .before .before) in
-    subst (λ (k : ℕ). Came l₀ k (l .tally) (lent-unit (l .measures) (l .sums) (l .figures) (l .numbers) (l .homes) (l .rows))) all (l .inv .1)
+    subst (λ (k : ℕ). Came l₀ k (l .tally) (lent-unit (l .measures) (l .sums) (l .figures) (l .numbers) (l .homes) (l .rows) (l .groups)
+    (l .deviations))) all (l .inv .1)
 
 pub take-units-spec : {M : Type 1} → statement M
 take-units-spec =
@@ -170,17 +187,20 @@ take-units-spec =
     part-fill-from-end
     fill-from-requires
     same-length-2
+    same-length-3
     returns-2
     sub-take
     part-take-start
     part-take-end
     take-requires
     enum-known-taking
-    same-length-3
+    same-length-4
+    same-length-5
     returns-3
     enum-told
     sub-left
     loop-less
     loop-again
-    same-length-4
+    same-length-6
+    same-length-7
     returns-4)

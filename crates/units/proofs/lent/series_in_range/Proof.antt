@@ -22,17 +22,20 @@ returns-2 c =
 mul-most : tie.Need-mul-most
 mul-most c = search needs
 
-mul-each-sum-within : tie.Need-mul-each-sum-within
-mul-each-sum-within c = search needs
+mul-each-within : tie.Need-mul-each-within
+mul-each-within c = search needs
 
-each-sum-within-requires : tie.Need-each-sum-within-requires
-each-sum-within-requires c κs = search needs
+cast-each-within : tie.Need-cast-each-within
+cast-each-within c = search needs
+
+each-within-requires : tie.Need-each-within-requires
+each-within-requires c κs = search needs
 
 returns-3 : tie.Need-returns-3
 returns-3 c =
     let e = c .before in
     let m = e .before in
-    rw (lt-ltb _ _ (m .before .if1 .left), sym (m .each-measure-within .ensures) ∙ not-false _ (e .if2 .left)) (c .each-sum-within .ensures)
+    rw (lt-ltb _ _ (m .before .if1 .left), sym (m .each-measure-within .ensures) ∙ not-false _ (e .if2 .left)) (c .each-within .ensures)
 
 pub series-in-range-spec : {M : Type 1} → statement M
 series-in-range-spec =
@@ -43,6 +46,7 @@ series-in-range-spec =
     each-measure-within-requires
     returns-2
     mul-most
-    mul-each-sum-within
-    each-sum-within-requires
+    mul-each-within
+    cast-each-within
+    each-within-requires
     returns-3)

@@ -6,10 +6,10 @@ use Rattle.week.proofs.replay.add_weeks.Statement.{statement}
 use Rattle.week.proofs.replay.add_weeks.Tie as tie
 
 abbrev Inv-loop : tie.InvT-loop
-Inv-loop from to books units numbers names done live lives₀ highs₀ lows₀ at₀ lives highs lows at = at ≤ to + at
+Inv-loop from to books units numbers homes names done live lives₀ highs₀ lows₀ at₀ lives highs lows at = at ≤ to + at
 
 abbrev μ-loop : tie.MeasureT-loop
-μ-loop from to books units numbers names done live lives₀ highs₀ lows₀ at₀ lives highs lows at = to - at
+μ-loop from to books units numbers homes names done live lives₀ highs₀ lows₀ at₀ lives highs lows at = to - at
 
 loop-holds : tie.Need-loop-holds Inv-loop μ-loop
 loop-holds c = omega arith

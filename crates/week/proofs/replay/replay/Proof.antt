@@ -6,14 +6,14 @@ use Rattle.week.proofs.replay.replay.Statement.{statement}
 use Rattle.week.proofs.replay.replay.Tie as tie
 
 abbrev Inv-loop : tie.InvT-loop
-Inv-loop bytes₀ measures₀ sums₀ figures₀ numbers₀ homes₀ rows₀ names₀ lives₀ highs₀
-    lows₀ members₀ books₀ bytes measures sums figures numbers homes rows names lives highs
+Inv-loop bytes₀ measures₀ sums₀ figures₀ numbers₀ homes₀ rows₀ groups₀ deviations₀ names₀ lives₀ highs₀
+    lows₀ members₀ books₀ bytes measures sums figures numbers homes rows groups deviations names lives highs
     lows members books =
     (members ≤ 512) × (books ≤ 2_016)
 
 abbrev μ-loop : tie.MeasureT-loop
-μ-loop bytes₀ measures₀ sums₀ figures₀ numbers₀ homes₀ rows₀ names₀ lives₀ highs₀ lows₀
-    members₀ books₀ bytes measures sums figures numbers homes rows names lives highs lows
+μ-loop bytes₀ measures₀ sums₀ figures₀ numbers₀ homes₀ rows₀ groups₀ deviations₀ names₀ lives₀ highs₀ lows₀
+    members₀ books₀ bytes measures sums figures numbers homes rows groups deviations names lives highs lows
     members books =
     2_016 - books
 
