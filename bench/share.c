@@ -81,8 +81,8 @@ static uint64_t next(void) {
 
 /* Weights against a cut. A total of half the members is so small that the remainders are the weights times the total, and half of them get one more.
    distances: on either side of a middle weight, growing geometrically.
-   digits: nearly all alike, and one apart for every seven bits, so that a cut by digits loses one a pass.
-   hard SEED: alike but for some, apart by powers of 2 that are drawn, one for every seven bits or more; the total is drawn too. */
+   digits: nearly all alike, and one apart for every six bits, so that a cut by digits loses one a pass.
+   hard SEED: alike but for some, apart by powers of 2 that are drawn, one for every six bits or more; the total is drawn too. */
 static uint64_t against(const char *shape, size_t n, uint64_t *w) {
     uint64_t middle = WEIGHT_LIMIT / n / 8 * 7;
     unsigned bits = 0;
@@ -97,15 +97,15 @@ static uint64_t against(const char *shape, size_t n, uint64_t *w) {
         return n / 2;
     }
     if (!strcmp(shape, "digits")) {
-        for (size_t i = 0; i < n && 7 * i <= bits; i++) w[i] -= 1ull << (bits - 7 * i);
+        for (size_t i = 0; i < n && 6 * i <= bits; i++) w[i] -= 1ull << (bits - 6 * i);
         return n / 2;
     }
     state ^= strtoull(shape + 4, 0, 10) * 0x9e3779b97f4a7c15ull;
     for (int i = 0; i < 20; i++) next();
     uint64_t turn = next() % 4, few = 1 + next() % 4, total = turn == 0 ? n / 2 : turn == 1 ? (n / 2) | 1 : turn == 2 ? 1 + next() % n : 1 + next() % (1ull << next() % 40);
-    for (unsigned low = 0; low <= bits; low += 7) {
+    for (unsigned low = 0; low <= bits; low += 6) {
         for (uint64_t i = 0; i < few; i++) {
-            uint64_t apart = 1ull << (low + next() % 7);
+            uint64_t apart = 1ull << (low + next() % 6);
             if (apart < middle) w[next() % n] = next() % 4 ? middle - apart : middle + apart / 2;
         }
     }
@@ -121,7 +121,7 @@ static uint64_t ties(const char *shape, size_t n, uint64_t *w) {
     if (seed) g = (1ull << (16 + next() % 22)) + next() % 5;
     uint64_t base = seed ? g / n / 4 : 0;
     for (size_t i = 0; i < n; i++) w[i] = seed ? base : i % 2;
-    for (uint64_t apart = 1; apart <= base; apart <<= 1 + next() % 7) w[next() % n] = next() % 4 ? base - apart : base + apart / 2;
+    for (uint64_t apart = 1; apart <= base; apart <<= 1 + next() % 6) w[next() % n] = next() % 4 ? base - apart : base + apart / 2;
     for (size_t i = 0; i < n; i++) all += w[i];
     uint64_t d = WEIGHT_LIMIT / g / n, times = 1;
     while (g * times < TOTAL_LIMIT / 2 && (times % n * ((g - all) % n) % n < n / 3 || times % n * ((g - all) % n) % n > n / 3 * 2)) times++;
