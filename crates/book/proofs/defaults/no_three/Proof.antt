@@ -9,10 +9,8 @@ use lib.IntN.{ℤ, pos, negsuc, natAbs}
 use mir.Syntax.{w64}
 use mir.Val.{SFits, ofZ}
 use Rattle.rules.specs.Groups.{none}
-use mathlib.Core.Path.{_≡_}
-use lib.IntN.{ℤ, pos, natAbs}
-use Rattle.units.proofs.group.no_three.Statement.{statement}
-use Rattle.units.proofs.group.no_three.Tie as tie
+use Rattle.book.proofs.defaults.no_three.Statement.{statement}
+use Rattle.book.proofs.defaults.no_three.Tie as tie
 
 told : (x : ℤ) → SFits w64 x → eqb (ofZ w64 x) 0 ≡ none x
 told (pos n) f = refl
