@@ -2,8 +2,8 @@
 use Prim.Native.Nat.{_≤_, _-_}
 use lib.ListN.{length}
 use borrow.Author.Needs.{needs}
-use Rattle.sheet.proofs.words.word_in.Statement.{statement}
-use Rattle.sheet.proofs.words.word_in.Tie as tie
+use Rattle.sheet.proofs.books.word_in.Statement.{statement}
+use Rattle.sheet.proofs.books.word_in.Tie as tie
 
 abbrev Inv-loop : tie.InvT-loop
 Inv-loop text word₀ i₀ word i =
