@@ -58,7 +58,7 @@
        74  a point of a frequency record (t): out of range, or a bad point that does not hold 0
        81  a unit's header: region, kind, start or end
        82  a default of a unit
-       83  the quality bytes of a unit: one of the last five bits is not zero
+       83  the quality bytes of a unit: one of the last five bits is not zero; of dullavane_write also a group over 65,535 or below 0
        84  a reading of a unit (t): out of range, or a bad reading that does not hold 0
         9  a unit's number does not rise
        16  a unit's group: its number stood before and was left, or it is in another region than the group's units before, or one of its six defaults is
@@ -117,6 +117,20 @@
    of: payment defaults where they stand in. It needs no tally. Unlike other lists, these two are taken at their exact lengths. What an answer leaves in the
    columns performances and factors, as many numbers as it tells members, is always possible.
 
+   WRITING A BOOK. dullavane_write takes a book's values and writes its bytes, or refuses and writes nothing. It needs no tally. The settings are four numbers, by
+   value; everything else is lent: a row of int64_t a record for its small fields, one row behind the other, and lists of the field's own type for the long ones.
+   Lists may be longer than the counts ask.
+       region_rows        5 x 9 int64_t      a region's number is its position and is not handed in
+       region_qualities   5 x 10 uint8_t     quality bytes as they stand in the book
+       frequencies        5 x 75 uint32_t    a bad point is 0
+       unit_rows          N x 12 int64_t
+       unit_qualities     N x 10 uint8_t
+       readings           N x 75 int32_t     a bad reading is 0
+       requirement_rows   M x 7 int64_t
+       book               DULLAVANE_BOOK_SIZE(N, M) uint8_t, written; bytes past the book stay
+   A number that does not fit its field's width breaks that field's rule: a unit number over 65,535 is 9, a group over 65,535 is 83, an interval number past 32
+   bits is 6. What is written is taken by the calls above as exactly what was handed in.
+
    What is proved of each call, for any bytes, words and lists whatever: its return value and every lent number after it are those of the
    definitions that document 01 is written out in. What is outside the proof: this header, the caller, and the compiler's back end. */
 #ifndef DULLAVANE_H
@@ -147,7 +161,11 @@ enum {
     DULLAVANE_MOST_INTERVALS = 2016,
     DULLAVANE_WEEK_WORDS = 2,
     DULLAVANE_MOST_MEMBERS = 513,
-    DULLAVANE_VERDICT_WORDS = 2
+    DULLAVANE_VERDICT_WORDS = 2,
+    DULLAVANE_QUALITY_BYTES = 10,
+    DULLAVANE_REGION_ROW = 9,
+    DULLAVANE_UNIT_ROW = 12,
+    DULLAVANE_REQUIREMENT_ROW = 7
 };
 
 /* The words of an answer, in their order: how many members the requirement has, its RCR, the three pools, what of the used and of the unused pool is
@@ -184,6 +202,36 @@ enum { DULLAVANE_A_RESIDUAL, DULLAVANE_UNIT };
 
 /* The numbers of a week's answer: how many intervals are live, and the default, which is at most 0. */
 enum { DULLAVANE_COUNT, DULLAVANE_DEFAULT, DULLAVANE_DEFAULT_NUMBERS };
+
+/* The columns of a region's row to be written: separation, FM before the interval, generation, and the first of six defaults (payment, used, unused for raise, then for
+   lower). */
+enum { DULLAVANE_REGION_SEPARATION, DULLAVANE_REGION_FM_BEFORE, DULLAVANE_REGION_GENERATION, DULLAVANE_REGION_DEFAULTS };
+
+/* The columns of a unit's row; the last name is the first of six defaults. */
+enum {
+    DULLAVANE_UNIT_NUMBER,
+    DULLAVANE_UNIT_REGION,
+    DULLAVANE_UNIT_KIND,
+    DULLAVANE_UNIT_START,
+    DULLAVANE_UNIT_END,
+    DULLAVANE_UNIT_GROUP,
+    DULLAVANE_UNIT_DEFAULTS
+};
+
+/* The columns of a requirement's row. */
+enum {
+    DULLAVANE_REQUIREMENT_NUMBER,
+    DULLAVANE_REQUIREMENT_SET,
+    DULLAVANE_REQUIREMENT_DIRECTION,
+    DULLAVANE_REQUIREMENT_PRICE,
+    DULLAVANE_REQUIREMENT_COST,
+    DULLAVANE_REQUIREMENT_ENABLED,
+    DULLAVANE_REQUIREMENT_USED
+};
+
+/* The size of a book of so many units and requirements, and the length that dullavane_write replies where it has written one. */
+#define DULLAVANE_BOOK_SIZE(units, requirements) (UINT64_C(1904) + UINT64_C(372) * (units) + UINT64_C(24) * (requirements))
+#define DULLAVANE_LENGTH(reply) ((uint32_t)((uint64_t)(reply) >> 32))
 
 /* A refusal's number, and where it is: the place of its record in its body, and t of its point or reading, each 0 where there is none. */
 #define DULLAVANE_REFUSAL(reply) ((uint32_t)((uint64_t)(reply) & UINT64_C(0xffffffff)))
@@ -275,6 +323,19 @@ uint32_t dullavane_week_read(uint16_t whose, const uint64_t *week, uint64_t week
    number), 5 (a side's absolute total over 6,010,000,000,000,000,000). */
 uint32_t dullavane_sheet(const int64_t *performances, uint64_t performances_length, const int64_t *factors, uint64_t factors_length, uint64_t *verdict,
                          uint64_t verdict_length);
+
+/* Writes a book of so many units and requirements from its values. Returns in bits 0 to 31 the refusal's number, 0 where the book is written, and then in bits 32 to
+   63 its length (DULLAVANE_REFUSAL, DULLAVANE_LENGTH); a refusal has its place and t as in the calls that take a book, 12 and 5 have place 0. Everything is
+   tested before the first byte is written. Refuses 12 by the counts as given (the buffer is shorter than DULLAVANE_BOOK_SIZE, or a list shorter than its count
+   asks), 5 (more than 512 units, no requirement or more than 32), then in the order of the book: 6; of each region 71 (separation), 73, 71 (FM before,
+   generation), 72, 74; of each unit 81, 82, 83, 84, 9, 16; of each requirement 10. */
+uint64_t dullavane_write(int64_t smoothing, int64_t limit, int64_t percent, int64_t interval,
+                         const int64_t *region_rows, uint64_t region_rows_length, const uint8_t *region_qualities, uint64_t region_qualities_length,
+                         const uint32_t *frequencies, uint64_t frequencies_length,
+                         uint32_t units, const int64_t *unit_rows, uint64_t unit_rows_length, const uint8_t *unit_qualities, uint64_t unit_qualities_length,
+                         const int32_t *readings, uint64_t readings_length,
+                         uint32_t requirements, const int64_t *requirement_rows, uint64_t requirement_rows_length,
+                         uint8_t *book, uint64_t book_bytes);
 
 #ifdef __cplusplus
 }

@@ -5,6 +5,7 @@
 //! The modules stand in the order of document 01.
 
 pub mod quantities;
+pub mod limits;
 pub mod book;
 pub mod measure;
 pub mod dropped;
@@ -21,6 +22,8 @@ pub mod week;
 pub mod replay;
 pub mod sheet;
 pub mod sheet_text;
+pub mod writer;
+pub mod book_text;
 
 pub mod invariants;
 pub mod rules;
@@ -48,3 +51,6 @@ pub mod week_script;
 pub mod week_books;
 pub mod sheet_script;
 pub mod sheet_trials;
+pub mod writer_fields;
+pub mod writer_script;
+pub mod writer_trials;

@@ -93,7 +93,7 @@ fn draw_no_number(chance: &mut Chance) -> Vec<u8> {
 }
 
 /// A number, with leading zeros now and then, and a minus before 0.
-fn word_of(chance: &mut Chance, number: i128) -> String {
+pub(crate) fn word_of(chance: &mut Chance, number: i128) -> String {
     let minus = number < 0 || number == 0 && chance.one_in(2);
     let zeros = if chance.one_in(4) { chance.pick(&[1, 2, 18, 40]) } else { 0 };
     format!("{}{}{}", if minus { "-" } else { "" }, "0".repeat(zeros), number.abs())

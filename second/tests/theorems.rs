@@ -18,6 +18,7 @@ use second::share::{share, share_earlier_first};
 use second::sweep::put;
 use second::worked;
 use second::write::{base_book, base_requirement, base_unit, to_bytes};
+use second::writer::{self, Given, Lent};
 
 fn top() -> PathBuf {
     Path::new(env!("CARGO_MANIFEST_DIR")).join("..")
@@ -570,8 +571,10 @@ fn third_numbers_are_refused_so() {
         let [body, _count, _place, _least, rest @ ..] = &all[at..] else { continue };
         // The units before, of which there is none.
         let rest = if body == "unit-body" && rest[0] == "[]" { &rest[1..] } else { rest };
-        let [_, concat, _, map, _kind, rest @ ..] = rest else { continue };
-        if !body.ends_with("-body") || concat != "concat" || map != "map" {
+        let [_, of, rest @ ..] = rest else { continue };
+        if ![("unit-body", "units"), ("requirement-body", "requirements")]
+            .contains(&(body.as_str(), of.as_str()))
+        {
             continue;
         }
         let end = rest.iter().position(|word| word == "[]").expect("the end of the numbers");
@@ -706,4 +709,169 @@ fn refused_books_are_refused_so() {
         }
     }
     assert_eq!(seen, 19);
+}
+
+/// What the writer's tables change: the paper's values with a third unit and a second requirement.
+fn handed_in() -> Given {
+    let mut book = worked::listing_book();
+    book.units.push(base_unit(3, 1));
+    book.requirements.push(base_requirement(2, 2, Direction::Lower));
+    writer::values_of(&book)
+}
+
+fn told_by_the_writer(given: &Given) -> Told {
+    let told = |refusal: Refusal| [i128::from(refusal.number), refusal.place as i128, refusal.t as i128];
+    writer::write(given).err().map_or([0; 3], told)
+}
+
+/// A value put among those that are handed in, as `setting 3 ( below 1 )` or `unit 3 1 ( pos 5 )`, and the words behind it.
+fn put_in<'a>(given: &mut Given, all: &'a [String]) -> &'a [String] {
+    const KINDS: [(&str, usize); 7] = [
+        ("region", writer::REGION_ROW),
+        ("region-byte", writer::QUALITY_BYTES),
+        ("frequency", POINTS),
+        ("unit", writer::UNIT_ROW),
+        ("unit-byte", writer::QUALITY_BYTES),
+        ("reading", POINTS),
+        ("requirement", writer::REQUIREMENT_ROW),
+    ];
+    let value = |sign: &str, size: &str| if sign == "below" { -number(size) } else { number(size) };
+    match all {
+        [kind, place, _, sign, size, _, rest @ ..] if kind == "setting" => {
+            given.settings[number(place) as usize] = value(sign, size);
+            rest
+        }
+        [kind, place, column, _, sign, size, _, rest @ ..] => {
+            let list = KINDS.iter().position(|(name, _)| name == kind).expect("a list");
+            let first = usize::from(["frequency", "reading"].contains(&kind.as_str()));
+            let at = KINDS[list].1 * (number(place) as usize - 1) + number(column) as usize - first;
+            given.lists[list].numbers[at] = value(sign, size);
+            rest
+        }
+        _ => panic!("nothing is put: {:?}", all.first()),
+    }
+}
+
+/// What the values with the puts of a list, up to its end, are; and the words behind it.
+fn with_all(mut all: &[String]) -> (Given, &[String]) {
+    let mut given = handed_in();
+    loop {
+        match all {
+            [open, rest @ ..] if open == "(" || open == "∷" => all = rest,
+            [end, rest @ ..] if end == "[]" => return (given, rest),
+            _ => all = put_in(&mut given, all),
+        }
+    }
+}
+
+/// The values of each put of a list alone; of each list of puts.
+fn each_alone(mut all: &[String]) -> (Vec<Given>, &[String]) {
+    let mut each = Vec::new();
+    loop {
+        match all {
+            [open, rest @ ..] if open == "(" || open == "∷" => all = rest,
+            [end, _, rest @ ..] if end == "[]" => return (each, rest),
+            _ => {
+                let mut given = handed_in();
+                all = put_in(&mut given, all);
+                each.push(given);
+            }
+        }
+    }
+}
+
+fn each_list(mut all: &[String]) -> (Vec<Given>, &[String]) {
+    let mut each = Vec::new();
+    while all[0] != "[]" || all[1] != ")" {
+        match &all[..2] {
+            [open, _] if open == "(" && each.is_empty() && all[1] == "(" => all = &all[1..],
+            [link, _] if link == "∷" => all = &all[1..],
+            [open, _] => {
+                let (given, rest) = with_all(all);
+                all = if open == "(" { &rest[1..] } else { rest };
+                each.push(given);
+            }
+            _ => panic!("a list that does not end"),
+        }
+    }
+    (each, &all[2..])
+}
+
+#[test]
+fn values_are_refused_by_the_writer_so() {
+    let mut seen = 0;
+    for module in ["WriterRefusals", "WriterUnits"] {
+        for (name, statement) in declarations(&theorems("refused", module)) {
+            let all = words(&statement);
+            let (given, expected) = match all[0].as_str() {
+                "PutAlone" => {
+                    let (expected, rest) = no(&all[1..]);
+                    let given = each_alone(rest).0;
+                    let same = vec![expected; given.len()];
+                    (given, same)
+                }
+                "PutEach" => {
+                    let (given, rest) = each_alone(&all[1..]);
+                    (given, refusals(rest))
+                }
+                "PutTogether" => {
+                    let (given, rest) = each_list(&all[1..]);
+                    (given, refusals(rest))
+                }
+                _ => continue,
+            };
+            let told: Vec<Told> = given.iter().map(told_by_the_writer).collect();
+            assert_eq!(told, expected, "{module} {name}");
+            seen += told.len();
+        }
+    }
+    assert!(seen > 70, "{seen} seen");
+}
+
+/// Zeros in lists that are long enough for so many units and requirements, as `counted 513 2 512 2`.
+fn counted(all: &[String]) -> Given {
+    let [units, requirements, long_for, long_for_requirements] = [0, 1, 2, 3].map(|at| number(&all[at]));
+    let mut given = Given { units, requirements, ..handed_in() };
+    let needed = writer::needed(long_for, long_for_requirements);
+    for list in [writer::UNIT_ROWS, writer::UNIT_QUALITY, writer::READINGS, writer::REQUIREMENT_ROWS] {
+        given.lists[list] = Lent::of(vec![0; needed[list] as usize]);
+    }
+    given
+}
+
+/// The lists cut to so many numbers, as `cut 45 50 375 36 30 225 13`.
+fn cut(all: &[String]) -> Given {
+    let mut given = handed_in();
+    for (list, length) in given.lists.iter_mut().zip(all) {
+        list.numbers.truncate(number(length) as usize);
+        list.length = list.numbers.len() as i128;
+    }
+    given
+}
+
+#[test]
+fn counts_are_refused_by_the_writer_so() {
+    let mut seen = 0;
+    for (name, statement) in declarations(&theorems("refused", "WriterRefusals")) {
+        let all = words(&statement);
+        let told: Vec<Told> = (0..all.len())
+            .filter_map(|at| match all[at].as_str() {
+                "counted" => Some(Given { room: number(&all[at + 6]), ..counted(&all[at + 1..]) }),
+                "cut" => Some(cut(&all[at + 1..])),
+                _ => None,
+            })
+            .map(|given| told_by_the_writer(&given))
+            .collect();
+        if told.is_empty() {
+            continue;
+        }
+        let same = all.iter().position(|word| word == "≡").expect("what it is") + 1;
+        let expected = match all[same].as_str() {
+            "replicate" => vec![no(&all[same + 2..]).0; number(&all[same + 1]) as usize],
+            _ => refusals(&all[same..]),
+        };
+        assert_eq!(told, expected, "{name}");
+        seen += told.len();
+    }
+    assert_eq!(seen, 17);
 }

@@ -1,4 +1,5 @@
 pub mod ContentsLaws
+pub mod DefaultsLaws
 pub mod FrequencyLaws
 pub mod RequirementLaws
 pub mod SettingsLaws

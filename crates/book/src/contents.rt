@@ -12,7 +12,7 @@ use little::u32_at;
 use rules::Refusal;
 
 // Bytes 46 43 46 31.
-const MARK: u32 = 0x3146_4346;
+pub const MARK: u32 = 0x3146_4346;
 
 enum Checked {
     Fine,

@@ -5,6 +5,7 @@ use rules::Kind;
 use rules::Refusal;
 
 pub mod contents;
+pub mod defaults;
 mod fields;
 pub mod frequency;
 mod inside;
@@ -30,6 +31,14 @@ pub const FREQUENCY: usize = 368;
 pub const UNIT: usize = 372;
 
 pub const REQUIREMENT: usize = 24;
+
+// Where the bodies of the regions and of the units start.
+pub const REGIONS_START: usize = 64;
+
+pub const UNITS_START: usize = 1904;
+
+// The defaults of a record: three a direction.
+pub const DEFAULTS: usize = 6;
 
 // Where a requirement's record holds its region set.
 pub const SET: usize = 2;

@@ -22,12 +22,16 @@ use Rattle.rules.specs.Rcr.{weighed-measure, response, all-reliable, rcr}
 use Rattle.rules.specs.Answer.{lines-of, answered, answer}
 use Rattle.rules.specs.Text.{text, digits, words}
 use Rattle.rules.specs.Listing.{joined, answer-lines, listing, settle}
-use Rattle.books.specs.Writing.{bytes, concat, bits, regions-bytes, book-bytes}
+use Rattle.rules.specs.Laid.{bytes, strung, laid}
+use Rattle.rules.specs.Written.{book-laid, regions-given, units-given, requirements-given, book-given, written}
+use Rattle.rules.specs.Said.{chained}
+use Rattle.books.specs.Writing.{book-bytes}
 
 unfoldable pub computing : Unit {0}
 unfolding sum sumℕ every first-wrong largest total totalℕ those numbered little listed contents settings region-in frequency-record unit-in
     unit-record requirement-in requirement-record frequency-body unit-body requirement-body book measure-after dropped-at reliable reliable-in
     deviation good new-among group-fine plants-from plants weight performance plant-performance residual-performance some-good-or-none plant-member
     residual-member members left-over gets-one amount unplaced share-reply weighed-measure response all-reliable rcr lines-of answered answer text
-    digits words joined answer-lines listing settle bytes concat bits regions-bytes book-bytes
+    digits words joined answer-lines listing settle bytes strung laid book-laid regions-given
+    units-given requirements-given book-given written chained book-bytes
 computing = tt

@@ -4,6 +4,7 @@ pub mod Computing
 pub mod Told
 -- The books, and what is quick to say of them
 pub mod PaperBook
+pub mod PaperValues
 pub mod Edges
 pub mod WorkedBooks
 pub mod WorkedAnswers

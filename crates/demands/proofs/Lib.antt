@@ -1,4 +1,5 @@
 pub mod ColumnsFront
+pub mod BookWriter
 pub mod Demand1
 pub mod Demand2
 pub mod Demand3
@@ -7,6 +8,7 @@ pub mod OurSheet
 pub mod OtherBook
 pub mod WeekDefaults
 pub mod WordsAnswered
+pub mod WriterPlaces
 pub mod WordsBook
 pub mod WordsCalls
 pub mod WordsRuns

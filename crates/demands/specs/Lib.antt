@@ -10,6 +10,7 @@ pub mod WordsBook
 pub mod OtherBook
 -- What the demands' theorems speak of
 pub mod ColumnsFront
+pub mod BookWriter
 pub mod Demand1
 pub mod WeekDefaults
 pub mod Demand3

@@ -6,3 +6,4 @@ pub mod RunsLaws
 pub mod WeeklyLaws
 pub mod WordsLaws
 pub mod VerdictsLaws
+pub mod WritingLaws

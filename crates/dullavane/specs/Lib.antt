@@ -7,3 +7,4 @@ pub mod Asked
 pub mod Answers
 pub mod Weekly
 pub mod Verdicts
+pub mod Writing

@@ -5,6 +5,7 @@ ghost use Rattle.answer.specs.Promises.{columns};
 ghost use Rattle.dullavane.specs.Answers.{AnswerCalled};
 ghost use Rattle.dullavane.specs.Asked.{MemberCalled};
 ghost use Rattle.dullavane.specs.Verdicts.{SheetCalled};
+ghost use Rattle.dullavane.specs.Writing.{WriteCalled, handed-in};
 ghost use Rattle.dullavane.specs.Weekly.{WeekCalled, WeeksCalled, WeekAddCalled, WeekReadCalled};
 ghost use Rattle.dullavane.specs.Runs.{UnitsCalled};
 ghost use Rattle.dullavane.specs.Promises.{ContentsCalled, SettingsCalled, FrequencyCalled, UnitCalled, RequirementCalled};
@@ -48,12 +49,16 @@ use words::said;
 use words::tally_in;
 use words::tell;
 use words::words_refusal;
+use writer::SettingsRow;
+use writer::write::write;
+use writing::tell_written;
 
 mod asked;
 mod runs;
 mod verdicts;
 mod weekly;
 mod words;
+mod writing;
 
 // How many words tell who stands in a row.
 const MEMBER_WORDS: usize = 3;
@@ -375,4 +380,52 @@ pub extern "C" fn dullavane_sheet(performances: &[i64], factors: &[i64], verdict
         return refusal_number(Refusal::TooShort);
     }
     tell_verdict(sheet(performances, factors), verdict)
+}
+
+// Writes a book from its values: settings by value, a row of numbers a record and the long fields in lists of their own type. Its length, or the refusal with
+// place
+// and t. Refuses 12 by the counts as given, 5, then what the reader would refuse, in the order of the book.
+#[no_mangle]
+pub extern "C" fn dullavane_write(
+    smoothing: i64,
+    limit: i64,
+    percent: i64,
+    interval: i64,
+    region_rows: &[i64],
+    region_qualities: &[u8],
+    frequencies: &[u32],
+    units: u32,
+    unit_rows: &[i64],
+    unit_qualities: &[u8],
+    readings: &[i32],
+    requirements: u32,
+    requirement_rows: &[i64],
+    book: &mut [u8],
+) -> u64
+    ensures { λ r. ⌜
+        WriteCalled
+        (handed-in smoothing limit percent interval (now («region_rows» .entry)) (now («region_qualities» .entry)) (now (frequencies .entry)) units
+        (now («unit_rows» .entry)) (now («unit_qualities» .entry)) (now (readings .entry)) requirements (now («requirement_rows» .entry)))
+        (now (book .entry)) r (now (book .exit))
+        ⌝ }
+{
+    let settings = SettingsRow {
+        smoothing,
+        limit,
+        percent,
+        interval,
+    };
+    tell_written(write(
+        settings,
+        region_rows,
+        region_qualities,
+        frequencies,
+        units,
+        unit_rows,
+        unit_qualities,
+        readings,
+        requirements,
+        requirement_rows,
+        book,
+    ))
 }

@@ -1,3 +1,4 @@
 pub mod PaperListing
 pub mod RefusedBooks
 pub mod GroupsOfOne
+pub mod PaperWritten

@@ -15,7 +15,8 @@ use Rattle.rules.specs.Refusals.{LocatedReply}
 use Rattle.rules.specs.Bytes.{listed}
 use Rattle.rules.specs.Book.{Book}
 use Rattle.rules.specs.WholeBook.{book}
-use Rattle.books.specs.Writing.{bytes, book-bytes}
+use Rattle.rules.specs.Laid.{bytes}
+use Rattle.books.specs.Writing.{book-bytes}
 use Rattle.books.specs.WorkedBooks.{every-field}
 use Rattle.books.specs.Told.{told}
 

@@ -4,7 +4,7 @@ use mathlib.Core.Path.{refl}
 use mathlib.Core.List.{List, []}
 use Prim.Native.Nat.{ℕ}
 use lib.ListN.{drop}
-use Rattle.integers.specs.Sums.{every}
+use Rattle.integers.specs.Sums.{sumℕ, every}
 use Rattle.rules.specs.Refusals.{LocatedReply, taken, _>>=_}
 use Rattle.rules.specs.Bytes.{little, listed}
 use Rattle.rules.specs.Book.{Book}
@@ -12,7 +12,10 @@ use Rattle.rules.specs.Contents.{contents}
 use Rattle.rules.specs.SettingsRecord.{settings}
 use Rattle.rules.specs.FrequencyRecord.{region-in, frequency-record}
 use Rattle.rules.specs.WholeBook.{frequency-body, unit-body, requirement-body, book}
-use Rattle.books.specs.Writing.{bytes, concat, bits, regions-bytes, book-bytes}
+use Rattle.rules.specs.Laid.{bytes, strung, laid}
+use Rattle.rules.specs.Written.{book-laid}
+use Rattle.rules.specs.Said.{chained}
+use Rattle.books.specs.Writing.{book-bytes}
 use Rattle.books.specs.WorkedBooks.{every-field}
 use Rattle.refused.specs.Changed.{Next}
 
@@ -24,7 +27,7 @@ units bs = do
 
 -- opens what is computed before the units
 unfoldable pub before-units : Unit {0}
-unfolding every little listed contents settings region-in frequency-record frequency-body book bytes concat bits regions-bytes book-bytes
+unfolding sumℕ every little listed contents settings region-in frequency-record frequency-body book bytes strung laid book-laid chained book-bytes
 before-units = tt
 
 pub frequencies-taken : Next 1_904 2_276 units

@@ -16,3 +16,7 @@ pub mod ShareLimits
 pub mod UnitReach
 pub mod GroupFields
 pub mod WrongGroups
+pub mod HandedIn
+pub mod WriterRefusals
+pub mod RegionsTaken
+pub mod WriterUnits

@@ -4,7 +4,9 @@ use mathlib.Core.Path.{_≡_, refl}
 use mathlib.Core.List.{List, [], _∷_, _++_}
 use Prim.Native.Nat.{ℕ, _+_, _*_}
 use lib.ListN.{take}
-use Rattle.books.specs.Writing.{entry-bytes}
+use Rattle.rules.specs.Layout.{unit-entry, requirement-entry}
+use Rattle.rules.specs.Laid.{laid}
+use Rattle.rules.specs.Written.{entry-filled}
 use Rattle.books.specs.Computing.{computing}
 use Rattle.books.specs.Told.{no}
 use Rattle.refused.specs.Changed.{refusal, base, with, all-changed, Alone, Together}
@@ -100,7 +102,9 @@ count-first = record { refusal-is = refl }
 
 -- tables for so many units and requirements, with the offsets and lengths that belong to them
 abbrev table : ℕ → ℕ → List ℕ
-table units requirements = take 32 base ++ (entry-bytes 3 units 1_904 372 ++ entry-bytes 4 requirements (1_904 + units * 372) 24)
+table units requirements =
+    take 32 base
+    ++ laid (entry-filled unit-entry 3 units 1_904 372 (entry-filled requirement-entry 4 requirements (1_904 + units * 372) 24 []))
 
 pub record Counts : Type 0 where
   pub no-units : refusal (table 0 1) ≡ no 1 1 0

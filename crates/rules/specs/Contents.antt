@@ -6,7 +6,20 @@ use lib.Dec.{eqb, leb}
 use lib.ListN.{length}
 use Rattle.rules.specs.declared.Refusal.the-variants.{EndsEarly, WrongMark, WrongTable, WrongCount}
 use Rattle.rules.specs.Quantities.{most-units, most-requirements}
-use Rattle.rules.specs.Bytes.{number-at}
+use Rattle.rules.specs.Layout.{
+  number-of,
+  book-mark,
+  entry-count,
+  zero-field,
+  entry-kind,
+  entry-items,
+  entry-offset,
+  entry-length,
+  settings-entry,
+  frequency-entry,
+  unit-entry,
+  requirement-entry,
+}
 use Rattle.rules.specs.Refusals.{Reply, taken, unless}
 
 -- sizes of the table and of the four kinds of record
@@ -36,15 +49,15 @@ mark = 0x31464346
 
 -- the items of an entry, which starts at a place of the table
 abbrev pub items : ℕ → List ℕ → ℕ
-items place bs = number-at 2 (place + 2) bs
+items place bs = number-of (entry-items place) bs
 
 -- an entry: u16 kind, u16 items, u32 offset, u32 length. Offset is where the body before it ends; length is items times record size
 abbrev pub entry : {A : Type 0} → ℕ → ℕ → ℕ → ℕ → ℕ → ℕ → List ℕ → Reply A → Reply A
 entry place kind least most start size bs rest =
-    unless (eqb (number-at 2 place bs) kind) WrongTable
+    unless (eqb (number-of (entry-kind place) bs) kind) WrongTable
     (unless (leb least (items place bs) && leb (items place bs) most) WrongCount
-    (unless (eqb (number-at 4 (place + 4) bs) start) WrongTable
-    (unless (eqb (number-at 4 (place + 8) bs) (items place bs * size)) WrongTable rest)))
+    (unless (eqb (number-of (entry-offset place) bs) start) WrongTable
+    (unless (eqb (number-of (entry-length place) bs) (items place bs * size)) WrongTable rest)))
 
 -- where the bodies of kinds 2, 3 and 4 start
 abbrev pub frequency-start : ℕ
@@ -60,11 +73,11 @@ requirement-start units = unit-start + units * unit-size
 unfoldable pub contents : List ℕ → Reply Counts
 contents bs =
     unless (leb contents-size (length bs)) EndsEarly
-    (unless (eqb (number-at 4 0 bs) mark) WrongMark
-    (unless (eqb (number-at 2 4 bs) 4) WrongTable
-    (unless (eqb (number-at 2 6 bs) 0) WrongTable
-    (entry 8 1 1 1 contents-size settings-size bs
-    (entry 20 2 5 5 frequency-start frequency-size bs
-    (entry 32 3 0 most-units unit-start unit-size bs
-    (entry 44 4 1 most-requirements (requirement-start (items 32 bs)) requirement-size bs
-    (taken (record { units = items 32 bs; requirements = items 44 bs })))))))))
+    (unless (eqb (number-of book-mark bs) mark) WrongMark
+    (unless (eqb (number-of entry-count bs) 4) WrongTable
+    (unless (eqb (number-of zero-field bs) 0) WrongTable
+    (entry settings-entry 1 1 1 contents-size settings-size bs
+    (entry frequency-entry 2 5 5 frequency-start frequency-size bs
+    (entry unit-entry 3 0 most-units unit-start unit-size bs
+    (entry requirement-entry 4 1 most-requirements (requirement-start (items unit-entry bs)) requirement-size bs
+    (taken (record { units = items unit-entry bs; requirements = items requirement-entry bs })))))))))

@@ -1,6 +1,7 @@
 -- Document 01 as definitions, in its order
 pub mod Quantities
 pub mod Bytes
+pub mod Layout
 pub mod Refusals
 pub mod Book
 pub mod Contents
@@ -11,6 +12,11 @@ pub mod UnitRecord
 pub mod Groups
 pub mod RequirementRecord
 pub mod WholeBook
+-- A book from what is handed in (document 02, R-4)
+pub mod Laid
+pub mod Given
+pub mod Written
+pub mod Said
 pub mod Measure
 pub mod Dropped
 pub mod Reliability

@@ -4,8 +4,6 @@ use super::lines;
 use super::lines::Line;
 use super::lines::PLACES;
 use super::output;
-use super::words::Word;
-use super::words::word_in;
 use answer::Answer;
 use answer::Answered;
 use answer::Row;
@@ -24,6 +22,9 @@ use interval::SERIES_LENGTH;
 use interval::SUMS_LENGTH;
 use interval::Tally;
 use little::u16_at;
+use numerals::Word;
+use numerals::longer;
+use numerals::no_word;
 use rules::Refusal;
 use rules::Verdict;
 use rules::locate;
@@ -239,6 +240,17 @@ fn judge_file(file: i32, wanted: u64) {
         &homes,
         &rows,
     );
+}
+
+// A word that stands alone in a text.
+fn word_in(text: &[u8]) -> Word {
+    let mut word = no_word();
+    let mut i: usize = 0;
+    while i < text.len() {
+        word = longer(word, text[i]);
+        i += 1;
+    }
+    word
 }
 
 // Can a word be a requirement's number?

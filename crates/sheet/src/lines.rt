@@ -1,12 +1,12 @@
 // Whole numbers from standard input, a line at a time.
 ghost use Prim.Native.Nat.{_≤_};
 use super::output;
-use super::words::Value;
-use super::words::Word;
-use super::words::longer;
-use super::words::no_word;
-use super::words::number_in;
 use libc::STDIN_FILENO;
+use numerals::Value;
+use numerals::Word;
+use numerals::longer;
+use numerals::no_word;
+use numerals::number_in;
 use sheets::Told;
 use sheets::sheet;
 

@@ -4,7 +4,6 @@
 mod books;
 mod lines;
 mod output;
-mod words;
 
 // The buffers, in bytes, each array once: text 4,096; performances and factors 4,112 each; and for a book
 //   its regions: measures 1,500, sums 6,000, figures 400; its units: numbers 1,024, homes 512, rows 32,768, groups 1,024, a group's deviations 600

@@ -12,11 +12,11 @@ use Rattle.integers.specs.Fills.{filled}
 use Rattle.rules.specs.declared.Direction.the-variants.{Raise, Lower}
 use Rattle.rules.specs.declared.Refusal.the-variants.{WrongGroup}
 use Rattle.rules.specs.Quantities.{points, regions, most-units, power-limit, deviation-limit}
-use Rattle.rules.specs.Groups.{same-group, none}
+use Rattle.rules.specs.Groups.{same-group}
 use Rattle.rules.specs.Book.{Unit}
 use Rattle.rules.specs.Deviation.{good}
 use Rattle.rules.specs.Performance.{wanted}
-use Rattle.book.specs.declared.Three.{Three}
+use Rattle.book.specs.Defaults.{none-in-three}
 use Rattle.book.specs.declared.UnitFields.{UnitFields}
 use Rattle.book.specs.declared.UnitRead.{UnitRead}
 use Rattle.book.specs.declared.UnitRead.the-variants.{Taken, Refused}
@@ -54,9 +54,6 @@ lent-in-range part taken l = series-in-range (named-region part) taken l && plan
 -- a unit of this group joins that of the unit before
 abbrev pub follows : ℕ → ℕ → List ℕ → Bool
 follows group row groups = leb 1 row && same-group (getD groups (row - 1) 0) group
-
-abbrev pub none-in-three : Three → Bool
-none-in-three f = none (f .payment) && (none (f .used) && none (f .unused))
 
 -- four units from a place on are not of this group, and no unit before a row is
 abbrev pub not-of : ℕ → List ℕ → ℕ → Bool

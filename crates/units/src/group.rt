@@ -3,10 +3,10 @@ ghost use mathlib.Core.Path.{_≡_};
 ghost use mathlib.Core.Bool.{true};
 ghost use Prim.Native.Nat.{_+_, _≤_, _<_};
 ghost use lib.ListN.{length};
-ghost use Rattle.units.specs.Groups.{follows, none-in-three, none-of-four, new-group, free-group, fits-group, grouped};
-use book::Three;
+ghost use Rattle.units.specs.Groups.{follows, none-of-four, new-group, free-group, fits-group, grouped};
 use book::UnitFields;
 use book::UnitRead;
+use book::defaults::no_three;
 use rules::Refusal;
 
 // So many groups are passed at a time.
@@ -97,19 +97,6 @@ pub(crate) fn is_free(group: u16, row: usize, groups: &[u16]) -> bool
         return true;
     }
     is_new(group, row, groups)
-}
-
-// Are the three defaults of a direction 0?
-fn no_three(three: Three) -> bool
-    ensures { λ r. ⌜ r ≡ none-in-three three ⌝ }
-{
-    if three.payment != 0 {
-        return false;
-    }
-    if three.used != 0 {
-        return false;
-    }
-    three.unused == 0
 }
 
 // A unit that joins a group is in its region and has no defaults of its own; for any other its group is free.

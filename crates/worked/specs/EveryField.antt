@@ -7,10 +7,13 @@ use lib.ListN.{getD}
 use Rattle.rules.specs.Refusals.{taken}
 use Rattle.rules.specs.SettingsRecord.{settings}
 use Rattle.rules.specs.WholeBook.{book}
+use Rattle.rules.specs.Laid.{laid}
+use Rattle.rules.specs.Written.{settings-filled}
+use Rattle.rules.specs.Said.{handed}
 use Rattle.rules.specs.Answer.{answer}
 use Rattle.rules.specs.Text.{text, digits, words}
 use Rattle.rules.specs.Listing.{answer-lines, joined, listing, settle}
-use Rattle.books.specs.Writing.{settings-bytes, book-bytes, settled}
+use Rattle.books.specs.Writing.{book-bytes, settled}
 use Rattle.books.specs.PaperBook.{requirement}
 use Rattle.books.specs.Computing.{computing}
 use Rattle.books.specs.WorkedBooks.{every-field}
@@ -24,7 +27,7 @@ unfolding computing
 read = refl
 
 -- the settings end with their eight bytes, whatever comes behind them
-pub settings-alone : settings (settings-bytes (every-field .settings) ++ (255 ∷ [])) ≡ taken (every-field .settings)
+pub settings-alone : settings (laid (settings-filled (handed every-field)) ++ (255 ∷ [])) ≡ taken (every-field .settings)
 unfolding computing
 settings-alone = refl
 

@@ -1,0 +1,2 @@
+-- Words as whole numbers, and what the functions promise
+pub mod Numerals

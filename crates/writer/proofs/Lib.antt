@@ -1,0 +1,10 @@
+pub mod AnswersLaws
+pub mod BodiesLaws
+pub mod BookLaws
+pub mod JudgedLaws
+pub mod LayLaws
+pub mod PutLaws
+pub mod StandsLaws
+pub mod WholeLaws
+pub mod WordsLaws
+pub mod WriteLaws

@@ -1,0 +1,27 @@
+-- What passes the test is not below zero and fits.
+use Prim.Native.Nat.{_^_}
+use borrow.Author.Needs.{needs}
+use mir.Facts.{toZ-ofZ}
+use mir.Syntax.{w8}
+use Rattle.rules.specs.Laid.{below}
+use Rattle.writer.proofs.WordsLaws.{refused, passed, below-fits}
+use Rattle.writer.proofs.words.one_byte.Statement.{statement}
+use Rattle.writer.proofs.words.one_byte.Tie as tie
+
+below-requires : tie.Need-below-requires
+below-requires c κs = search needs
+
+returns : tie.Need-returns
+returns c = rw (refused (below (2 ^ 8)) (c .before .before .fits .x) (c .before .below .ensures) (c .if1 .taken))
+
+cast-result : tie.Need-cast-result
+cast-result c =
+    simp (toZ-ofZ, c .before .before .fits .x)
+    (below-fits {w = w8} (c .before .before .args .x) (passed (below (2 ^ 8)) (c .before .before .fits .x) (c .before .below .ensures) (c .if1 .left)))
+
+returns-2 : tie.Need-returns-2
+returns-2 c =
+    rw (passed (below (2 ^ 8)) (c .before .before .fits .x) (c .before .below .ensures) (c .if1 .left)) (simp (toZ-ofZ, c .before .before .fits .x))
+
+pub one-byte-spec : {M : Type 1} → statement M
+one-byte-spec = tie.close (tie.spec below-requires returns cast-result returns-2)
