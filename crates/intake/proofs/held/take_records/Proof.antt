@@ -2,8 +2,8 @@
 use Prim.Native.Nat.{_≤_, _+_, _*_}
 use native.Mathlib.Omega.{arith}
 use borrow.Author.Needs.{needs}
-use Rattle.read_book.proofs.taking.take_records.Statement.{statement}
-use Rattle.read_book.proofs.taking.take_records.Tie as tie
+use Rattle.intake.proofs.held.take_records.Statement.{statement}
+use Rattle.intake.proofs.held.take_records.Tie as tie
 
 abbrev Inv-loop : tie.InvT-loop
 Inv-loop book measures₀ sums₀ figures₀ numbers₀ homes₀ rows₀ groups₀ deviations₀ tally₀ start₀ left₀ measures sums figures numbers homes rows groups
@@ -17,7 +17,7 @@ abbrev μ-loop : tie.MeasureT-loop
 
 -- a turn's size of its record, seen from its call
 abbrev sized-in : tie.After-take Inv-loop μ-loop → tie.After-size Inv-loop μ-loop
-sized-in c = c .before .before .before .before .before .before .before .before .before .before .before
+sized-in c = c .before .before .before .before .before .before .before .before .before .before
 
 cast-left : tie.Need-cast-left Inv-loop μ-loop
 cast-left c = search needs
@@ -43,17 +43,8 @@ size-requires c κs = search needs
 add-next : tie.Need-add-next Inv-loop μ-loop
 add-next c = search needs
 
-within-requires : tie.Need-within-requires Inv-loop μ-loop
-within-requires c κs = search needs
-
-sub-take : tie.Need-sub-take Inv-loop μ-loop
-sub-take c = search needs
-
-part-take-start : tie.Need-part-take-start Inv-loop μ-loop
-part-take-start c = search needs
-
-part-take-end : tie.Need-part-take-end Inv-loop μ-loop
-part-take-end c = search needs
+record-at-requires : tie.Need-record-at-requires Inv-loop μ-loop
+record-at-requires c κs = search needs
 
 take-requires : tie.Need-take-requires Inv-loop μ-loop
 take-requires c κs = search needs
@@ -95,10 +86,7 @@ take-records-spec =
     loop-holds
     size-requires
     add-next
-    within-requires
-    sub-take
-    part-take-start
-    part-take-end
+    record-at-requires
     take-requires
     enum-known-outcome
     returns
