@@ -12,13 +12,14 @@
    A CALL returns 0, or a refusal (below). After a refusal everything lent is as it was, the tally too: the same call can be made again with other
    bytes, or the book given up. dullavane_units alone may have added records before the one that it refuses, and they stay added.
 
-   WHERE. The six calls that take a book return 64 bits, by value: 0, or in bits 0 to 31 the refusal's number, in bits 32 to 47 the place of the
-   refused record in its body, from 1 (the settings' is 1, region r's is r + 1), and in bits 48 to 63 the refused point or reading, t = 1 to 75, the first
-   one where there are several. DULLAVANE_REFUSAL, DULLAVANE_PLACE and DULLAVANE_T take them apart. A record's call names the place of the record that was to
-   be taken, also where no byte of it is left; t comes with 74 and 84 alone. No place have 11, what dullavane_contents refuses, and 12 for a tally of fewer
-   than 8 words. What is not there is 0; the other calls take no record of a body and return the number alone, which the same macros read.
-   dullavane_units names the place in its run instead, from 1, and with every refusal, 11 and 12 too: place - 1 records were added, which the tally counts. A
-   run that is not a whole number of records has 1 and place 0: none was added.
+   WHERE. The six calls that take a book, and dullavane_trend, return 64 bits, by value: 0, or in bits 0 to 31 the refusal's number, in bits 32 to 47 the
+   place of the refused record in its body, from 1 (the settings' is 1, region r's is r + 1), and in bits 48 to 63 the refused point or reading, t = 1 to 75,
+   the first one where there are several. DULLAVANE_REFUSAL, DULLAVANE_PLACE and DULLAVANE_T take them apart. A record's call names the place of the record that
+   was to be taken, also where no byte of it is left; t comes with 74 and 84 alone. No place have 11, what dullavane_contents refuses, 12 for a tally of fewer
+   than 8 words, and whatever dullavane_trend refuses: it reads a record alone, which stands in no body. What is not there is 0; dullavane_write says itself
+   what it returns, and the other calls take no record of a body and return the number alone, which the same macros read. dullavane_units names the place in its
+   run instead, from 1, and with every refusal, 11 and 12 too: place - 1 records were added, which the tally counts. A run that is not a whole number of records
+   has 1 and place 0: none was added.
 
    THE TALLY says how far a book is: 8 words that dullavane_contents makes and every call that takes a record moves on.
        [0] units announced, 0 to 512             [4] smoothing, 1 to 10,000
@@ -71,6 +72,7 @@
        17  a week of more than 2,016 intervals, or a live performance that no such member can have
    7, 8 and 13 are nobody's: earlier versions gave 7 and 8 where 71 to 74 and 81 to 84 are told apart now, and no call can meet 13.
    5 is given, too, where who a week's member is, as a number, is over 512, and by dullavane_sheet, which says when.
+   dullavane_trend gives 12, 1, 81, 82, 83 and 84 alone: 9 and 16 speak of a unit's neighbours, and a record alone has none. A bad reading is no refusal.
    A call tests 12 for the tally's 8 words first, since without them there is no tally; then 11 for the tally and its turn, 12 for the lists, 11 for
    lent numbers that it reads, 1, and then the record's fields by their place.
 
@@ -131,8 +133,21 @@
    A number that does not fit its field's width breaks that field's rule: a unit number over 65,535 is 9, a group over 65,535 is 83, an interval number past 32
    bits is 6. What is written is taken by the calls above as exactly what was handed in.
 
+   A TREND STRIP. dullavane_trend draws the strip of one unit for a display: 75 points in MW, and a small record of lowest, highest and last. It reads the part
+   that starts at the unit's record, and needs no tally and no turn: a strip can be drawn before, after or without adding the unit. Of a unit in a group it is
+   the unit's own; points that are dropped from performance are drawn. A float is IEEE 754 binary32, on every processor; a float unit has to round to the nearest,
+   as it does after reset. A point is the deviation in 75ths of a hundredth of a MW, its kind's sign included, as a float with nothing lost, divided once by
+   7,500: whole MW come out exactly, 0 is positive zero, and a larger deviation gives a larger point. Lists may be longer than DULLAVANE_STRIP_POINTS,
+   DULLAVANE_STRIP_NUMBERS and DULLAVANE_DRAWN_NUMBERS.
+       points             75 float           300 bytes, t = 1 to 75; points past the 75th stay
+       strip              3 float            12 bytes, the lowest, the highest and the last of the 75 points
+       drawn              1 uint32_t         4 bytes, how many points are drawn: 75, or 0
+   A BAD UNIT, with any bad reading, is no refusal: its points stay as they were, its strip is three positive zeros, and drawn is 0. A plant that sits on its
+   set point has three positive zeros too, and drawn is 75: go by drawn.
+
    What is proved of each call, for any bytes, words and lists whatever: its return value and every lent number after it are those of the
-   definitions that document 01 is written out in. What is outside the proof: this header, the caller, and the compiler's back end. */
+   definitions that document 01 is written out in. What is outside the proof: this header, the caller, and the compiler's back end, with it how the core
+   divides and compares floats. */
 #ifndef DULLAVANE_H
 #define DULLAVANE_H
 
@@ -165,7 +180,9 @@ enum {
     DULLAVANE_QUALITY_BYTES = 10,
     DULLAVANE_REGION_ROW = 9,
     DULLAVANE_UNIT_ROW = 12,
-    DULLAVANE_REQUIREMENT_ROW = 7
+    DULLAVANE_REQUIREMENT_ROW = 7,
+    DULLAVANE_STRIP_POINTS = 75,
+    DULLAVANE_DRAWN_NUMBERS = 1
 };
 
 /* The words of an answer, in their order: how many members the requirement has, its RCR, the three pools, what of the used and of the unused pool is
@@ -202,6 +219,9 @@ enum { DULLAVANE_A_RESIDUAL, DULLAVANE_UNIT };
 
 /* The numbers of a week's answer: how many intervals are live, and the default, which is at most 0. */
 enum { DULLAVANE_COUNT, DULLAVANE_DEFAULT, DULLAVANE_DEFAULT_NUMBERS };
+
+/* The numbers of a trend strip's small record, in MW. */
+enum { DULLAVANE_LOWEST, DULLAVANE_HIGHEST, DULLAVANE_LAST, DULLAVANE_STRIP_NUMBERS };
 
 /* The columns of a region's row to be written: separation, FM before the interval, generation, and the first of six defaults (payment, used, unused for raise, then for
    lower). */
@@ -336,6 +356,13 @@ uint64_t dullavane_write(int64_t smoothing, int64_t limit, int64_t percent, int6
                          const int32_t *readings, uint64_t readings_length,
                          uint32_t requirements, const int64_t *requirement_rows, uint64_t requirement_rows_length,
                          uint8_t *book, uint64_t book_bytes);
+
+/* Draws the trend strip of the unit whose record the part starts with (372 bytes; those behind it are not read): writes its 75 points, lowest, highest and last,
+   and 75 into drawn; of a unit with a bad reading no point, three positive zeros, and 0. What stands past these numbers stays. Returns 0, or in bits 0 to 31 the
+   refusal's number and in bits 48 to 63 t; the place is 0. On a refusal nothing is written. Refuses 12 (one of the three lists), then 1, 81, 82, 83 and 84,
+   which alone has t; never 9 or 16. A wrong field goes before a bad reading. */
+uint64_t dullavane_trend(const uint8_t *part, uint64_t part_bytes, float *points, uint64_t points_length, float *strip, uint64_t strip_length,
+                         uint32_t *drawn, uint64_t drawn_length);
 
 #ifdef __cplusplus
 }

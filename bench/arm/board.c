@@ -9,6 +9,7 @@ enum { READ_BYTES = 1, WRITE_BYTES = 5, PAINT = 0x5a5a5a5a };
 
 extern uint32_t stack_top[], data_begin[], data_end[], data_kept[], bss_begin[], bss_end[];
 int main(void);
+_Noreturn void exit(int status);
 
 static int book, listing;
 
@@ -76,14 +77,24 @@ static void open_files(void) {
     }
 }
 
+/* The core starts with its float unit off, and an instruction of it would be a fault: full access to coprocessors 10 and 11 (CPACR). */
+static void switch_floats_on(void) {
+#ifdef __ARM_FP
+    volatile uint32_t *access = (volatile uint32_t *)0xe000ed88;
+    *access |= 0xfu << 20;
+    __asm__ volatile("dsb\n\tisb" : : : "memory");
+#endif
+}
+
 void reset(void) {
     uint32_t *here;
+    switch_floats_on();
     __asm__ volatile("mov %0, sp" : "=r"(here));
     for (uint32_t *at = bss_end; at < here; at++) *(volatile uint32_t *)at = PAINT;
     for (uint32_t *at = data_begin, *from = data_kept; at < data_end;) *at++ = *from++;
     for (uint32_t *at = bss_begin; at < bss_end; at++) *(volatile uint32_t *)at = 0;
     open_files();
-    board_leave(main());
+    exit(main());
 }
 
 static void fault(void) {

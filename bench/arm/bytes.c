@@ -1,4 +1,4 @@
-/* examples/box.c's bytes in and out, where a box has its radio or serial line: in by 64, out by lines. */
+/* examples/box.c's bytes in and out, where a box has its radio or serial line: in by 64, out by lines; and its end. */
 #include "board.h"
 
 static unsigned char in[64], out[64];
@@ -20,3 +20,5 @@ int putchar(int c) {
     }
     return c;
 }
+
+_Noreturn void exit(int status) { board_leave(status); }

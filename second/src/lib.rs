@@ -24,6 +24,8 @@ pub mod sheet;
 pub mod sheet_text;
 pub mod writer;
 pub mod book_text;
+pub mod strip;
+pub mod strip_text;
 
 pub mod invariants;
 pub mod rules;
@@ -54,3 +56,6 @@ pub mod sheet_trials;
 pub mod writer_fields;
 pub mod writer_script;
 pub mod writer_trials;
+pub mod strip_units;
+pub mod strip_script;
+pub mod strip_trials;

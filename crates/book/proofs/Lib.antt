@@ -3,4 +3,5 @@ pub mod DefaultsLaws
 pub mod FrequencyLaws
 pub mod RequirementLaws
 pub mod SettingsLaws
+pub mod UnitHeld
 pub mod UnitLaws

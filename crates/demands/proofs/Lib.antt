@@ -5,6 +5,7 @@ pub mod Demand2
 pub mod Demand3
 pub mod NoFairerSplit
 pub mod OurSheet
+pub mod TrendStrip
 pub mod OtherBook
 pub mod WeekDefaults
 pub mod WordsAnswered

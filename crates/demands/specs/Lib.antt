@@ -16,3 +16,4 @@ pub mod WeekDefaults
 pub mod Demand3
 pub mod NoFairerSplit
 pub mod OurSheet
+pub mod TrendStrip

@@ -5,7 +5,7 @@ use mathlib.Core.List.{List, [], _∷_}
 use Prim.Native.Nat.{ℕ, zero, suc, _≤_, _<_}
 use native.Mathlib.Omega.{arith}
 use lib.Dec.{ltb}
-use lib.ListN.{length, set}
+use lib.ListN.{length, set, drop}
 use borrow.Author.Tests.{ltb-true}
 use Rattle.integers.specs.Sums.{both}
 use Rattle.rules.specs.declared.Direction.the-variants.{Lower}
@@ -19,7 +19,7 @@ use Rattle.answer.proofs.RosterLaws.{member-only}
 use Rattle.dullavane.specs.Words.{held, reply-number, Held}
 use Rattle.dullavane.proofs.WordsLaws.{held-means}
 use Rattle.dullavane.proofs.Called.{alone-only}
-use Rattle.dullavane.specs.Asked.{MemberCalled, asked-narrow, direction-of, in-turn, member-words, asked-tally, row-after, row-number, with-row}
+use Rattle.dullavane.specs.Asked.{MemberCalled, asked-narrow, direction-of, in-turn, asked-tally, row-after, row-number}
 
 pub dullavane-member-only : {ts : List ℕ} {row direction set : ℕ} {l : Lent} {ws : List ℕ} {r r₂ : ℕ} {ws′ ws₂ : List ℕ} →
     MemberCalled ts row direction set l ws r ws′ → MemberCalled ts row direction set l ws r₂ ws₂ → (r ≡ r₂) × (ws′ ≡ ws₂)
@@ -82,10 +82,10 @@ asked-fits row direction set e =
     record { row-fits = ltb-true _ _ (a .0); set-fits = ltb-true _ _ (b .1) }
 
 -- three stores in a row
-pub three-stores : (ws : List ℕ) (a b c : ℕ) → member-words ≤ length ws → set (set (set ws 0 a) 1 b) 2 c ≡ with-row a b c ws
-three-stores (i ∷ j ∷ k ∷ ws) a b c long = refl
-three-stores (i ∷ j ∷ []) a b c long = absurd (omega arith)
-three-stores (i ∷ []) a b c long = absurd (omega arith)
+pub three-stores : {A : Type 0} (xs : List A) (a b c : A) → 3 ≤ length xs → set (set (set xs 0 a) 1 b) 2 c ≡ a ∷ b ∷ c ∷ drop 3 xs
+three-stores (x ∷ y ∷ z ∷ xs) a b c long = refl
+three-stores (x ∷ y ∷ []) a b c long = absurd (omega arith)
+three-stores (x ∷ []) a b c long = absurd (omega arith)
 three-stores [] a b c long = absurd (omega arith)
 
 pub lower-of : (n : ℕ) → (n ≡ 0 → ⊥) → Lower ≡ direction-of n

@@ -5,5 +5,6 @@ pub mod Promises
 pub mod RunsLaws
 pub mod WeeklyLaws
 pub mod WordsLaws
+pub mod TrendsLaws
 pub mod VerdictsLaws
 pub mod WritingLaws

@@ -8,3 +8,4 @@ pub mod Answers
 pub mod Weekly
 pub mod Verdicts
 pub mod Writing
+pub mod Trends

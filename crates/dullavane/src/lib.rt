@@ -5,6 +5,7 @@ ghost use Rattle.answer.specs.Promises.{columns};
 ghost use Rattle.dullavane.specs.Answers.{AnswerCalled};
 ghost use Rattle.dullavane.specs.Asked.{MemberCalled};
 ghost use Rattle.dullavane.specs.Verdicts.{SheetCalled};
+ghost use Rattle.dullavane.specs.Trends.{TrendCalled};
 ghost use Rattle.dullavane.specs.Writing.{WriteCalled, handed-in};
 ghost use Rattle.dullavane.specs.Weekly.{WeekCalled, WeeksCalled, WeekAddCalled, WeekReadCalled};
 ghost use Rattle.dullavane.specs.Runs.{UnitsCalled};
@@ -27,6 +28,9 @@ use runs::FIRST_PLACE;
 use runs::tell_run;
 use runs::unheld_told;
 use sheets::sheet;
+use strip::trend;
+use trends::tell_trend;
+use trends::trend_fits;
 use units::run::run;
 use units::unit::unit;
 use verdicts::VERDICT_WORDS;
@@ -55,6 +59,7 @@ use writing::tell_written;
 
 mod asked;
 mod runs;
+mod trends;
 mod verdicts;
 mod weekly;
 mod words;
@@ -428,4 +433,24 @@ pub extern "C" fn dullavane_write(
         requirement_rows,
         book,
     ))
+}
+
+// Draws the trend strip of the unit whose record `part` starts with: 75 points in MW, lowest, highest and last, and how many points are drawn, 75 or 0 for a
+// bad unit. The refusal with its t; place 0. Refuses 12 for each of the three lists, then 1, 81, 82, 83 and 84.
+#[no_mangle]
+pub extern "C" fn dullavane_trend(
+    part: &[u8],
+    points: &mut [f32],
+    strip: &mut [f32],
+    drawn: &mut [u32],
+) -> u64
+    ensures { λ r. ⌜
+        TrendCalled (now (part .entry)) (now (points .entry)) (now (strip .entry)) (now (drawn .entry)) r
+        (now (points .exit)) (now (strip .exit)) (now (drawn .exit))
+        ⌝ }
+{
+    if !trend_fits(strip.len(), drawn.len()) {
+        return refusal_number(Refusal::TooShort) as u64;
+    }
+    tell_trend(trend(part, points), strip, drawn)
 }

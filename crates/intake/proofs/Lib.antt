@@ -1,2 +1,3 @@
 pub mod Turns
 pub mod Came
+pub mod HeldLaws

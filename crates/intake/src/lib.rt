@@ -1,5 +1,6 @@
 // intake: what every reader of books does alike. Standard input fills the place of a record, however few bytes each reading brings; then the call whose turn
-// it is takes the record. A whole book goes so to its end.
+// it is takes the record. A whole book goes so to its end, from a file or held in memory.
+pub mod held;
 pub mod input;
 pub mod turn;
 pub mod whole;

@@ -25,6 +25,10 @@ pub mod RoundTrips
 pub mod MeasureLaws
 pub mod DroppedLaws
 pub mod DeviationLaws
+pub mod StripValues
+pub mod StripOrder
+pub mod StripTies
+pub mod StripFold
 pub mod PlantsLaws
 pub mod PerformanceLaws
 pub mod SeriesLaws

@@ -83,11 +83,11 @@ digits-most (suc most) n = go (ltb n 10) (digits-most most (n / 10))
     go true h = omega arith
     go false h = omega (arith, length-append (digits most (n / 10)) ((48 + n % 10) ∷ []))
 
-digits-last : (most n : ℕ) → n < 10 → digits (suc most) n ≡ (48 + n) ∷ []
+pub digits-last : (most n : ℕ) → n < 10 → digits (suc most) n ≡ (48 + n) ∷ []
 unfolding digits
 digits-last most n h = rw (digits, lt-ltb n 10 h)
 
-digits-more : (most n : ℕ) → 10 ≤ n → digits (suc most) n ≡ digits most (n / 10) ++ ((48 + n % 10) ∷ [])
+pub digits-more : (most n : ℕ) → 10 ≤ n → digits (suc most) n ≡ digits most (n / 10) ++ ((48 + n % 10) ∷ [])
 unfolding digits
 digits-more most n h = rw (digits, le-ltb n 10 h)
 

@@ -1,33 +1,31 @@
 // read_book: a book on standard input, as text on standard output (document 02, R-4): what `write_book` makes the same book of. A book that `settle` refuses is
 // refused alike, with the one line `refused` and number, place and t. What goes wrong with reading or writing is told on standard error.
 mod lines;
-mod output;
-mod taking;
 
-use intake::input::fill;
-use taking::Outcome;
+use intake::held::HELD;
+use intake::held::Outcome;
+use intake::held::take_input;
+use libc::STDERR_FILENO;
+use printing::print_refused;
 
-// The longest book, of 512 units and 32 requirements, and a byte more, so that bytes that follow are seen.
-const PLACES: usize = 193_137;
+fn reading_failed() {
+    io::write_all(STDERR_FILENO, b"read_book: standard input cannot be read\n");
+}
 
-// The text of what was read, or the refusal.
-fn tell(book: &[u8]) {
-    let outcome = taking::take_all(book);
-    match outcome {
-        Outcome::Taken(tally) => lines::print_book(tally.units, tally.requirements, book),
-        Outcome::Refused(said) => output::refused(said),
+// Was all of it written? After a writing that takes nothing no more is written.
+fn end(written: bool) {
+    if !written {
+        io::write_all(STDERR_FILENO, b"read_book: the text cannot be written\n");
     }
 }
 
-// The buffers, in bytes: the book 193,137, a line of text 1,024, and what the calls are lent, 43,828 (`taking`).
+// The buffers, in bytes: the book 193,137, a line of text 1,024, and what the calls are lent while the book is taken, 43,828.
 fn main() {
-    let mut book = [0u8; PLACES];
-    let got = fill(&mut book);
-    if got.failed {
-        output::reading_failed();
-        return;
+    let mut book = [0u8; HELD];
+    let outcome = take_input(&mut book);
+    match outcome {
+        Outcome::Taken(tally) => end(lines::print_book(tally.units, tally.requirements, &book)),
+        Outcome::Refused(said) => end(print_refused(said)),
+        Outcome::Failed => reading_failed(),
     }
-    let count = got.count;
-    let whole = &book[..];
-    tell(&whole[0..count]);
 }

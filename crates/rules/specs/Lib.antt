@@ -33,6 +33,9 @@ pub mod Cents
 pub mod Answer
 pub mod Text
 pub mod Listing
+-- The trend strip of a unit (document 02, R-2)
+pub mod Strip
+pub mod StripText
 -- Defaults from seven days of record (document 02, R-7)
 pub mod Week
 pub mod RunningWeek

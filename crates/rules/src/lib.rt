@@ -98,6 +98,20 @@ pub struct Located {
     pub place: u16,
 }
 
+// The small record of a trend strip, in MW: its lowest, its highest and its last point.
+pub struct Strip {
+    pub lowest: f32,
+    pub highest: f32,
+    pub last: f32,
+}
+
+// A unit's trend: its strip was drawn; or the unit is bad, nothing was drawn, and the record holds zeros; or a refusal.
+pub enum Trend {
+    Drawn(Strip),
+    Bad(Strip),
+    Refused(Refusal),
+}
+
 // The number that the box shows.
 pub fn refusal_number(refusal: Refusal) -> u32
     ensures { λ r. ⌜ r ≡ number refusal ⌝ }

@@ -15,3 +15,4 @@ pub mod GroupListing
 pub mod UngroupedListing
 pub mod BadGroups
 pub mod GroupOfThirteen
+pub mod Strips

@@ -4,8 +4,7 @@ ghost use Rattle.writer.specs.Promise.{within-room};
 use super::keeping::BOOK;
 use libc::STDERR_FILENO;
 use libc::STDOUT_FILENO;
-use listing::LINE;
-use listing::lines::refused_line;
+use printing::print_refused;
 use rules::Located;
 use writer::Written;
 
@@ -28,18 +27,10 @@ fn print_book(length: usize, book: &[u8; BOOK])
     write(&whole[0..length]);
 }
 
-// The line that starts there and ends with the text.
-fn print_from(start: usize, text: &[u8; LINE])
-    requires { ⌜ start ≤ 165 ⌝ }
-{
-    let whole = &text[..];
-    write(&whole[start..]);
-}
-
 fn refused(said: Located) {
-    let mut text = [0u8; LINE];
-    let start = refused_line(said, &mut text);
-    print_from(start, &text);
+    if !print_refused(said) {
+        unwritten();
+    }
 }
 
 pub(crate) fn tell(written: Written, book: &[u8; BOOK])

@@ -26,13 +26,13 @@ use Rattle.book.specs.declared.UnitFields.{UnitFields}
 use Rattle.book.specs.Unit.{reading-at}
 use Rattle.interval.specs.Lent.{put-from, sums-start, sums-each, part-of}
 use Rattle.interval.proofs.LentLaws.{put-length}
+use Rattle.book.proofs.UnitHeld.{reading-inside}
 use Rattle.units.specs.Points.{held, deviated, ramp, so-far}
 use Rattle.units.specs.Groups.{with-unit, most-deviation, change}
 use Rattle.units.proofs.PointsLaws.{
   next-step,
   off-ramp,
   ramp-within,
-  reading-is,
   none-yet,
   all-added,
   above,
@@ -157,7 +157,7 @@ read : (c : tie.After-reading Inv-loop μ-loop) → let l = c .before .before .b
     toZ w32 (ofZ w32 (c .reading .result)) ≡ reading-at (S l .args .part .now) (l .loop .t)
 read c =
     let l = c .before .before .before in
-    back w32 (c .reading .ok) (c .reading .ensures ∙ reading-is (S l .args .part .now) (l .loop .t) (omega arith))
+    back w32 (c .reading .ok) (c .reading .ensures ∙ reading-inside (S l .args .part .now) (l .loop .t) (omega arith))
 
 off-is : (c : tie.After-deviation Inv-loop μ-loop) → let l = L c in
     toZ w64 (ofZ w64 (c .deviation .result)) ≡ deviated (S l .args .fields) (reading-at (S l .args .part .now)) (l .loop .t)

@@ -1,0 +1,3 @@
+pub mod DrawingLaws
+pub mod Shown
+pub mod TrendLaws

@@ -1,0 +1,2 @@
+-- What the numbers of a unit's line promise
+pub mod Spans
