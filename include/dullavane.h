@@ -12,14 +12,15 @@
    A CALL returns 0, or a refusal (below). After a refusal everything lent is as it was, the tally too: the same call can be made again with other
    bytes, or the book given up. dullavane_units alone may have added records before the one that it refuses, and they stay added.
 
-   WHERE. The six calls that take a book, and dullavane_trend, return 64 bits, by value: 0, or in bits 0 to 31 the refusal's number, in bits 32 to 47 the
-   place of the refused record in its body, from 1 (the settings' is 1, region r's is r + 1), and in bits 48 to 63 the refused point or reading, t = 1 to 75,
-   the first one where there are several. DULLAVANE_REFUSAL, DULLAVANE_PLACE and DULLAVANE_T take them apart. A record's call names the place of the record that
-   was to be taken, also where no byte of it is left; t comes with 74 and 84 alone. No place have 11, what dullavane_contents refuses, 12 for a tally of fewer
-   than 8 words, and whatever dullavane_trend refuses: it reads a record alone, which stands in no body. What is not there is 0; dullavane_write says itself
-   what it returns, and the other calls take no record of a body and return the number alone, which the same macros read. dullavane_units names the place in its
-   run instead, from 1, and with every refusal, 11 and 12 too: place - 1 records were added, which the tally counts. A run that is not a whole number of records
-   has 1 and place 0: none was added.
+   WHERE. The six calls that take a book, dullavane_trend and dullavane_report_read return 64 bits, by value: 0, or in bits 0 to 31 the refusal's number, in
+   bits 32 to 47 the place of the refused record in its body, from 1 (the settings' is 1, region r's is r + 1), and in bits 48 to 63 t, the refused point or
+   reading, 1 to 75, or the refused column of a report's row, 1 to 7, the first one where there are several. DULLAVANE_REFUSAL, DULLAVANE_PLACE and
+   DULLAVANE_T take them apart. A record's call names the place of the record that was to be taken, also where no byte of it is left; t comes with 74, 84 and
+   18 alone. No place have 11, what dullavane_contents refuses, 12 for a tally of fewer than 8 words, and whatever dullavane_trend and dullavane_report_read
+   refuse: they read a record or a row alone, which stands in no body. What is not there is 0. dullavane_write, dullavane_report_row and dullavane_report
+   return 64 bits too: number and length, as each says itself. The other calls take no record of a body and return the number alone, in 32 bits, which the
+   same macros read. dullavane_units names the place in its run instead, from 1, and with every refusal, 11 and 12 too: place - 1 records were added, which
+   the tally counts. A run that is not a whole number of records has 1 and place 0: none was added.
 
    THE TALLY says how far a book is: 8 words that dullavane_contents makes and every call that takes a record moves on.
        [0] units announced, 0 to 512             [4] smoothing, 1 to 10,000
@@ -28,8 +29,8 @@
        [3] least number the next may have        [7] interval number
    It can be copied, stored and handed in again with the lists as they were at that time. Words that no chain of calls could have left are
    safe: a call answers, or refuses with 11. So is a stored tally over lists that another book has begun to fill since: each region's figures keep the
-   interval number of their book, and from the other book's first frequency record on dullavane_unit, dullavane_units, dullavane_answer and dullavane_member
-   refuse the tally with 11. Only a book sent again under the same interval number is not told apart from the one before.
+   interval number of their book, and from the other book's first frequency record on dullavane_unit, dullavane_units, dullavane_answer, dullavane_member and
+   dullavane_report refuse the tally with 11. Only a book sent again under the same interval number is not told apart from the one before.
 
    A PART is the bytes of the book that start at the record whose turn it is: at least the record, or as many as there are. Only the last
    requirement looks past its record: there the part has to be all that is left of the book, so that bytes too many are seen (refusal 4).
@@ -44,6 +45,7 @@
        dullavane_requirement   tally[1] times                          24 bytes each; keep them for the answers
        dullavane_answer        after the last unit, for any requirement, in any order, as often as wanted
        dullavane_member        likewise, for any row: who stands in it
+       dullavane_report        likewise, for any row of the book's performance report, in any version
    The book has ended, and may be settled, when tally[2] is 6 + tally[0] + tally[1].
 
    REFUSALS
@@ -66,10 +68,12 @@
            not 0 though it is not the group's first
        10  a field of a requirement breaks its rule, or its number does not rise
        11  not this call's turn; or the tally, or a lent number that the call reads, is out of range: none that these calls leave is; or a region's
-           figures are of another interval than the tally
-       12  a lent list is too short
+           figures are of another interval than the tally; of a report also a row past the last, or a number over its field
+       12  a lent list is too short; of a report's row also the text
        14  the average of a week is below the limit of its field in a book
+       15  a row of the performance report: its interval ends past the year 9999 (an interval number over DULLAVANE_LAST_INTERVAL)
        17  a week of more than 2,016 intervals, or a live performance that no such member can have
+       18  a row that dullavane_report_row never writes, whatever performances it is given; t is its first wrong column, 1 to 7
    7, 8 and 13 are nobody's: earlier versions gave 7 and 8 where 71 to 74 and 81 to 84 are told apart now, and no call can meet 13.
    5 is given, too, where who a week's member is, as a number, is over 512, and by dullavane_sheet, which says when.
    dullavane_trend gives 12, 1, 81, 82, 83 and 84 alone: 9 and 16 speak of a unit's neighbours, and a record alone has none. A bad reading is no refusal.
@@ -145,6 +149,17 @@
    A BAD UNIT, with any bad reading, is no refusal: its points stay as they were, its strip is three positive zeros, and drawn is 0. A plant that sits on its
    set point has three positive zeros too, and drawn is 75: go by drawn.
 
+   THE PERFORMANCE REPORT. A row of it is a line of text: date and time, unit, raise performance, type, lower performance, type, version, with six commas and a
+   line feed, 64 to 106 bytes (DULLAVANE_REPORT_BYTES):
+       20/07/2021 05:10:00,1,0.987454049,Calculated,-1.552833070,Default,1
+   Interval n ends 5 n minutes after 01/01/2000 00:00:00, so that midnight carries the new day. The unit is its number, a group's its primary's, or Residual, a
+   space and the region's name. A performance is in MWHz with nine decimals: the nearest of 2/15 of our number, in billionths; minus zero is never written. Its
+   type is Calculated, or Default where the payment default stands in, each direction its own. dullavane_report_row writes a row from its numbers,
+   dullavane_report a row of a taken book: the members in roster order, then the five regions' residuals; dullavane_report_read reads a row back. For a whole
+   report count the rows from 0 until 11 is returned. Text and numbers are lent, and may be longer than is asked for:
+       text               the row's length uint8_t, 106 for any; written from its start, bytes past the row stay
+       numbers            8 int64_t (DULLAVANE_REPORT_NUMBERS), what a row that was read says; numbers past them stay
+
    What is proved of each call, for any bytes, words and lists whatever: its return value and every lent number after it are those of the
    definitions that document 01 is written out in. What is outside the proof: this header, the caller, and the compiler's back end, with it how the core
    divides and compares floats. */
@@ -182,7 +197,9 @@ enum {
     DULLAVANE_UNIT_ROW = 12,
     DULLAVANE_REQUIREMENT_ROW = 7,
     DULLAVANE_STRIP_POINTS = 75,
-    DULLAVANE_DRAWN_NUMBERS = 1
+    DULLAVANE_DRAWN_NUMBERS = 1,
+    DULLAVANE_REPORT_BYTES = 106,
+    DULLAVANE_LAST_INTERVAL = 841518719
 };
 
 /* The words of an answer, in their order: how many members the requirement has, its RCR, the three pools, what of the used and of the unused pool is
@@ -222,6 +239,23 @@ enum { DULLAVANE_COUNT, DULLAVANE_DEFAULT, DULLAVANE_DEFAULT_NUMBERS };
 
 /* The numbers of a trend strip's small record, in MW. */
 enum { DULLAVANE_LOWEST, DULLAVANE_HIGHEST, DULLAVANE_LAST, DULLAVANE_STRIP_NUMBERS };
+
+/* The numbers of a row that was read, in their order: the interval number; 0 where the row is a unit's (or a group's, by its primary's number) and 1 where it
+   is a residual's; the unit's number, or the region's, 0 to 4; raise and lower in billionths of a MWHz, each with its type behind it; the version. */
+enum {
+    DULLAVANE_REPORT_INTERVAL,
+    DULLAVANE_REPORT_RESIDUAL,
+    DULLAVANE_REPORT_NUMBER,
+    DULLAVANE_REPORT_RAISE,
+    DULLAVANE_REPORT_RAISE_TYPE,
+    DULLAVANE_REPORT_LOWER,
+    DULLAVANE_REPORT_LOWER_TYPE,
+    DULLAVANE_REPORT_VERSION,
+    DULLAVANE_REPORT_NUMBERS
+};
+
+/* The types of a row's performances: live, or the payment default that stands in. */
+enum { DULLAVANE_TYPE_CALCULATED, DULLAVANE_TYPE_DEFAULT };
 
 /* The columns of a region's row to be written: separation, FM before the interval, generation, and the first of six defaults (payment, used, unused for raise, then for
    lower). */
@@ -363,6 +397,31 @@ uint64_t dullavane_write(int64_t smoothing, int64_t limit, int64_t percent, int6
    which alone has t; never 9 or 16. A wrong field goes before a bad reading. */
 uint64_t dullavane_trend(const uint8_t *part, uint64_t part_bytes, float *points, uint64_t points_length, float *strip, uint64_t strip_length,
                          uint32_t *drawn, uint64_t drawn_length);
+
+/* Writes a row of the performance report from its numbers: the interval number; 0 for a unit's row or 1 for a residual's; the unit's number (any of 16 bits,
+   0 too) or the region's; raise and lower as performances (1 MWHz is 7,500,000,000; any signed 64 bits), each with its type; the version. Bytes past the row
+   stay. Returns in bits 0 to 31 the refusal's number, 0 where the row is written, and then in bits 32 to 63 its length (DULLAVANE_REFUSAL, DULLAVANE_LENGTH):
+   go by the number, since the whole reply is never 0. On a refusal nothing is written. Refuses 11 (a unit's number or a version over 65,535, a region over 4,
+   residual or a type over 1), 15 (an interval number over DULLAVANE_LAST_INTERVAL), 12 (the text is shorter than the row). */
+uint64_t dullavane_report_row(uint32_t interval, uint32_t residual, uint32_t number, int64_t raise, uint32_t raise_type, int64_t lower, uint32_t lower_type,
+                              uint32_t version, uint8_t *text, uint64_t text_bytes);
+
+/* Writes a row of a taken book's report; row 0 is the first. There is one for each member in roster order (a row of the roster that is passed over, home 10,
+   is no member's), then one for each of the five regions' residuals; performances are live, or the payment default. It may be asked once every unit is taken,
+   for any row, as often as wanted. The text and the reply are those of dullavane_report_row. Refuses 12 (the tally's words), 11 (the tally; before the last
+   unit; a version over 65,535), 12 (a list: 50 figures, tally[0] numbers, tally[0] homes, 8 x tally[0] rows), 11 (figures of another interval; then: no such
+   row; then: a lent number that the row reads is out of range), 15, 12 (the text). A member's row reads its home (at most 9 there), the eight numbers of its
+   row of the roster (limits as in dullavane_answer) and the figures of its region; a residual's reads the figures of its region and home and numbers of every
+   row of the roster, as dullavane_answer does. */
+uint64_t dullavane_report(const uint32_t *tally, uint64_t tally_words, uint32_t row, uint32_t version, const int64_t *figures, uint64_t figures_length,
+                          const uint16_t *numbers, uint64_t numbers_length, const uint8_t *homes, uint64_t homes_length,
+                          const int64_t *rows, uint64_t rows_length, uint8_t *text, uint64_t text_bytes);
+
+/* Reads a row back, with its line feed and nothing behind it, into eight numbers; numbers past them stay. It takes exactly the rows that dullavane_report_row
+   writes. Returns 0, or in bits 0 to 31 the refusal's number and in bits 48 to 63 t; the place is 0. On a refusal nothing is written. Refuses 12 (fewer than
+   eight numbers), then 18 with the first wrong column, 1 to 7, as t. A column is what stands between two commas, whatever it is, a line feed too; the seventh
+   is all that stands behind the sixth comma. A column that is not there is wrong. */
+uint64_t dullavane_report_read(const uint8_t *row, uint64_t row_bytes, int64_t *numbers, uint64_t numbers_length);
 
 #ifdef __cplusplus
 }

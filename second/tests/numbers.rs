@@ -12,13 +12,16 @@ use second::listing::settle;
 use second::make::{make, CLASSES};
 use second::records::{record_line, share_line};
 use second::replay::replay;
+use second::report_lines::ReportDoors;
+use second::report_script;
 use second::script::Script;
 use second::week_books::trial;
 use second::week_script::write_script;
 use second::write::to_bytes;
 
 /// Without 13, which request R-10 took away, and 7 and 8, which request R-1 split: none of them is given again.
-const NUMBERS: [u8; 21] = [1, 2, 3, 4, 5, 6, 71, 72, 73, 74, 81, 82, 83, 84, 9, 10, 11, 12, 14, 16, 17];
+const NUMBERS: [u8; 23] =
+    [1, 2, 3, 4, 5, 6, 71, 72, 73, 74, 81, 82, 83, 84, 9, 10, 11, 12, 14, 15, 16, 17, 18];
 
 /// The number of a line `refused N ...`.
 fn refused(answer: &str) -> Option<u8> {
@@ -73,6 +76,12 @@ fn of_weeks_of_books() -> BTreeSet<u8> {
     (0..600).filter_map(|turn| refused(&replay(&trial(7, turn).bytes).0)).collect()
 }
 
+fn of_reports() -> BTreeSet<u8> {
+    let mut doors = ReportDoors::default();
+    let answers = report_script::script(3_000, 7).map(|(_, line)| doors.answer(&line));
+    answers.filter_map(|answer| replied(&answer)).collect()
+}
+
 #[test]
 fn shares_are_refused_with_5_alone() {
     assert_eq!(of_shares(), BTreeSet::from([5]));
@@ -82,7 +91,7 @@ fn shares_are_refused_with_5_alone() {
 #[test]
 fn these_numbers_are_met() {
     let all = [of_books(), of_shares(), of_records(), of_calls(), of_weeks(), of_weeks_of_books()];
-    let met: BTreeSet<u8> = all.into_iter().flatten().collect();
+    let met: BTreeSet<u8> = all.into_iter().chain([of_reports()]).flatten().collect();
     assert_eq!(met, BTreeSet::from(NUMBERS));
 }
 

@@ -1,6 +1,6 @@
 -- DEMAND 2, WHOLE: once a chain of calls has all units in, `answer` over any part that a requirement's record starts gives exactly the rules' answer about the
 -- book that was taken: its figures, and in the columns each number of its lines; and `member` over the rows gives each line's name and standing. Nothing is
--- refused.
+-- refused. And `report` gives each row of the rules' report of the book (02, R-11).
 use mathlib.Core.Path.{_≡_, refl, sym, _∙_, ap, ap₂}
 use mathlib.Core.Bool.{true, false, _&&_}
 use mathlib.Core.List.{List, [], _∷_, _++_, map}
@@ -15,6 +15,7 @@ use Rattle.rules.specs.RequirementRecord.{requirement-record}
 use Rattle.rules.specs.WholeBook.{book}
 use Rattle.rules.specs.Members.{Member, unit, residual}
 use Rattle.rules.specs.Answer.{Line, lines-of, answered, answer, Answer as Full}
+use Rattle.rules.specs.Report.{report-rows}
 use Rattle.interval.specs.declared.Tally.{Tally}
 use Rattle.interval.specs.Tally.{before-units, units-end, in-range, answer-turn}
 use Rattle.interval.specs.Lent.{Lent, regions-long, rows-long}
@@ -29,16 +30,18 @@ use Rattle.chain.proofs.BookRefused.{book-way}
 use Rattle.chain.specs.BookChain.{book-of}
 use Rattle.chain.proofs.Spelled.{book-means, spelled-hands, chain-book}
 use Rattle.chain.specs.Answerable.{Answerable}
+use Rattle.chain.proofs.ReportIs.{row-there, row-past, report-is}
 use Rattle.chain.proofs.Answerable.{chain-answerable, units-answerable, ended-answerable, requirement-read}
 use Rattle.answer.specs.declared.Row.{Row}
 use Rattle.answer.specs.Lists.{gathered}
 use Rattle.answer.specs.Roster.{Named, row-says, row-answer, MemberPromise}
 use Rattle.answer.proofs.RosterLaws.{named, walk, member-taken, set-five}
+use Rattle.answer.specs.Report.{report-found}
 use Rattle.answer.specs.declared.Answered.{Answered}
 use Rattle.answer.specs.declared.Answered.the-variants.{Given}
 use Rattle.answer.specs.Promises.{Columns, columns-long, answer-reply, shown, replied, with-lines, AnswerPromise}
 use Rattle.answer.proofs.CallLaws.{record-fine}
-use Rattle.answer.specs.BookAnswered.{Answers, BookAnswered, RulesAnswer, RulesAnswers, SpelledAnswered, line-named}
+use Rattle.answer.specs.BookAnswered.{Answers, BookAnswered, RulesAnswer, RulesAnswers, RulesReport, SpelledAnswered, line-named}
 
 names-of : (h : ℕ → Member → Line) → ((i : ℕ) (m : Member) → line-named (h i m) ≡ named m) → (ms : List Member) → map line-named (numbered h ms) ≡ map named ms
 unfolding numbered
@@ -94,12 +97,27 @@ module _ {b : Book} {t : Tally} {l : Lent} (h : Answerable b t l) (part : List �
   pub rules-answer : RulesAnswer b t l part q
   rules-answer = record { answered = figures-answered; rows = row-answered; lines = lines-named }
 
+-- a row of the report is the rules'
+pub rules-report : {b : Book} {t : Tally} {l : Lent} → Answerable b t l → RulesReport b t l
+rules-report {b} h row version r p =
+    let rows = report-rows b version in
+    let reply = p .reply ∙ ap report-found (report-is h row version) in
+    record {
+      there = λ z k. reply ∙ ap report-found (row-there rows row z k);
+      past = λ k. reply ∙ ap report-found (row-past rows row k);
+    }
+
 -- ---- OF WHATEVER WAS HANDED IN: the book is the one that the parts spell which were taken, whatever was refused in between
 -- once all units are in: its settings, regions and roster are the records taken, and its requirements make no difference
 pub taken-answered :
     {head : List ℕ} {part : ℕ → List ℕ} {l₀ : Lent} {n : ℕ} {t : Tally} {l : Lent} → Chain head part l₀ n t l → before-units + counts-in head .units ≤ n →
     ((m i : ℕ) → m < n → getD (part m) i 0 < 256) → (qs : List Requirement) → RulesAnswers (book-of (counts-in head .units) part qs) t l
 taken-answered d all bytes qs = rules-answer (chain-answerable d all bytes qs)
+
+pub taken-reported :
+    {head : List ℕ} {part : ℕ → List ℕ} {l₀ : Lent} {n : ℕ} {t : Tally} {l : Lent} → Chain head part l₀ n t l → before-units + counts-in head .units ≤ n →
+    ((m i : ℕ) → m < n → getD (part m) i 0 < 256) → (qs : List Requirement) → RulesReport (book-of (counts-in head .units) part qs) t l
+taken-reported d all bytes qs = rules-report (chain-answerable d all bytes qs)
 
 pub chain-answered :
     {head : List ℕ} {part : ℕ → List ℕ} {l₀ : Lent} {t : Tally} {l : Lent} → Chain head part l₀ (records-in head) t l →
@@ -119,6 +137,11 @@ module _
   pub units-answered :
       {l₀ : Lent} {n : ℕ} {t : Tally} {l : Lent} → Chain head part l₀ n t l → before-units + counts-in head .units ≤ n → RulesAnswers b t l
   units-answered d all = rules-answer (units-answerable hands b e d all bytes)
+
+  -- its report, row by row, from the last unit on
+  pub book-reported :
+      {l₀ : Lent} {n : ℕ} {t : Tally} {l : Lent} → Chain head part l₀ n t l → before-units + counts-in head .units ≤ n → RulesReport b t l
+  book-reported d all = rules-report (units-answerable hands b e d all bytes)
 
   pub book-answered : (l₀ : Lent) → Long l₀ (counts-in bs .units) → BookAnswered b head part l₀
   book-answered l₀ long =

@@ -8,6 +8,7 @@ pub mod MadeLaws
 pub mod PoolsLaws
 pub mod Promises
 pub mod RcrLaws
+pub mod ReportLaws
 pub mod ResidualLaws
 pub mod RosterLaws
 pub mod SharesLaws

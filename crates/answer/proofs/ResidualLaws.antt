@@ -46,7 +46,7 @@ use Rattle.answer.specs.declared.Field.the-variants.{Payment, Used, Unus
 use Rattle.answer.specs.declared.Member.{Member}
 use Rattle.answer.specs.declared.residual.Held.{Held}
 use Rattle.answer.specs.Made.{performance-at, picked}
-use Rattle.answer.specs.Residual.{RowsWithin, performances-there, Holds, region-made, worse-of, RegionsWithin, residual-to}
+use Rattle.answer.specs.Residual.{RowsWithin, performances-there, Holds, region-made, worse-of, PerformancesWithin, RegionsWithin, residual-to}
 use Rattle.answer.proofs.UnitsHeld.{units-held, held-≤, units-≤}
 
 -- ---- a region's rows
@@ -134,7 +134,7 @@ module _ {at r n : ℕ} {l : Lent} {h : Held} (k : Holds at r n l h) where
 
 -- the direction's performances, of homes and rows alone
 pub rows-toward :
-    (d : Direction) {at units : ℕ} {l : Lent} → at ≡ performance-at d → RegionsWithin units l → RowsWithin at units (lent-members [] (l .homes) (l .rows))
+    (d : Direction) {at units : ℕ} {l : Lent} → at ≡ performance-at d → PerformancesWithin units l → RowsWithin at units (lent-members [] (l .homes) (l .rows))
 rows-toward d {at} {units} {l} e h = rw e (alone (by-direction d))
   where
     by-direction : (d : Direction) → RowsWithin (performance-at d) units l
@@ -281,8 +281,8 @@ module _ (units : ℕ) (l : Lent) (d : Direction) (set : ℕ) where
     default-within Lower r f b k = let e : 7 + f ≡ 4 + (3 + f) = omega arith in rw e (h .defaults r (3 + f) b (omega arith))
 
     turned-size : (d : Direction) (r : ℕ) → natAbs (residual-of (tally-of units 0 0) l d r) ≤ in-region r * performance-limit
-    turned-size Raise r = rw abs-neg (held-size (h .raise) r units (omega arith))
-    turned-size Lower r = rw abs-neg (held-size (h .lower) r units (omega arith))
+    turned-size Raise r = rw abs-neg (held-size (h .performances .raise) r units (omega arith))
+    turned-size Lower r = rw abs-neg (held-size (h .performances .lower) r units (omega arith))
 
     -- each number of a region is within a unit's limit for each of its units and a residual's default limit
     abbrev pub Sized : (Member → ℤ) → Type 0
@@ -312,7 +312,7 @@ module _ (units : ℕ) (l : Lent) (d : Direction) (set : ℕ) where
                 sumℕ-plus regions (λ r. in-region r * performance-limit) (λ r. residual-default-limit),
                 sumℕ-times regions performance-limit in-region,
                 mul-le-mul-right performance-limit (in-one-region units l),
-                h .raise .few,
+                h .performances .raise .few,
               );
         }
 
@@ -323,7 +323,7 @@ module _ (units : ℕ) (l : Lent) (d : Direction) (set : ℕ) where
         let more : sum (n + 1) (λ r. when (bit r set) (pick (region r))) ≡ sum n (λ r. when (bit r set) (pick (region r))) +ℤ pick (region n) = sum-step n
         (λ r. when (bit r set) (pick (region r))) ∙ rw e in
         let size : Within 3_130_000_000_000_000_000 (pick (region n)) =
-        record { size = omega (arith, s n b, there-≤ n l units, h .raise .few) } in
+        record { size = omega (arith, s n b, there-≤ n l units, h .performances .raise .few) } in
         record {
           first = fits-within tt (regions-within pick s n (omega arith));
           second = fits-within tt size;

@@ -54,7 +54,7 @@ pub member-only :
 member-only a b = a .reply ∙ sym (b .reply)
 
 -- ---- a row by its number and home
-standing-of-row :
+pub standing-of-row :
     (l : Lent) (d : Direction) (i : ℕ) →
     standing (reliable-of (lent-members (l .figures) [] []) d (getD (l .homes) i 0 / 2)) (eqb (getD (l .homes) i 0 % 2) 1) BadUnit ≡ row-standing l d i
 standing-of-row l Raise i = refl

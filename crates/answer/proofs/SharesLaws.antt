@@ -98,7 +98,7 @@ module _ {f : Field} {units : ℕ} {d : Direction} {set : ℕ} {l : Lent} {resid
       })
 
   pub members-513 : r ≤ 513
-  members-513 = omega (arith, k .many, numbers-few f units d set l, h .tested .regions .raise .few)
+  members-513 = omega (arith, k .many, numbers-few f units d set l, h .tested .regions .performances .raise .few)
 
   pub members-charged : {T : ℕ} {u : Shared} {was now : List ℤ} → Charged T (take r new) was u now → MembersCharged f T units d set l old was u new now
   members-charged c = let e = rw (front .1) at c in record { reply = e .reply; column = k .column; amounts = e .amounts }

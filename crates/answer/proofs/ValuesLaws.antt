@@ -16,12 +16,12 @@ use Rattle.integers.proofs.Tests.{leZ-true}
 use Rattle.integers.specs.Sums.{both}
 use Rattle.integers.proofs.Sums.{every-at}
 use Rattle.rules.specs.declared.Direction.{Direction}
-use Rattle.rules.specs.Quantities.{regions, amount-limit, performance-limit, unit-default-limit, residual-default-limit}
+use Rattle.rules.specs.Quantities.{regions, most-units, amount-limit, performance-limit, unit-default-limit, residual-default-limit}
 use Rattle.rules.specs.Book.{Requirement}
 use Rattle.rules.specs.Fields.{sized, default-fine}
 use Rattle.laws.proofs.LimitsLaws.{size-fits}
 use Rattle.interval.specs.declared.Tally.{Tally}
-use Rattle.interval.specs.Lent.{Lent, passed-over, in-row, row-fine, of-interval}
+use Rattle.interval.specs.Lent.{Lent, figures-length, passed-over, row-each, in-row, row-fine, of-interval}
 use Rattle.kept.specs.Kept.{figure, row-member, residual-row, rows-of, kept-members}
 use Rattle.kept.specs.Range.{from-0, units-at, unit-fine, series-fine, figures-fine, rows-fine, kept-fine}
 use Rattle.answer.specs.Asked.{lent-members}
@@ -29,7 +29,7 @@ use Rattle.answer.specs.Lent.{Long}
 use Rattle.answer.specs.declared.Field.{Field}
 use Rattle.answer.specs.declared.Field.the-variants.{Payment, Used, Unused}
 use Rattle.answer.specs.Made.{picked, field-of}
-use Rattle.answer.specs.Residual.{residual-to}
+use Rattle.answer.specs.Residual.{PerformancesWithin, residual-to}
 use Rattle.answer.specs.Lists.{headed, gathered}
 use Rattle.answer.proofs.Lists.{headed-none, headed-more, gathered-none, gathered-more, gathered-length}
 use Rattle.answer.specs.Values.{InRange, Listed, RowPut, RowsPut, meant, numbers, row-number, row-numbers}
@@ -101,10 +101,7 @@ default-within limit x e =
     let b = both _ _ e in
     within-both (leZ-true (b .0)) (≤ℤ-trans (leZ-true (b .1)) (le-out (omega arith)))
 
-module _ (t : Tally) (l : Lent) (long : Long (t .units) l) (fine : kept-fine t l ≡ true) where
-  lent : (figures-fine t l ≡ true) × (rows-fine t l ≡ true)
-  lent = both (figures-fine t l) (rows-fine t l) (both (series-fine t l) _ fine .1)
-
+module _ (t : Tally) (l : Lent) (fine : rows-fine t l ≡ true) where
   parts :
       (i : ℕ) → i < t .units →
       (getD (l .homes) i 0 ≤ passed-over) × Within (performance-limit * units-at (l .homes) i) (in-row (l .rows) i 0)
@@ -113,7 +110,7 @@ module _ (t : Tally) (l : Lent) (long : Long (t .units) l) (fine : kept-fine t l
   unfolding rows-fine row-fine
   parts i b =
       let most = performance-limit * units-at (l .homes) i in
-      let row = every-at (t .units) (unit-fine l) (lent .1) i b in
+      let row = every-at (t .units) (unit-fine l) fine i b in
       let home = both (leb (getD (l .homes) i 0) passed-over) _ row in
       let raise = both (sized most (in-row (l .rows) i 0)) _ (home .1) in
       let lower = both (sized most (in-row (l .rows) i 1)) _ (raise .1) in (
@@ -122,6 +119,21 @@ module _ (t : Tally) (l : Lent) (long : Long (t .units) l) (fine : kept-fine t l
         size-fits most _ (lower .0),
         λ f m. default-within unit-default-limit _ (every-at 6 (λ f. default-fine unit-default-limit (in-row (l .rows) i (2 + f))) (lower .1) f m),
       )
+
+-- both performances, of rows in range that are there
+pub performances-within :
+    (t : Tally) (l : Lent) → t .units ≤ most-units → figures-length ≤ length (l .figures) → t .units ≤ length (l .homes) →
+    row-each * t .units ≤ length (l .rows) → rows-fine t l ≡ true → PerformancesWithin (t .units) (lent-members (l .figures) (l .homes) (l .rows))
+performances-within t l few figures homes rows fine =
+    record {
+      figures = figures;
+      raise = record { place = omega arith; few = few; homes = homes; rows = rows; within = λ i b. parts t l fine i b .1 };
+      lower = record { place = omega arith; few = few; homes = homes; rows = rows; within = λ i b. parts t l fine i b .2 };
+    }
+
+module _ (t : Tally) (l : Lent) (long : Long (t .units) l) (fine : kept-fine t l ≡ true) where
+  lent : (figures-fine t l ≡ true) × (rows-fine t l ≡ true)
+  lent = both (figures-fine t l) (rows-fine t l) (both (series-fine t l) _ fine .1)
 
   default-is : (r f : ℕ) → r < regions → f < 6 → Within residual-default-limit (figure l r (4 + f))
   unfolding figures-fine
@@ -142,16 +154,14 @@ module _ (t : Tally) (l : Lent) (long : Long (t .units) l) (fine : kept-fine t l
                 figures = long .figures;
                 homes = omega (arith, long .homes);
                 rows = omega (arith, long .rows);
-                home = parts i b .0;
+                home = parts t l (lent .1) i b .0;
               };
         };
         regions = record {
-          figures = long .figures;
-          raise = record { place = omega arith; few = long .few; homes = long .homes; rows = long .rows; within = λ i b. parts i b .1 };
-          lower = record { place = omega arith; few = long .few; homes = long .homes; rows = long .rows; within = λ i b. parts i b .2 };
+          performances = performances-within t l (long .few) (long .figures) (long .homes) (long .rows) (lent .1);
           defaults = default-is;
         };
-        defaults = λ i f b m. parts i b .3 f m;
+        defaults = λ i f b m. parts t l (lent .1) i b .3 f m;
       }
 
 -- ---- the residual's number behind those of the rows

@@ -62,8 +62,8 @@ module _ (units : ℕ) (l : Lent) (h : InRange units l) where
   most i = performance-limit * units-at (l .homes) i
 
   performance-within : (d : Direction) (i : ℕ) → i < units → Within (most i) (performance-of l d i)
-  performance-within Raise i b = h .regions .raise .within i b
-  performance-within Lower i b = h .regions .lower .within i b
+  performance-within Raise i b = h .regions .performances .raise .within i b
+  performance-within Lower i b = h .regions .performances .lower .within i b
 
   default-within : (d : Direction) (f i : ℕ) → f < 3 → i < units → Within (most i) (unit-default l d f i)
   default-within d f i m b = within-wider (omega (arith, units-some (l .homes) i)) (go d)
@@ -95,5 +95,5 @@ module _ (units : ℕ) (l : Lent) (h : InRange units l) where
         sumℕ-times units performance-limit (units-held (l .homes)),
         held-≤ (l .homes) units,
         residual-within units l d s (h .regions) f .size,
-        h .regions .raise .few,
+        h .regions .performances .raise .few,
       )

@@ -4,12 +4,15 @@ use mathlib.Core.Bool.{true, false}
 use mathlib.Core.List.{List, [], _∷_, _++_, map}
 use Prim.Native.Nat.{ℕ, _+_, _≤_, _<_}
 use lib.ListN.{length, getD}
+use Rattle.rules.specs.declared.Refusal.the-variants.{WrongState}
+use Rattle.rules.specs.declared.ReportRow.{ReportRow}
 use Rattle.rules.specs.Refusals.{taken}
 use Rattle.rules.specs.Book.{Requirement, covers, Book}
 use Rattle.rules.specs.RequirementRecord.{requirement-record}
 use Rattle.rules.specs.WholeBook.{book}
 use Rattle.rules.specs.Members.{unit, residual}
 use Rattle.rules.specs.Answer.{Line, answered, answer, Answer as Full}
+use Rattle.rules.specs.Report.{report-rows}
 use Rattle.interval.specs.declared.Tally.{Tally}
 use Rattle.interval.specs.Tally.{before-units}
 use Rattle.interval.specs.Lent.{Lent}
@@ -22,6 +25,9 @@ use Rattle.chain.specs.Spelled.{spelled}
 use Rattle.answer.specs.declared.Row.{Row}
 use Rattle.answer.specs.Lists.{gathered}
 use Rattle.answer.specs.Roster.{Named, row-says, MemberPromise}
+use Rattle.answer.specs.declared.ReportFound.{ReportFound}
+use Rattle.answer.specs.declared.ReportFound.the-variants.{Found, Refused}
+use Rattle.answer.specs.Report.{ReportPromise}
 use Rattle.answer.specs.declared.Answered.{Answered}
 use Rattle.answer.specs.declared.Answered.the-variants.{Given}
 use Rattle.answer.specs.Promises.{Columns, columns-long, shown, with-lines, AnswerPromise}
@@ -52,6 +58,14 @@ pub record RulesAnswer (b : Book) (t : Tally) (l : Lent) (part : List ℕ) (q : 
 -- to every requirement, asked for with any part that its record starts, cut or not, of the book or any other
 abbrev pub RulesAnswers : Book → Tally → Lent → Type 0
 RulesAnswers b t l = (part : List ℕ) (q : Requirement) → requirement-record 0 false part ≡ taken q → RulesAnswer b t l part q
+
+-- ---- THE RULES' REPORT of a book: what `report` gives, each of its rows by its number from 0, z standing where a report has none; past the last row 11
+pub record Reports (b : Book) (row version : ℕ) (r : ReportFound) : Type 0 where
+  pub there : (z : ReportRow) → row < length (report-rows b version) → r ≡ Found (getD (report-rows b version) row z)
+  pub past : length (report-rows b version) ≤ row → r ≡ Refused WrongState
+
+abbrev pub RulesReport : Book → Tally → Lent → Type 0
+RulesReport b t l = (row version : ℕ) (r : ReportFound) → ReportPromise t row version l r → Reports b row version r
 
 -- the book's requirements are asked for by their own parts; z stands where a book has none
 abbrev pub Asks : List ℕ → (ℕ → List ℕ) → Book → Type 0

@@ -9,6 +9,7 @@ pub mod Residual
 pub mod Values
 pub mod Rcr
 pub mod Roster
+pub mod Report
 pub mod Pools
 pub mod Shares
 pub mod Tested

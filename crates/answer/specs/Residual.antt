@@ -68,10 +68,14 @@ worse-of (Default NoGoodUnit) Live = Default NoGoodUnit
 worse-of (Default NoGoodUnit) (Default why) = Default why
 
 -- figures of five regions, and rows with both performances
-pub record RegionsWithin (units : ℕ) (l : Lent) : Type 0 where
+pub record PerformancesWithin (units : ℕ) (l : Lent) : Type 0 where
   pub figures : figures-length ≤ length (l .figures)
   pub raise : RowsWithin 0 units l
   pub lower : RowsWithin 1 units l
+
+-- and the five regions' defaults
+pub record RegionsWithin (units : ℕ) (l : Lent) : Type 0 where
+  pub performances : PerformancesWithin units l
   pub defaults : (r f : ℕ) → r < regions → f < 6 → Within residual-default-limit (figure l r (4 + f))
 
 -- ---- the residual of the first n regions of a set

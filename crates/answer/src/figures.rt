@@ -20,7 +20,7 @@ const AMOUNT_LIMIT: i64 = 2_000_000;
 
 const LEAST_DEFAULT: i64 = -50_000_000_000_000_000;
 
-fn region_within(region: usize, figures: &[i64]) -> bool
+pub(crate) fn region_within(region: usize, figures: &[i64]) -> bool
     requires { ⌜ (region < 5) × (50 ≤ length (now figures)) ⌝ }
     ensures { λ r. ⌜ r ≡ region-fine (lent-members (now (figures .entry)) [] []) region ⌝ }
 {

@@ -1,8 +1,10 @@
 // answer: a requirement's answer, from what the calls of `interval` keep to the cents (document 01, Members, Factors, RCR and Cents). It can
-// be asked for again, in any order, once every unit is in; nothing but the five lent columns is written. Two doors: `call::answer`, and
-// `roster::member`, which says who stands in a row. Each tests what is lent to it, once; past it the functions ask for what was tested.
+// be asked for again, in any order, once every unit is in; nothing but the five lent columns is written. Three doors: `call::answer`,
+// `roster::member`, which says who stands in a row, and `report::report`, which gives a row of the performance report (document 02, R-11). Each tests what is
+// lent to it, once; past it the functions ask for what was tested.
 use rules::Direction;
 use rules::Refusal;
+use rules::ReportRow;
 use rules::Standing;
 
 pub mod call;
@@ -16,6 +18,7 @@ mod points;
 mod pools;
 mod rcr;
 mod regions;
+pub mod report;
 mod residual;
 pub mod roster;
 mod rows;
@@ -54,6 +57,12 @@ pub(crate) struct Member {
 pub enum Row {
     Unit(u16, Standing),
     Other,
+    Refused(Refusal),
+}
+
+// A row of the performance report, or the refusal.
+pub enum ReportFound {
+    Found(ReportRow),
     Refused(Refusal),
 }
 

@@ -6,7 +6,7 @@ ghost use Prim.Native.Nat.{_+_, _<_, _≤_};
 ghost use lib.Dec.{eqb, leb};
 ghost use lib.ListN.{length};
 ghost use Rattle.answer.specs.Asked.{lent-members};
-ghost use Rattle.answer.specs.Residual.{RowsWithin, Holds, residual-made, region-made, worse-of, RegionsWithin, residual-to};
+ghost use Rattle.answer.specs.Residual.{RowsWithin, Holds, residual-made, region-made, worse-of, PerformancesWithin, RegionsWithin, residual-to};
 use super::DEFAULTS;
 use super::Member;
 use super::homes::is_good;
@@ -105,7 +105,7 @@ fn with_defaults(
 }
 
 // A region's residual: minus the performances of its good plants.
-fn region_member(
+pub(crate) fn region_member(
     direction: Direction,
     region: usize,
     units: usize,
@@ -113,7 +113,7 @@ fn region_member(
     homes: &[u8],
     rows: &[i64],
 ) -> Member
-    requires { ⌜ (region < 5) × RegionsWithin units (lent-members (now figures) (now homes) (now rows)) ⌝ }
+    requires { ⌜ (region < 5) × PerformancesWithin units (lent-members (now figures) (now homes) (now rows)) ⌝ }
     ensures { λ r. ⌜ r ≡ region-made units (lent-members (now (figures .entry)) (now (homes .entry)) (now (rows .entry))) direction region ⌝ }
 {
     let held = rows_held(performance_place(direction), region, units, homes, rows);

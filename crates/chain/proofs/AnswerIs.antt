@@ -80,7 +80,7 @@ use Rattle.kept.specs.Kept.{
 use Rattle.chain.specs.Keeps.{Keeps, roster-unit}
 
 -- ---- the images of those indexes that pass are the same where the tests and the images are
-those-same : {B : Type 0} (p q : ℕ → Bool) (f g : ℕ → B) (k n : ℕ) → ((i : ℕ) → i < k + n → p i ≡ q i) → ((i : ℕ) → i < k + n → q i ≡ true → f i ≡ g i) →
+pub those-same : {B : Type 0} (p q : ℕ → Bool) (f g : ℕ → B) (k n : ℕ) → ((i : ℕ) → i < k + n → p i ≡ q i) → ((i : ℕ) → i < k + n → q i ≡ true → f i ≡ g i) →
     map f (those p (listed k n (λ j. j))) ≡ map g (those q (listed k n (λ j. j)))
 unfolding those listed
 those-same p q f g k zero hp hf = refl
@@ -206,19 +206,19 @@ module _
     (t : Tally) (l : Lent) (b : Book) (h : Keeps t l b) (inside : All (λ u. u .region < regions) (b .roster))
     (fits : (r p : ℕ) → r < regions → p < points → Within measure-limit (measure-in b r p)) where
   -- ---- a row that is not passed over is its plant
-  abbrev many : ℕ
+  abbrev pub many : ℕ
   many = length (b .roster)
 
-  abbrev plant : ℕ → Plant
+  abbrev pub plant : ℕ → Plant
   plant = plant-at (roster-unit b)
 
-  abbrev last : ℕ → Bool
+  abbrev pub last : ℕ → Bool
   last = ends (roster-unit b) many
 
-  region-fits : (j : ℕ) → j < many → plant j .region < regions
+  pub region-fits : (j : ℕ) → j < many → plant j .region < regions
   region-fits j i = rw (h .regions j i) (all-at (λ u. u .region < regions) (b .roster) inside j (unit-in []) i)
 
-  home-is : (j : ℕ) → j < many → getD (l .homes) j 0 ≡ cond (last j) (home (plant j .region) (plant j .good)) passed-over
+  pub home-is : (j : ℕ) → j < many → getD (l .homes) j 0 ≡ cond (last j) (home (plant j .region) (plant j .good)) passed-over
   home-is j i = h .homes j i ∙ ap (λ (r : ℕ). cond (last j) (home r (plant j .good)) passed-over) (sym (h .regions j i))
 
   region-is : (j : ℕ) → j < many → last j ≡ true → region-of l j ≡ plant j .region
@@ -266,7 +266,7 @@ module _
   plant-defaults-are Lower j i = (row-by j 5 i (omega arith), row-by j 6 i (omega arith), row-by j 7 i (omega arith))
 
   -- the plants of the roster are those of their last units
-  plants-are : plants (b .roster) ≡ map plant (those last (listed 0 many (λ j. j)))
+  pub plants-are : plants (b .roster) ≡ map plant (those last (listed 0 many (λ j. j)))
   plants-are = ap plants (sym (listed-back (b .roster) (unit-in []))) ∙ plants-listed (roster-unit b) many
 
   -- those of them that pass
@@ -276,12 +276,12 @@ module _
       ∙ ap (map plant) (those-those (λ i. q (plant i)) last (listed 0 many (λ j. j)))
 
   -- ---- figures are their region's
-  reliable-at : (d : Direction) (r : ℕ) → r < regions → reliable-of l d r ≡ reliable-in b d r
+  pub reliable-at : (d : Direction) (r : ℕ) → r < regions → reliable-of l d r ≡ reliable-in b d r
   unfolding reliable-in
   reliable-at Raise r i = ap (λ (x : ℤ). ltZ (pos 0) x) (h .figures r 2 i (omega arith)) ∙ figure-reliable (reliable (b .settings) (regionOf b r) Raise)
   reliable-at Lower r i = ap (λ (x : ℤ). ltZ (pos 0) x) (h .figures r 3 i (omega arith)) ∙ figure-reliable (reliable (b .settings) (regionOf b r) Lower)
 
-  residual-defaults-are : (d : Direction) (r : ℕ) → r < regions → (residual-default l d 0 r ≡ by d (regionOf b r .defaults) .payment) ×
+  pub residual-defaults-are : (d : Direction) (r : ℕ) → r < regions → (residual-default l d 0 r ≡ by d (regionOf b r .defaults) .payment) ×
       (residual-default l d 1 r ≡ by d (regionOf b r .defaults) .used) × (residual-default l d 2 r ≡ by d (regionOf b r .defaults) .unused)
   residual-defaults-are Raise r i = (h .figures r 4 i (omega arith), h .figures r 5 i (omega arith), h .figures r 6 i (omega arith))
   residual-defaults-are Lower r i = (h .figures r 7 i (omega arith), h .figures r 8 i (omega arith), h .figures r 9 i (omega arith))
@@ -292,7 +292,7 @@ module _
       ap₂ (λ (s t : Bool). standing s t BadUnit) (ap (λ (r : ℕ). reliable-of l d r) (region-is j i e)
       ∙ reliable-at d (plant j .region) (region-fits j i)) (good-is j i e)
 
-  row-is : (d : Direction) (j : ℕ) → j < many → last j ≡ true → row-member l d j ≡ plant-member b d (plant j)
+  pub row-is : (d : Direction) (j : ℕ) → j < many → last j ≡ true → row-member l d j ≡ plant-member b d (plant j)
   unfolding plant-member
   row-is d j i e =
       let s = standing-is d j i e in
@@ -322,7 +322,7 @@ module _
   no-region-five : (r : ℕ) → r < regions → eqb r regions ≡ false
   no-region-five r m = ne-eqb r regions (λ e. omega arith)
 
-  some-good-is : (r : ℕ) → r < regions → some-good-or-none-of t l r ≡ some-good-or-none b r
+  pub some-good-is : (r : ℕ) → r < regions → some-good-or-none-of t l r ≡ some-good-or-none b r
   unfolding some-good-or-none
   some-good-is r m =
       ap₂ (λ (g n : ℕ). leb 1 g || eqb n 0)
@@ -358,7 +358,7 @@ module _
               ∙ when-there (λ s. when (plant j .good) (at s (plant j))) r (plant j .region)
           go false e = rw (region-past j i e, no-region-five r m)
 
-  value-is : (d : Direction) (field : ℕ) (pick : Defaults → ℤ) (r : ℕ) → r < regions → residual-default l d field r ≡ pick (by d (regionOf b r .defaults)) →
+  pub value-is : (d : Direction) (field : ℕ) (pick : Defaults → ℤ) (r : ℕ) → r < regions → residual-default l d field r ≡ pick (by d (regionOf b r .defaults)) →
       residual-value t l d field r ≡ residual-or b d pick r
   value-is d field pick r i e =
       live-or-same (ap₂ (λ (s t : Bool). standing s t NoGoodUnit) (reliable-at d r i) (some-good-is r i)) (residual-at d r i) e

@@ -1,5 +1,5 @@
 -- ANSWERABLE: once a chain has all units in, all is there for the answers, and stays so: the tally is in range, the lent lists are long enough and in range,
--- and what is kept gives the rules' answer to any requirement.
+-- and what is kept gives the rules' answer to any requirement, and the rows of the rules' report.
 use mathlib.Core.Path.{_≡_, sym, _∙_, ap, subst}
 use mathlib.Core.Bool.{Bool, true, false, not, _&&_, _||_}
 use mathlib.Core.List.{List}
@@ -35,7 +35,7 @@ use Rattle.chain.proofs.BookWay.{hands-counts, hands-chain}
 use Rattle.chain.proofs.KeptInRange.{passes-both}
 use Rattle.chain.proofs.Spelled.{spelled-hands, chain-book}
 use Rattle.chain.specs.BookChain.{book-of}
-use Rattle.chain.proofs.BookChain.{chain-answers, chain-kept-in-range, book-records, requirements-many}
+use Rattle.chain.proofs.BookChain.{chain-answers, chain-reports, chain-kept-in-range, book-records, requirements-many}
 use Rattle.chain.specs.Answerable.{Answerable}
 
 -- ---- of any chain that has all units in, for the book of the records that it took
@@ -59,6 +59,7 @@ module _
         long = chain-long;
         lent = chain-kept-in-range d all;
         answers = chain-answers d all qs;
+        reports = chain-reports d all qs;
       }
 
   pub chain-answerable : ((m i : ℕ) → m < n → getD (part m) i 0 < 256) → (qs : List Requirement) → Answerable (book-of (counts-in head .units) part qs) t l

@@ -9,10 +9,10 @@ use lib.Dec.{eqb}
 use lib.ListN.{length, getD, drop}
 use Rattle.integers.specs.Totals.{total, All}
 use Rattle.integers.specs.Bounds.{Within}
-use Rattle.rules.specs.Quantities.{regions, measure-limit}
+use Rattle.rules.specs.Quantities.{points, regions, measure-limit}
 use Rattle.rules.specs.Bytes.{listed}
 use Rattle.laws.proofs.BytesLaws.{listed-from-zero}
-use Rattle.rules.specs.Refusals.{taken}
+use Rattle.rules.specs.Refusals.{taken, _>>=_}
 use Rattle.rules.specs.Contents.{frequency-start, unit-start, requirement-start, requirement-size}
 use Rattle.rules.specs.FrequencyRecord.{region-in}
 use Rattle.rules.specs.UnitRecord.{unit-in}
@@ -21,15 +21,17 @@ use Rattle.rules.specs.WholeBook.{book}
 use Rattle.rules.specs.Book.{Settings, Region, Unit, Requirement, Book, regionOf, no-region}
 use Rattle.laws.proofs.Limits.{UnitFits, BookFits}
 use Rattle.laws.proofs.LimitsLaws.{settings-fit, region-fits}
-use Rattle.rules.specs.Measure.{measure}
+use Rattle.rules.specs.Measure.{measure, measure-in}
 use Rattle.rules.specs.Plants.{Plant, plants, plants-in, good-plants}
 use Rattle.rules.specs.Performance.{weight, weight-in, wanted}
 use Rattle.rules.specs.Answer.{answer}
+use Rattle.rules.specs.Report.{report-rows}
 use Rattle.interval.specs.declared.Tally.{Tally}
 use Rattle.interval.specs.Tally.{before-units}
 use Rattle.interval.specs.Lent.{Lent, kept-measure, figures-of, row-of}
 use Rattle.kept.specs.Kept.{kept-answer}
 use Rattle.kept.specs.Range.{kept-fine}
+use Rattle.kept.specs.KeptReport.{place-of, place-row}
 use Rattle.chain.proofs.ChainLaws.{all-listed, listed-ext, listed-length}
 use Rattle.chain.specs.PlantsAt.{plant-at, home-at}
 use Rattle.chain.proofs.PlantsAt.{plant-region, plants-same, homes-same}
@@ -44,6 +46,8 @@ use Rattle.chain.proofs.BookRecords.{settings-part, frequency-place, un
 use Rattle.chain.specs.Keeps.{Keeps, roster-unit}
 use Rattle.chain.proofs.KeptInRange.{kept-in-range}
 use Rattle.chain.proofs.AnswerIs.{answer-is}
+use Rattle.chain.specs.Reports.{row-at}
+use Rattle.chain.proofs.ReportIs.{rows-are-reported}
 use Rattle.chain.specs.BookChain.{book-of}
 
 module _
@@ -120,13 +124,21 @@ module _
             ap (λ (p : Plant). p .region) (sym (plant-is j k)) ∙ plant-in j k ∙ ap (λ (u : Unit). u .region) (unit-is j k);
       }
 
+  inside : All (λ u. u .region < regions) (b .roster)
+  inside = all-listed (λ u. u .region < regions) many (unit part) (λ i h. unit-fine i h .region)
+
+  measured : (r p : ℕ) → r < regions → p < points → Within measure-limit (measure-in b r p)
+  measured r p h k =
+      subst (λ (x : Region). Within measure-limit (measure (the-settings part) x p)) (region-is r h)
+      (measure-fits head part l₀ m r (region-there r h) p k)
+
   -- so it gives the rules' answer to any requirement
   pub chain-answers : (q : Requirement) → q .set ≤ 31 → kept-answer t l q ≡ answer b q
-  chain-answers =
-      answer-is t l b chain-keeps (all-listed (λ u. u .region < regions) many (unit part) (λ i h. unit-fine i h .region))
-      (λ r p h k.
-      subst (λ (x : Region). Within measure-limit (measure (the-settings part) x p)) (region-is r h)
-      (measure-fits head part l₀ m r (region-there r h) p k))
+  chain-answers = answer-is t l b chain-keeps inside measured
+
+  -- and the rows of the rules' report
+  pub chain-reports : (row version : ℕ) → (place-of t l row >>= (λ p. taken (place-row t l version p))) ≡ row-at (report-rows b version) row
+  chain-reports = rows-are-reported t l b chain-keeps inside measured
 
 -- and it is in range, which the requirements have no part in
 module _

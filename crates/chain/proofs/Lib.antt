@@ -16,6 +16,8 @@ pub mod BookWay
 pub mod BookRefused
 pub mod KeptInRange
 pub mod AnswerIs
+pub mod Places
+pub mod ReportIs
 pub mod BookChain
 pub mod Spelled
 pub mod BookRuns

@@ -12,5 +12,6 @@ pub mod BookRuns
 pub mod Keeps
 pub mod BookChain
 pub mod Spelled
+pub mod Reports
 pub mod Answerable
 pub mod Mixed

@@ -6,6 +6,7 @@ pub mod Demand3
 pub mod NoFairerSplit
 pub mod OurSheet
 pub mod TrendStrip
+pub mod PerformanceReport
 pub mod OtherBook
 pub mod WeekDefaults
 pub mod WordsAnswered

@@ -21,6 +21,7 @@ use Rattle.interval.specs.Calls.{left, unit-long}
 use Rattle.interval.specs.Promises.{UnitPromise}
 use Rattle.interval.specs.Run.{Ran, in-run, records-in, whole}
 use Rattle.interval.proofs.RunLaws.{first-refused}
+use Rattle.kept.specs.KeptReport.{report-long, report-reply}
 use Rattle.kept.specs.Kept.{kept-answer}
 use Rattle.chain.specs.Mixed.{Told}
 use Rattle.chain.proofs.Mixed.{told-unit}
@@ -33,6 +34,7 @@ use Rattle.dullavane.specs.Called.{Called}
 use Rattle.dullavane.specs.Promises.{UnitCalled}
 use Rattle.dullavane.specs.Runs.{UnitsCalled}
 use Rattle.dullavane.specs.Answers.{AnswerCalled, answered-after, answered-number, reply-words}
+use Rattle.dullavane.specs.Reports.{book-row, report-answer, ReportCalled}
 use Rattle.dullavane.specs.Asked.{MemberCalled, asked-narrow, asked-tally, direction-of, in-turn, member-words, row-after, row-number}
 use Rattle.demands.proofs.WordsLaws.{is-stepped}
 use Rattle.demands.proofs.WordsRuns.{as-it-came, run-steps}
@@ -84,10 +86,15 @@ module _ (t : Tally) (l : Lent) (apart : Told t l) where
   member-refused row d set long =
       rw (long, apart .figures, refused-anyway {A = Row} (set-fine set && ltb row (t .units))) (refused-anyway (in-range t && answer-turn t))
 
+  report-refused : (row version : ℕ) → report-long (t .units) l ≡ true → report-reply t row version l ≡ refused WrongState
+  unfolding report-reply
+  report-refused row version long = rw (long, apart .figures) (refused-anyway (in-range t && answer-turn t))
+
 -- ---- THE THEOREM
 module _ (stored : List ℕ) (t : Tally) (l : Lent) (h : held stored ≡ taken t) (apart : Told t l) where
   pub told-apart : ToldApart stored t l
-  told-apart = record { unit = unit; units = units; answer = answer; member = member }
+  unfolding book-row report-answer
+  told-apart = record { unit = unit; units = units; answer = answer; member = member; report = report }
     where
       unit :
           {p stored′ : List ℕ} {r : ℕ} {l′ : Lent} → unit-long (units-taken t + 1) l ≡ true → UnitCalled stored p l r stored′ l′ →
@@ -135,3 +142,16 @@ module _ (stored : List ℕ) (t : Tally) (l : Lent) (h : held stored ≡ taken t
           refuses s w =
               let e = w .reply ∙ ap row-answer (member-refused t l apart row (direction-of direction) set long) in
               (ap row-number e, ap (λ (x : Row). row-after x us) e, tt)
+
+      report :
+          {row version : ℕ} {old new : List ℕ} {r : ℕ} → report-long (t .units) l ≡ true → ReportCalled stored row version l old r new →
+          (r ≡ number WrongState) × (new ≡ old)
+      report {row} {version} long c =
+          let e = go (asked-either stored (ltb version 65_536) true h refl) in
+          (rw e at (c .reply), rw e at (c .text))
+        where
+          go :
+              (asked-tally stored (ltb version 65_536) true ≡ refused WrongState) ⊎ (asked-tally stored (ltb version 65_536) true ≡ taken t) →
+              book-row stored row version l ≡ refused WrongState
+          go (inl e) = rw e
+          go (inr e) = rw e (report-refused t l apart row version long)

@@ -17,3 +17,4 @@ pub mod Demand3
 pub mod NoFairerSplit
 pub mod OurSheet
 pub mod TrendStrip
+pub mod PerformanceReport

@@ -12,6 +12,7 @@ use Rattle.interval.specs.Tally.{units-taken}
 use Rattle.interval.specs.Lent.{Lent, regions-long, rows-long}
 use Rattle.interval.specs.Calls.{unit-long}
 use Rattle.interval.specs.Run.{in-run, records-in, whole}
+use Rattle.kept.specs.KeptReport.{report-long}
 use Rattle.answer.specs.Promises.{Columns, columns-long}
 use Rattle.answer.specs.Roster.{member-long}
 use Rattle.dullavane.specs.Words.{said}
@@ -19,6 +20,7 @@ use Rattle.dullavane.specs.Promises.{UnitCalled}
 use Rattle.dullavane.specs.Runs.{UnitsCalled}
 use Rattle.dullavane.specs.Answers.{reply-words, AnswerCalled}
 use Rattle.dullavane.specs.Asked.{member-words, MemberCalled}
+use Rattle.dullavane.specs.Reports.{ReportCalled}
 
 pub record ToldApart (stored : List ℕ) (t : Tally) (l : Lent) : Type 0 where
   pub unit :
@@ -33,3 +35,6 @@ pub record ToldApart (stored : List ℕ) (t : Tally) (l : Lent) : Type 0 where
   pub member :
       {row direction set : ℕ} {us us′ : List ℕ} {r : ℕ} → member-long (t .units) l ≡ true → member-words ≤ length us →
       MemberCalled stored row direction set l us r us′ → (r ≡ number WrongState) × (us′ ≡ us)
+  pub report :
+      {row version : ℕ} {old new : List ℕ} {r : ℕ} → report-long (t .units) l ≡ true → ReportCalled stored row version l old r new →
+      (r ≡ number WrongState) × (new ≡ old)

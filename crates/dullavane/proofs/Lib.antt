@@ -6,5 +6,6 @@ pub mod RunsLaws
 pub mod WeeklyLaws
 pub mod WordsLaws
 pub mod TrendsLaws
+pub mod ReportsLaws
 pub mod VerdictsLaws
 pub mod WritingLaws

@@ -110,7 +110,8 @@ same-words (a ∷ []) long = absurd (omega arith)
 same-words [] long = absurd (omega arith)
 
 -- eight stores in a row
-pub eight-stores : (ws : List ℕ) (a b c d e f g h : ℕ) → 8 ≤ length ws → set (set (set (set (set (set (set (set ws 0 a) 1 b) 2 c) 3 d) 4 e) 5 f) 6 g) 7 h ≡
+pub eight-stores : {A : Type 0} (ws : List A) (a b c d e f g h : A) → 8 ≤ length ws →
+    set (set (set (set (set (set (set (set ws 0 a) 1 b) 2 c) 3 d) 4 e) 5 f) 6 g) 7 h ≡
     a ∷ b ∷ c ∷ d ∷ e ∷ f ∷ g ∷ h ∷ drop 8 ws
 eight-stores (i ∷ j ∷ k ∷ l ∷ m ∷ n ∷ o ∷ p ∷ ws) a b c d e f g h long = refl
 eight-stores (i ∷ j ∷ k ∷ l ∷ m ∷ n ∷ o ∷ []) a b c d e f g h long = absurd (omega arith)

@@ -9,3 +9,4 @@ pub mod Weekly
 pub mod Verdicts
 pub mod Writing
 pub mod Trends
+pub mod Reports

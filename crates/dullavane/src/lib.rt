@@ -6,10 +6,14 @@ ghost use Rattle.dullavane.specs.Answers.{AnswerCalled};
 ghost use Rattle.dullavane.specs.Asked.{MemberCalled};
 ghost use Rattle.dullavane.specs.Verdicts.{SheetCalled};
 ghost use Rattle.dullavane.specs.Trends.{TrendCalled};
+ghost use Rattle.answer.specs.Report.{lent-report};
+ghost use Rattle.dullavane.specs.Reports.{row-narrow, row-in, RowCalled, ReportCalled, ReadCalled};
 ghost use Rattle.dullavane.specs.Writing.{WriteCalled, handed-in};
 ghost use Rattle.dullavane.specs.Weekly.{WeekCalled, WeeksCalled, WeekAddCalled, WeekReadCalled};
 ghost use Rattle.dullavane.specs.Runs.{UnitsCalled};
 ghost use Rattle.dullavane.specs.Promises.{ContentsCalled, SettingsCalled, FrequencyCalled, UnitCalled, RequirementCalled};
+use answer::ReportFound;
+use answer::report::report;
 use answer::roster::member;
 use asked::asked_refusal;
 use asked::direction_of;
@@ -21,7 +25,16 @@ use interval::Opened;
 use interval::contents::contents;
 use interval::requirement::requirement;
 use interval::settings::settings;
+use report_row::read::read_row;
+use report_row::write::write_row;
+use reports::row_narrow;
+use reports::tell_row_read;
+use reports::tell_row_written;
+use reports::type_in;
+use reports::whose_in;
+use rules::Figure;
 use rules::Refusal;
+use rules::ReportRow;
 use rules::locate;
 use rules::refusal_number;
 use runs::FIRST_PLACE;
@@ -47,6 +60,7 @@ use weeks::roster::roster;
 use weeks::roster::whose_of;
 use weeks::running::add;
 use weeks::running::read;
+use words::OVER_16_BITS;
 use words::TALLY_WORDS;
 use words::put_words;
 use words::said;
@@ -58,6 +72,7 @@ use writer::write::write;
 use writing::tell_written;
 
 mod asked;
+mod reports;
 mod runs;
 mod trends;
 mod verdicts;
@@ -67,6 +82,9 @@ mod writing;
 
 // How many words tell who stands in a row.
 const MEMBER_WORDS: usize = 3;
+
+// How many numbers a row of the report is read back into.
+const ROW_NUMBERS: usize = 8;
 
 // How many words an answer's figures take.
 const REPLY_WORDS: usize = 8;
@@ -453,4 +471,89 @@ pub extern "C" fn dullavane_trend(
         return refusal_number(Refusal::TooShort) as u64;
     }
     tell_trend(trend(part, points), strip, drawn)
+}
+
+// Writes a row of the performance report from its numbers: its length, or the refusal. Refuses 11 for a number over its field, 15, then 12 for the text.
+#[no_mangle]
+pub extern "C" fn dullavane_report_row(
+    interval: u32,
+    residual: u32,
+    number: u32,
+    raise: i64,
+    raise_type: u32,
+    lower: i64,
+    lower_type: u32,
+    version: u32,
+    text: &mut [u8],
+) -> u64
+    ensures { λ r. ⌜
+        RowCalled (row-narrow residual number «raise_type» «lower_type» version)
+        (row-in interval residual number raise «raise_type» lower «lower_type» version) (now (text .entry)) r (now (text .exit))
+        ⌝ }
+{
+    if !row_narrow(residual, number, raise_type, lower_type, version) {
+        return refusal_number(Refusal::WrongState) as u64;
+    }
+    let row = ReportRow {
+        interval: interval,
+        whose: whose_in(residual, number),
+        raise: Figure {
+            performance: raise,
+            typed: type_in(raise_type),
+        },
+        lower: Figure {
+            performance: lower,
+            typed: type_in(lower_type),
+        },
+        version: version as u16,
+    };
+    tell_row_written(write_row(row, text))
+}
+
+// Writes a row of a taken book's report, 0 the first: the members in roster order, then the five regions' residuals. Refuses 12 for the tally's words, 11 out
+// of turn or for a version over 16 bits, then as `report` does: 12 for lists, 11 for lent numbers and a row past the last; then 15, and 12 for the text.
+#[no_mangle]
+pub extern "C" fn dullavane_report(
+    tally: &[u32],
+    row: u32,
+    version: u32,
+    figures: &[i64],
+    numbers: &[u16],
+    homes: &[u8],
+    rows: &[i64],
+    text: &mut [u8],
+) -> u64
+    ensures { λ r. ⌜
+        ((rest : Lent) → ReportCalled (now (tally .entry)) row version
+        (lent-report rest (now (figures .entry)) (now (numbers .entry)) (now (homes .entry)) (now (rows .entry))) (now (text .entry)) r (now (text .exit)))
+        ⌝ }
+{
+    let refusal = asked_refusal(tally, version < OVER_16_BITS, true);
+    if refusal != 0 {
+        return refusal as u64;
+    }
+    let found = report(
+        tally_in(tally),
+        row,
+        version as u16,
+        figures,
+        numbers,
+        homes,
+        rows,
+    );
+    match found {
+        ReportFound::Found(shown) => tell_row_written(write_row(shown, text)),
+        ReportFound::Refused(why) => said(locate(0, why)),
+    }
+}
+
+// Reads a row of the report back into eight numbers. Refuses 12 for fewer, then 18 with the first wrong column as t.
+#[no_mangle]
+pub extern "C" fn dullavane_report_read(row: &[u8], numbers: &mut [i64]) -> u64
+    ensures { λ r. ⌜ ReadCalled (now (row .entry)) (now (numbers .entry)) r (now (numbers .exit)) ⌝ }
+{
+    if ROW_NUMBERS <= numbers.len() {
+        return tell_row_read(read_row(row), numbers);
+    }
+    refusal_number(Refusal::TooShort) as u64
 }

@@ -16,8 +16,10 @@ use Rattle.rules.specs.declared.Refusal.the-variants.{
   WrongState,
   TooShort,
   AverageTooLow,
+  YearPast,
   WrongGroup,
   WrongWeek,
+  WrongRow,
   FrequencyHeader,
   FrequencyDefault,
   FrequencyQuality,
@@ -59,8 +61,10 @@ tellable RequirementField = record { some = omega arith; few = omega arith; no-s
 tellable WrongState = record { some = omega arith; few = omega arith; no-seven = λ e. omega arith; no-eight = λ e. omega arith; no-thirteen = λ e. omega arith }
 tellable TooShort = record { some = omega arith; few = omega arith; no-seven = λ e. omega arith; no-eight = λ e. omega arith; no-thirteen = λ e. omega arith }
 tellable AverageTooLow = record { some = omega arith; few = omega arith; no-seven = λ e. omega arith; no-eight = λ e. omega arith; no-thirteen = λ e. omega arith }
+tellable YearPast = record { some = omega arith; few = omega arith; no-seven = λ e. omega arith; no-eight = λ e. omega arith; no-thirteen = λ e. omega arith }
 tellable WrongGroup = record { some = omega arith; few = omega arith; no-seven = λ e. omega arith; no-eight = λ e. omega arith; no-thirteen = λ e. omega arith }
 tellable WrongWeek = record { some = omega arith; few = omega arith; no-seven = λ e. omega arith; no-eight = λ e. omega arith; no-thirteen = λ e. omega arith }
+tellable (WrongRow column) = record { some = omega arith; few = omega arith; no-seven = λ e. omega arith; no-eight = λ e. omega arith; no-thirteen = λ e. omega arith }
 tellable FrequencyHeader = record { some = omega arith; few = omega arith; no-seven = λ e. omega arith; no-eight = λ e. omega arith; no-thirteen = λ e. omega arith }
 tellable FrequencyDefault = record { some = omega arith; few = omega arith; no-seven = λ e. omega arith; no-eight = λ e. omega arith; no-thirteen = λ e. omega arith }
 tellable FrequencyQuality = record { some = omega arith; few = omega arith; no-seven = λ e. omega arith; no-eight = λ e. omega arith; no-thirteen = λ e. omega arith }

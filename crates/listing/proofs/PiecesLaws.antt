@@ -1,14 +1,14 @@
 -- Laws of the definitions in specs/Pieces.antt.
 use mathlib.Core.Path.{_≡_, refl, sym, _∙_, ap}
-use mathlib.Core.Bool.{Bool, true, false}
+use mathlib.Core.Bool.{Bool, true, false, _&&_, true≢false}
 use mathlib.Core.List.{List, [], _∷_, _++_, append-assoc}
 use Prim.Native.Nat.{ℕ, zero, suc, _+_, _-_, _/_, _%_, _≤_, _<_, _^_}
 use native.Mathlib.Omega.{arith}
 use native.Mathlib.Nat.{pow-suc, div-lt-iff-lt-mul}
-use borrow.Author.Tests.{lt-ltb, le-ltb}
-use lib.Dec.{ltb, lit≤}
+use borrow.Author.Tests.{lt-ltb, le-ltb, le-leb, lt-leb}
+use lib.Dec.{leb, ltb, lit≤}
 use lib.IntN.{ℤ, pos, negsuc, natAbs}
-use lib.ListN.{length, take, drop, set, length-append, length-drop, length-set}
+use lib.ListN.{length, take, drop, set, length-append, length-drop, length-set, take-append-drop}
 use lib.Seq.{drop-cons, getD-set-same, drop-set-lt, paste, length-paste, take-length, take-take, take-set-le, take-at, length-take-le, drop-at}
 use lib.Signed.{_≤ℤ_, _<ℤ_}
 use Rattle.integers.specs.Pairs.{loss}
@@ -16,7 +16,7 @@ use Rattle.integers.proofs.Pairs.{lt-in}
 use Rattle.rules.specs.declared.Direction.{Direction}
 use Rattle.rules.specs.declared.Direction.the-variants.{Raise, Lower}
 use Rattle.rules.specs.Text.{text, digits, natural, integer}
-use Rattle.listing.specs.Pieces.{Put, Room, after-space, direction-piece}
+use Rattle.listing.specs.Pieces.{Put, Room, has-room, PutWhereRoom, after-space, direction-piece}
 
 pub room-less : {j k at : ℕ} {line : List ℕ} → j ≤ k → Room k at line → Room j at line
 room-less h r = record { free = omega (arith, r .free); inside = r .inside }
@@ -70,6 +70,62 @@ put-byte old at b h l =
     let inside : i < length (set old i b) = omega (arith, length-set old i b) in
     drop-cons (set old i b) i 0 inside
     ∙ rw (getD-set-same old i b 0 (omega arith), drop-set-lt (suc i) old i b (omega arith), e)
+
+-- ---- where there is room, and where there is none
+room-tested : {k at : ℕ} {line : List ℕ} → Room k at line → has-room k at line ≡ true
+room-tested {k} {at} {line} m = rw (le-leb k at (m .free), le-leb at (length line) (m .inside))
+
+pub put-there : {k at r : ℕ} {piece old new : List ℕ} → Room k at old → PutWhereRoom k piece at old r new → Put piece at old r new
+put-there m p = p .put (room-tested m)
+
+pub where-room : {k at r : ℕ} {piece old new : List ℕ} → Room k at old → Put piece at old r new → PutWhereRoom k piece at old r new
+where-room {k} {at} {old = old} m p = record { put = λ e. p; place-kept = λ e. absurd (no e); line-kept = λ e. absurd (no e) }
+  where
+    no : has-room k at old ≡ false → ⊥
+    no e = true≢false (sym (room-tested m) ∙ e)
+
+module _ {k at : ℕ} {piece line : List ℕ} where
+  nothing-put : has-room k at line ≡ false → PutWhereRoom k piece at line at line
+  nothing-put e = record { put = λ t. absurd (true≢false (sym t ∙ e)); place-kept = λ _. refl; line-kept = λ _. refl }
+
+  pub too-near : at < k → PutWhereRoom k piece at line at line
+  too-near h = nothing-put (rw (lt-leb k at h))
+
+  pub outside : length line < at → PutWhereRoom k piece at line at line
+  outside h = nothing-put (go (leb k at))
+    where
+      go : (t : Bool) → t && leb at (length line) ≡ false
+      go true = lt-leb at (length line) h
+      go false = refl
+
+-- no two answers are allowed
+put-whole : {piece old : List ℕ} {at r : ℕ} {new : List ℕ} → Put piece at old r new → new ≡ take r old ++ (piece ++ drop at old)
+put-whole {old = old} {r = r} {new = new} p =
+    sym (take-append-drop r new) ∙ ap (λ (l : List ℕ). l ++ drop r new) (p .before) ∙ ap (λ (l : List ℕ). take r old ++ l) (p .bytes)
+
+pub put-only : {piece old : List ℕ} {at r r′ : ℕ} {new new′ : List ℕ} → Put piece at old r new → Put piece at old r′ new′ → (r ≡ r′) × (new ≡ new′)
+put-only {piece} {old} {at} {r} {r′} a b =
+    let e : r ≡ r′ = omega (arith, a .place, b .place) in
+    (e, put-whole a ∙ ap (λ (i : ℕ). take i old ++ (piece ++ drop at old)) e ∙ sym (put-whole b))
+
+module _ {k at r r′ : ℕ} {piece old new new′ : List ℕ} where
+  where-only : PutWhereRoom k piece at old r new → PutWhereRoom k piece at old r′ new′ → (r ≡ r′) × (new ≡ new′)
+  where-only a b = go (has-room k at old) refl
+    where
+      go : (t : Bool) → has-room k at old ≡ t → (r ≡ r′) × (new ≡ new′)
+      go true e = put-only (a .put e) (b .put e)
+      go false e = (a .place-kept e ∙ sym (b .place-kept e), a .line-kept e ∙ sym (b .line-kept e))
+
+pub put-word-only : (word : List ℕ) {at r r′ : ℕ} {old new new′ : List ℕ} → PutWhereRoom (length word) word at old r new →
+    PutWhereRoom (length word) word at old r′ new′ → (r ≡ r′) × (new ≡ new′)
+put-word-only word = where-only
+
+pub put-number-only : (n : ℕ) {at r r′ : ℕ} {old new new′ : List ℕ} → PutWhereRoom 20 (natural n) at old r new →
+    PutWhereRoom 20 (natural n) at old r′ new′ → (r ≡ r′) × (new ≡ new′)
+put-number-only n = where-only
+
+pub size-only : (x : ℤ) {r r′ : ℕ} → r ≡ natAbs x → r′ ≡ natAbs x → r ≡ r′
+size-only x a b = a ∙ sym b
 
 -- ---- digits
 -- no more digits than the number may have

@@ -3,7 +3,7 @@
 use rules::Direction;
 
 pub mod lines;
-mod pieces;
+pub mod pieces;
 
 // How long the text is: no line is longer than a requirement's of the longest numbers, 11 + 7 * 21 + 6 bytes and a line feed.
 pub const LINE: usize = 165;

@@ -6,9 +6,12 @@ ghost use lib.ListN.{length};
 ghost use lib.Seq.{paste};
 ghost use Rattle.rules.specs.Text.{text, natural, integer};
 ghost use Rattle.rules.specs.Listing.{standing-word};
-ghost use Rattle.listing.specs.Pieces.{Room, Put, after-space, direction-piece};
+ghost use Rattle.listing.specs.Pieces.{Room, Put, PutWhereRoom, after-space, direction-piece};
 use rules::Direction;
 use rules::Standing;
+
+// A number of 64 bits has at most so many digits.
+const DIGITS: usize = 20;
 
 pub(crate) fn copy(source: &[u8], target: &mut [u8], to: usize)
     requires { ⌜ to + length (now source) ≤ length (now target) ⌝ }
@@ -30,6 +33,19 @@ pub(crate) fn put(word: &[u8], at: usize, line: &mut [u8]) -> usize
     from
 }
 
+// The same for the lines of other crates: where the word has no room, nothing is put.
+pub fn put_word(word: &[u8], at: usize, line: &mut [u8]) -> usize
+    ensures { λ r. ⌜ PutWhereRoom (length (now (word .entry))) (now (word .entry)) at (now (line .entry)) r (now (line .exit)) ⌝ }
+{
+    if at < word.len() {
+        return at;
+    }
+    if line.len() < at {
+        return at;
+    }
+    put(word, at, line)
+}
+
 // A number's digits, the last one first.
 fn put_digits(n: u64, at: usize, line: &mut [u8]) -> usize
     requires { ⌜ Room 20 at (now line) ⌝ }
@@ -47,6 +63,19 @@ fn put_digits(n: u64, at: usize, line: &mut [u8]) -> usize
     to
 }
 
+// The same for the lines of other crates: where twenty digits have no room, nothing is put.
+pub fn put_number(n: u64, at: usize, line: &mut [u8]) -> usize
+    ensures { λ r. ⌜ PutWhereRoom 20 (natural n) at (now (line .entry)) r (now (line .exit)) ⌝ }
+{
+    if at < DIGITS {
+        return at;
+    }
+    if line.len() < at {
+        return at;
+    }
+    put_digits(n, at, line)
+}
+
 pub(crate) fn put_natural(n: u64, at: usize, line: &mut [u8]) -> usize
     requires { ⌜ Room 21 at (now line) ⌝ }
     ensures { λ r. ⌜ Put (after-space (natural n)) at (now (line .entry)) r (now (line .exit)) ⌝ }
@@ -55,8 +84,8 @@ pub(crate) fn put_natural(n: u64, at: usize, line: &mut [u8]) -> usize
     put(b" ", to, line)
 }
 
-// The least i64 has no negative of its own; one more than a number below zero always has.
-fn size(x: i64) -> u64
+// A number without its sign. The least i64 has no negative of its own; one more than a number below zero always has.
+pub fn size(x: i64) -> u64
     ensures { λ r. ⌜ r ≡ natAbs x ⌝ }
 {
     if x < 0 {

@@ -1,5 +1,6 @@
 -- The numbers that the box can say no with (01), each by its name. Two of them come with no book: 11 is a call's alone, and 12 comes with a call or a share
--- whose room is too short (ShareLimits). None has the number 7, 8 or 13 (`laws`, never-again); 14 and 17 are those of a week (02, R-7).
+-- whose room is too short (ShareLimits). None has the number 7, 8 or 13 (`laws`, never-again); 14 and 17 are those of a week (02, R-7), 15 and 18 of a report
+-- (02, R-11).
 use mathlib.Core.Path.{_≡_, refl}
 use mathlib.Core.List.{[], _∷_, map}
 use Rattle.rules.specs.declared.Refusal.the-variants.{
@@ -14,8 +15,10 @@ use Rattle.rules.specs.declared.Refusal.the-variants.{
   WrongState,
   TooShort,
   AverageTooLow,
+  YearPast,
   WrongWeek,
   WrongGroup,
+  WrongRow,
   FrequencyHeader,
   FrequencyDefault,
   FrequencyQuality,
@@ -49,3 +52,9 @@ of-a-call = refl
 
 pub of-a-week : map number (AverageTooLow ∷ WrongWeek ∷ []) ≡ (14 ∷ 17 ∷ [])
 of-a-week = refl
+
+pub of-a-report : map number (YearPast ∷ WrongRow 7 ∷ []) ≡ (15 ∷ 18 ∷ [])
+of-a-report = refl
+
+pub columns : map point (YearPast ∷ WrongRow 1 ∷ WrongRow 7 ∷ []) ≡ (0 ∷ 1 ∷ 7 ∷ [])
+columns = refl

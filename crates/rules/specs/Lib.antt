@@ -33,6 +33,11 @@ pub mod Cents
 pub mod Answer
 pub mod Text
 pub mod Listing
+-- The performance report as text (document 02, R-11)
+pub mod Calendar
+pub mod ReportRow
+pub mod ReportRead
+pub mod Report
 -- The trend strip of a unit (document 02, R-2)
 pub mod Strip
 pub mod StripText

@@ -15,8 +15,10 @@ use Rattle.rules.specs.declared.Refusal.the-variants.{
   WrongState,
   TooShort,
   AverageTooLow,
+  YearPast,
   WrongGroup,
   WrongWeek,
+  WrongRow,
   FrequencyHeader,
   FrequencyDefault,
   FrequencyQuality,
@@ -54,10 +56,14 @@ number TooShort = 12
 -- 13 is nobody's: no share could meet it (02, R-10), and it is not given again
 -- the average of a week is below the limit of its book field (02, R-7)
 number AverageTooLow = 14
+-- the interval ends past the year 9999 (02, R-11)
+number YearPast = 15
 -- a group that is split, in two regions, or with a default off the primary (02, R-5)
 number WrongGroup = 16
 -- a week of more than 2,016 intervals, or a live performance that no such member can have (02, R-7)
 number WrongWeek = 17
+-- a row of the report that the writer never makes, with its first wrong column (02, R-11)
+number (WrongRow column) = 18
 -- a frequency record's header, default, quality or point breaks its rule
 number FrequencyHeader = 71
 number FrequencyDefault = 72
@@ -69,7 +75,7 @@ number UnitDefault = 82
 number UnitQuality = 83
 number (UnitReading t) = 84
 
--- for a refused point or reading also t, 1 to 75; 0 where there is none
+-- for a refused point or reading also t, 1 to 75, and for a report's row the column; 0 where there is none
 abbrev pub point : Refusal → ℕ
 point EndsEarly = 0
 point WrongMark = 0
@@ -82,8 +88,10 @@ point RequirementField = 0
 point WrongState = 0
 point TooShort = 0
 point AverageTooLow = 0
+point YearPast = 0
 point WrongGroup = 0
 point WrongWeek = 0
+point (WrongRow column) = column
 point FrequencyHeader = 0
 point FrequencyDefault = 0
 point FrequencyQuality = 0

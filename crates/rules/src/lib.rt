@@ -66,8 +66,8 @@ pub enum Verdict {
     WrongSide(Side),
 }
 
-// What the box says no with, in the order of the numbers 1 to 6, 9 to 12, 14, 16, 17, 71 to 74 and 81 to 84. None has the number 7, 8 or 13, and none
-// will (02, R-1 and R-10). A refused point or reading says which, t = 1 to 75.
+// What the box says no with, in the order of the numbers 1 to 6, 9 to 12, 14 to 18, 71 to 74 and 81 to 84. None has the number 7, 8 or 13, and none
+// will (02, R-1 and R-10). A refused point or reading says which, t = 1 to 75, and a report's row its first wrong column, 1 to 7.
 pub enum Refusal {
     EndsEarly,
     WrongMark,
@@ -80,8 +80,10 @@ pub enum Refusal {
     WrongState,
     TooShort,
     AverageTooLow,
+    YearPast,
     WrongGroup,
     WrongWeek,
+    WrongRow(u8),
     FrequencyHeader,
     FrequencyDefault,
     FrequencyQuality,
@@ -112,6 +114,42 @@ pub enum Trend {
     Refused(Refusal),
 }
 
+// The five regions, by the names that they print as.
+pub enum RegionName {
+    Qld1,
+    Nsw1,
+    Vic1,
+    Sa1,
+    Tas1,
+}
+
+// Whose a row of the performance report is: a member's, by its unit number (a group's by its primary's), or a region's residual's.
+pub enum Reported {
+    Unit(u16),
+    Residual(RegionName),
+}
+
+// The type of a report's performance: it was calculated, or a default stands in.
+pub enum FigureType {
+    Calculated,
+    Default,
+}
+
+// A performance with its type.
+pub struct Figure {
+    pub performance: i64,
+    pub typed: FigureType,
+}
+
+// A row of the performance report. Raise and lower are performances where a row is written, and billionths of a MWHz where one was read.
+pub struct ReportRow {
+    pub interval: u32,
+    pub whose: Reported,
+    pub raise: Figure,
+    pub lower: Figure,
+    pub version: u16,
+}
+
 // The number that the box shows.
 pub fn refusal_number(refusal: Refusal) -> u32
     ensures { λ r. ⌜ r ≡ number refusal ⌝ }
@@ -128,8 +166,10 @@ pub fn refusal_number(refusal: Refusal) -> u32
         Refusal::WrongState => 11,
         Refusal::TooShort => 12,
         Refusal::AverageTooLow => 14,
+        Refusal::YearPast => 15,
         Refusal::WrongGroup => 16,
         Refusal::WrongWeek => 17,
+        Refusal::WrongRow(_) => 18,
         Refusal::FrequencyHeader => 71,
         Refusal::FrequencyDefault => 72,
         Refusal::FrequencyQuality => 73,
@@ -141,11 +181,12 @@ pub fn refusal_number(refusal: Refusal) -> u32
     }
 }
 
-// t of a refused point or reading, and 0 where there is none.
+// t of a refused point or reading, the column of a refused row, and 0 where there is none.
 pub fn refusal_point(refusal: Refusal) -> u8
     ensures { λ r. ⌜ r ≡ point refusal ⌝ }
 {
     match refusal {
+        Refusal::WrongRow(column) => column,
         Refusal::FrequencyPoint(t) => t,
         Refusal::UnitReading(t) => t,
         _ => 0,

@@ -16,3 +16,5 @@ pub mod UngroupedListing
 pub mod BadGroups
 pub mod GroupOfThirteen
 pub mod Strips
+pub mod ReportRows
+pub mod Reports

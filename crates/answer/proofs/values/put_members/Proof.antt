@@ -21,7 +21,7 @@ behind : (c : tie.After-put-rows) → c .put-rows .result < length (c .put-rows 
 behind c = omega (arith, c .put-rows .ensures .few, start c .pre .column, ap length (c .put-rows .ensures .put) ∙ headed-length _ _)
 
 small : (c : tie.After-put-rows) → c .put-rows .result ≤ 512
-small c = omega (arith, c .put-rows .ensures .few, start c .pre .tested .regions .raise .few)
+small c = omega (arith, c .put-rows .ensures .few, start c .pre .tested .regions .performances .raise .few)
 
 put-rows-requires : tie.Need-put-rows-requires
 put-rows-requires c κs = let h = c .before .before .pre in (h .five, h .column, h .tested .rows)

@@ -1,0 +1,2 @@
+-- What the argument promises
+pub mod Version

@@ -1,0 +1,2 @@
+-- What a row's line promises
+pub mod Rows
