@@ -30,6 +30,8 @@ pub mod calendar;
 pub mod report;
 pub mod report_read;
 pub mod report_text;
+pub mod panel;
+pub mod watch;
 
 pub mod invariants;
 pub mod rules;
