@@ -71,3 +71,5 @@ pub mod report_words;
 pub mod report_changes;
 pub mod report_script;
 pub mod report_trials;
+pub mod panel_door;
+pub mod panel_script;
