@@ -73,3 +73,4 @@ pub mod report_script;
 pub mod report_trials;
 pub mod panel_door;
 pub mod panel_script;
+pub mod panel_trials;
