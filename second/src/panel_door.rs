@@ -4,6 +4,7 @@
 use crate::book::{require, Refusal};
 use crate::members::Name;
 use crate::panel::*;
+use crate::performance::{Reason, Standing};
 use crate::quantities::Direction;
 
 /// What every byte of a text is before a call.
@@ -14,6 +15,13 @@ pub const WORD_BEHIND: u32 = 7;
 pub const WORDS_LIMIT: usize = 4;
 const RECORD_WORDS: usize = 3;
 const NUMBER_LIMIT: u32 = 65_535;
+/// A member's standing by its number, the one that `answer` and `member` hand out.
+const STANDINGS: [Standing; 4] = [
+    Standing::Live,
+    Standing::Default(Reason::UnreliableRegion),
+    Standing::Default(Reason::BadUnit),
+    Standing::Default(Reason::NoGoodUnit),
+];
 
 #[derive(Clone, Debug, PartialEq, Eq)]
 pub struct FirstCall {
@@ -27,7 +35,7 @@ pub struct FirstCall {
 pub struct MemberCall {
     pub residual: u32,
     pub number: u32,
-    pub default: u32,
+    pub standing: u32,
     pub figures: [i64; 3],
     pub room: usize,
 }
@@ -61,6 +69,10 @@ fn direction_of(number: u32) -> Result<Direction, Refusal> {
     Direction::BOTH.get(number as usize).copied().ok_or(Refusal::of(11))
 }
 
+fn standing_of(number: u32) -> Result<Standing, Refusal> {
+    STANDINGS.get(number as usize).copied().ok_or(Refusal::of(11))
+}
+
 /// A flag that is 0 or 1.
 fn flag(number: u32) -> Result<bool, Refusal> {
     require(number <= 1, 11)?;
@@ -87,11 +99,12 @@ fn name_of_call(call: &MemberCall) -> Result<Name, Refusal> {
     Ok(Name::Unit(call.number.into()))
 }
 
+/// Any name goes with any standing.
 pub fn member_reply(call: &MemberCall) -> Result<String, Refusal> {
     let name = name_of_call(call)?;
-    let default = flag(call.default)?;
+    let standing = standing_of(call.standing)?;
     require_room(call.room)?;
-    Ok(member_page(name, !default, call.figures.map(i128::from)))
+    Ok(member_page(name, standing == Standing::Live, call.figures.map(i128::from)))
 }
 
 pub fn phrase_reply(call: &PhraseCall) -> Result<String, Refusal> {
@@ -170,8 +183,8 @@ pub fn line_of(call: &PanelCall) -> String {
         PanelCall::First(FirstCall { number, direction, figures, room }) => {
             format!("first {number} {direction} {} {room}", joined(figures))
         }
-        PanelCall::Member(MemberCall { residual, number, default, figures, room }) => {
-            format!("member {residual} {number} {default} {} {room}", joined(figures))
+        PanelCall::Member(MemberCall { residual, number, standing, figures, room }) => {
+            format!("member {residual} {number} {standing} {} {room}", joined(figures))
         }
         PanelCall::Phrase(PhraseCall { refusal, room }) => format!("phrase {refusal} {room}"),
         PanelCall::Step(StepCall { words, record, key, book, requirement, members }) => {
@@ -201,13 +214,15 @@ pub fn line_in(line: &str) -> Option<PanelCall> {
             figures: three([rcr, pool, cost])?,
             room: read(room)?,
         }),
-        ["member", residual, number, default, payment, used, unused, room] => PanelCall::Member(MemberCall {
-            residual: read(residual)?,
-            number: read(number)?,
-            default: read(default)?,
-            figures: three([payment, used, unused])?,
-            room: read(room)?,
-        }),
+        ["member", residual, number, standing, payment, used, unused, room] => {
+            PanelCall::Member(MemberCall {
+                residual: read(residual)?,
+                number: read(number)?,
+                standing: read(standing)?,
+                figures: three([payment, used, unused])?,
+                room: read(room)?,
+            })
+        }
         ["phrase", refusal, room] => {
             PanelCall::Phrase(PhraseCall { refusal: read(refusal)?, room: read(room)? })
         }

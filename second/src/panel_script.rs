@@ -36,6 +36,10 @@ pub const NUMBERS: [u32; 18] = [
 pub const RIGHT_NUMBERS: usize = 12;
 /// Of flags; most of the wrong ones would be right in fewer bits.
 pub const FLAGS: [u32; 7] = [0, 1, 2, 256, 257, 65_536, u32::MAX];
+/// Of standings: live, default for each of the three reasons, and past them; most of the wrong ones would be right in fewer bits.
+pub const STANDINGS: [u32; 9] = [0, 1, 2, 3, 4, 258, 65_539, 1 << 31, u32::MAX];
+/// How many of them there are.
+pub const RIGHT_STANDINGS: usize = 4;
 pub const MEMBERS: [u32; 14] = [0, 1, 2, 5, 7, 13, 76, 477, 509, 511, 512, 513, u32::MAX - 1, u32::MAX];
 /// Keys that there are not; all but two would be there in fewer bits.
 const NO_KEYS: [u32; 8] = [4, 5, 256, 259, 65_536, 65_538, 1 << 31, u32::MAX];
@@ -108,8 +112,8 @@ fn right_member(turn: &mut Turn, figures: [i64; 3]) -> MemberCall {
     let edge = chance.pick(&NUMBERS);
     let residual = chance.pick(&[0, 0, 1]);
     let number = if residual == 1 { chance.pick(&[edge, edge, any]) } else { right_number(chance) };
-    let (default, room) = (chance.pick(&[0, 1]), chance.pick(&LONG_ENOUGH));
-    MemberCall { residual, number, default, figures, room }
+    let standing = chance.pick(&STANDINGS[..RIGHT_STANDINGS]);
+    MemberCall { residual, number, standing, figures, room: chance.pick(&LONG_ENOUGH) }
 }
 
 fn first_figures(turn: &mut Turn) -> PanelCall {
@@ -136,14 +140,14 @@ fn first_names(turn: &mut Turn) -> PanelCall {
     PanelCall::First(FirstCall { number, direction, figures, room })
 }
 
-/// Each number with each pair of flags.
+/// Each number with each flag and each standing.
 fn member_names(turn: &mut Turn) -> PanelCall {
     let figures = draw_figures(turn);
     let number = in_turn(&NUMBERS, turn, 1);
     let residual = in_turn(&FLAGS, turn, NUMBERS.len());
-    let default = in_turn(&FLAGS, turn, NUMBERS.len() * FLAGS.len());
+    let standing = in_turn(&STANDINGS, turn, NUMBERS.len() * FLAGS.len());
     let room = turn.chance.pick(&MOSTLY_LONG_ENOUGH);
-    PanelCall::Member(MemberCall { residual, number, default, figures, room })
+    PanelCall::Member(MemberCall { residual, number, standing, figures, room })
 }
 
 fn first_rooms(turn: &mut Turn) -> PanelCall {
@@ -309,6 +313,13 @@ fn page_sort(reply: Result<String, crate::book::Refusal>) -> String {
     }
 }
 
+/// A member's page is counted by its standing's number too.
+fn member_sort(call: &MemberCall) -> String {
+    let reply = member_reply(call);
+    let standing = if reply.is_ok() { format!("standing {} ", call.standing) } else { String::new() };
+    standing + &page_sort(reply)
+}
+
 fn step_sort(call: &StepCall) -> String {
     let (number, words) = step_reply(call);
     match (number, &words[..]) {
@@ -323,7 +334,7 @@ fn step_sort(call: &StepCall) -> String {
 pub fn sort_of(call: &PanelCall) -> String {
     match call {
         PanelCall::First(call) => page_sort(first_reply(call)),
-        PanelCall::Member(call) => page_sort(member_reply(call)),
+        PanelCall::Member(call) => member_sort(call),
         PanelCall::Phrase(call) => match phrase_reply(call) {
             Ok(text) => text.trim_end().to_string(),
             Err(refusal) => format!("refused {}", refusal.number),

@@ -265,6 +265,30 @@ fn the_doors_write_80_bytes() {
     }
 }
 
+/// 0 is live; 1, 2 and 3 are one and the same default, of a unit and of the residual; from 4 on there is none.
+#[test]
+fn the_door_of_a_member_takes_every_standing() {
+    let rest = "PAY               -3USED              -2IDLE              -1";
+    let heads = [
+        ("0 7", "unit 7          live", "unit 7       default"),
+        ("1 7", "residual        live", "residual     default"),
+    ];
+    for (name, live, default) in heads {
+        for (standing, head) in [live, default, default, default].into_iter().enumerate() {
+            let line = format!("member {name} {standing} -3 -2 -1 80");
+            assert_eq!(
+                answer_line(&line),
+                format!("member 0 {}", hex(&format!("{head}{rest}"), 0)),
+                "{line}"
+            );
+        }
+        for standing in [4, 5, 7, 255, 256, 259, 65_536, 65_537, 1 << 31, u32::MAX] {
+            let line = format!("member {name} {standing} -3 -2 -1 80");
+            assert_eq!(answer_line(&line), format!("member 11 {}", "a5".repeat(80)), "{line}");
+        }
+    }
+}
+
 /// 11 before 12; nothing is written.
 #[test]
 fn the_doors_refuse() {
@@ -279,9 +303,11 @@ fn the_doors_refuse() {
         ("first 65535 1 1 2 3 1", "first 12 a5".to_string()),
         ("member 2 1 0 1 2 3 80", format!("member 11 {long}")),
         ("member 0 65536 0 1 2 3 80", format!("member 11 {long}")),
-        ("member 0 65535 2 1 2 3 79", format!("member 11 {short}")),
-        ("member 1 65536 2 1 2 3 80", format!("member 11 {long}")),
-        ("member 1 65536 1 1 2 3 79", format!("member 12 {short}")),
+        ("member 0 65535 4 1 2 3 79", format!("member 11 {short}")),
+        ("member 1 65536 4 1 2 3 80", format!("member 11 {long}")),
+        ("member 1 65536 4294967295 1 2 3 80", format!("member 11 {long}")),
+        ("member 1 65536 3 1 2 3 79", format!("member 12 {short}")),
+        ("member 0 65535 2 1 2 3 79", format!("member 12 {short}")),
         ("member 0 65535 1 1 2 3 0", "member 12 -".to_string()),
         ("phrase 1 79", format!("phrase 12 {short}")),
         ("phrase 4294967295 0", "phrase 12 -".to_string()),
@@ -371,21 +397,35 @@ fn a_script_names_everybody() {
         match call {
             PanelCall::First(call) => met.insert(("first", call.number, call.direction)),
             PanelCall::Member(call) if call.residual == 1 => {
-                met.insert(("residual", call.number, call.default))
+                met.insert(("residual", call.number, call.standing))
             }
-            PanelCall::Member(call) => met.insert(("unit", call.number, call.default)),
+            PanelCall::Member(call) => met.insert(("unit", call.number, call.standing)),
             _ => false,
         };
     }
     for (place, number) in NUMBERS.into_iter().enumerate() {
-        for (who, flag) in ["first", "unit", "residual"].into_iter().flat_map(|who| [(who, 0), (who, 1)]) {
+        for (who, count) in [("first", 2), ("unit", 4), ("residual", 4)] {
             let right = who == "residual" || place < RIGHT_NUMBERS;
-            assert_eq!(met.contains(&(who, number, flag)), right, "{who} {number} {flag}");
+            for word in 0..count {
+                assert_eq!(met.contains(&(who, number, word)), right, "{who} {number} {word}");
+            }
+            assert!(!met.contains(&(who, number, count)), "{who} {number}");
         }
     }
 }
 
-/// Every number and flag over its width is met with a text that is long enough, and refused.
+/// Members' pages are counted apart by their standing, of which there are four.
+#[test]
+fn a_script_counts_every_standing() {
+    let members = written_calls().into_iter().filter(|call| matches!(call, PanelCall::Member(_)));
+    let sorts: BTreeSet<String> = members.map(|call| sort_of(&call)).collect();
+    let all = (0..4).flat_map(|standing| {
+        (0..4).map(move |hashes| format!("standing {standing} written with {hashes} as hashes"))
+    });
+    assert_eq!(sorts, all.collect());
+}
+
+/// Every number, flag and standing over its width is met with a text that is long enough, and refused.
 #[test]
 fn a_script_is_refused_by_each_number_alone() {
     let mut met: BTreeSet<(&str, u32)> = BTreeSet::new();
@@ -398,10 +438,10 @@ fn a_script_is_refused_by_each_number_alone() {
             },
             PanelCall::Member(call) if call.room >= 80 => {
                 let wide = call.residual == 0 && call.number > 65_535;
-                match (call.residual > 1, wide, call.default > 1) {
+                match (call.residual > 1, wide, call.standing > 3) {
                     (true, false, false) => met.insert(("residual", call.residual)),
                     (false, true, false) => met.insert(("unit", call.number)),
-                    (false, false, true) => met.insert(("default", call.default)),
+                    (false, false, true) => met.insert(("standing", call.standing)),
                     _ => false,
                 }
             }
@@ -410,10 +450,12 @@ fn a_script_is_refused_by_each_number_alone() {
     }
     let wide = &NUMBERS[RIGHT_NUMBERS..];
     let flags: Vec<u32> = FLAGS.into_iter().filter(|&flag| flag > 1).collect();
+    let standings = &STANDINGS[RIGHT_STANDINGS..];
+    assert!(standings.contains(&4) && standings.iter().all(|&standing| standing > 3));
     for (what, list) in [("number", wide), ("unit", wide), ("direction", &flags), ("residual", &flags)] {
         assert!(list.iter().all(|&number| met.contains(&(what, number))), "{what}");
     }
-    assert!(flags.iter().all(|&number| met.contains(&("default", number))));
+    assert!(standings.iter().all(|&number| met.contains(&("standing", number))));
 }
 
 #[test]
