@@ -1,4 +1,4 @@
-/* What newlib asks of a board, for bench/plain.c, bench/strip.c and tests/strips.c. */
+/* What newlib asks of a board, for bench/plain.c, bench/strip.c, bench/panel.c and tests/strips.c. */
 #include "board.h"
 #include <sys/stat.h>
 

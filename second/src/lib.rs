@@ -30,6 +30,8 @@ pub mod calendar;
 pub mod report;
 pub mod report_read;
 pub mod report_text;
+pub mod panel;
+pub mod watch;
 
 pub mod invariants;
 pub mod rules;
@@ -69,3 +71,6 @@ pub mod report_words;
 pub mod report_changes;
 pub mod report_script;
 pub mod report_trials;
+pub mod panel_door;
+pub mod panel_script;
+pub mod panel_trials;

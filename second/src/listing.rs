@@ -7,11 +7,15 @@ use crate::cents::{settle_book, Line, Settled};
 use crate::members::{Member, Name};
 use crate::performance::Standing;
 
-pub fn name_of(member: &Member) -> String {
-    match member.name {
+pub fn name_in_words(name: Name) -> String {
+    match name {
         Name::Unit(number) => format!("unit {number}"),
         Name::Residual => "residual".to_string(),
     }
+}
+
+pub fn name_of(member: &Member) -> String {
+    name_in_words(member.name)
 }
 
 fn write_line(out: &mut String, line: &Line) {

@@ -18,6 +18,7 @@ use second::script::Script;
 use second::week_books::trial;
 use second::week_script::write_script;
 use second::write::to_bytes;
+use second::{panel_door, panel_script};
 
 /// Without 13, which request R-10 took away, and 7 and 8, which request R-1 split: none of them is given again.
 const NUMBERS: [u8; 23] =
@@ -82,6 +83,16 @@ fn of_reports() -> BTreeSet<u8> {
     answers.filter_map(|answer| replied(&answer)).collect()
 }
 
+fn of_panels() -> BTreeSet<u8> {
+    let answers = (0..1_000).map(|nth| panel_door::answer(&panel_script::call(7, nth).1));
+    answers.filter_map(|answer| replied(&answer)).collect()
+}
+
+#[test]
+fn panels_are_refused_with_11_and_12_alone() {
+    assert_eq!(of_panels(), BTreeSet::from([11, 12]));
+}
+
 #[test]
 fn shares_are_refused_with_5_alone() {
     assert_eq!(of_shares(), BTreeSet::from([5]));
@@ -91,7 +102,7 @@ fn shares_are_refused_with_5_alone() {
 #[test]
 fn these_numbers_are_met() {
     let all = [of_books(), of_shares(), of_records(), of_calls(), of_weeks(), of_weeks_of_books()];
-    let met: BTreeSet<u8> = all.into_iter().chain([of_reports()]).flatten().collect();
+    let met: BTreeSet<u8> = all.into_iter().chain([of_reports(), of_panels()]).flatten().collect();
     assert_eq!(met, BTreeSet::from(NUMBERS));
 }
 

@@ -7,6 +7,8 @@ pub mod NoFairerSplit
 pub mod OurSheet
 pub mod TrendStrip
 pub mod PerformanceReport
+pub mod Panel
+pub mod PanelWords
 pub mod OtherBook
 pub mod WeekDefaults
 pub mod WordsAnswered

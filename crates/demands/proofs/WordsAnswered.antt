@@ -60,7 +60,7 @@ use Rattle.demands.specs.WordsAnswer.{
 
 -- ---- laws
 -- the words hold a tally that can be asked
-asked-held :
+pub asked-held :
     (ws : List ℕ) {t : Tally} (narrow long : Bool) → held ws ≡ taken t → (in-range t && answer-turn t) ≡ true → narrow ≡ true → long ≡ true →
     asked-tally ws narrow long ≡ taken t
 unfolding asked-tally in-turn

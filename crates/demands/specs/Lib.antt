@@ -18,3 +18,5 @@ pub mod NoFairerSplit
 pub mod OurSheet
 pub mod TrendStrip
 pub mod PerformanceReport
+pub mod Panel
+pub mod PanelWords

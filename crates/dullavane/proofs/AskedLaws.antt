@@ -8,6 +8,7 @@ use lib.Dec.{ltb}
 use lib.ListN.{length, set, drop}
 use borrow.Author.Tests.{ltb-true}
 use Rattle.integers.specs.Sums.{both}
+use Rattle.rules.specs.declared.Direction.{Direction}
 use Rattle.rules.specs.declared.Direction.the-variants.{Lower}
 use Rattle.rules.specs.declared.Refusal.the-variants.{WrongState, TooShort}
 use Rattle.rules.specs.Refusals.{Reply, taken, refused, unless, _>>=_}
@@ -19,14 +20,32 @@ use Rattle.answer.proofs.RosterLaws.{member-only}
 use Rattle.dullavane.specs.Words.{held, reply-number, Held}
 use Rattle.dullavane.proofs.WordsLaws.{held-means}
 use Rattle.dullavane.proofs.Called.{alone-only}
-use Rattle.dullavane.specs.Asked.{MemberCalled, asked-narrow, direction-of, in-turn, asked-tally, row-after, row-number}
+use Rattle.dullavane.specs.Asked.{MemberCalled, no-tally, held-or-none, asked-narrow, direction-of, in-turn, asked-tally, row-after, row-number}
 
 pub dullavane-member-only : {ts : List ℕ} {row direction set : ℕ} {l : Lent} {ws : List ℕ} {r r₂ : ℕ} {ws′ ws₂ : List ℕ} →
     MemberCalled ts row direction set l ws r ws′ → MemberCalled ts row direction set l ws r₂ ws₂ → (r ≡ r₂) × (ws′ ≡ ws₂)
 dullavane-member-only {ws = ws} a b =
     alone-only row-number row-after _ (λ t s s₂ x y. member-only x y) ws _ _ _ _ _ (a .answer) (b .answer)
 
+pub asked-refusal-only : (ws : List ℕ) (narrow long : Bool) {r r₂ : ℕ} → r ≡ reply-number (asked-tally ws narrow long) →
+    r₂ ≡ reply-number (asked-tally ws narrow long) → r ≡ r₂
+asked-refusal-only ws narrow long a b = a ∙ sym b
+
+pub tally-held-only : (ws : List ℕ) {r r₂ : Tally} → r ≡ held-or-none (held ws) → r₂ ≡ held-or-none (held ws) → r ≡ r₂
+tally-held-only ws a b = a ∙ sym b
+
+pub direction-of-only : (n : ℕ) {r r₂ : Direction} → r ≡ direction-of n → r₂ ≡ direction-of n → r ≡ r₂
+direction-of-only n a b = a ∙ sym b
+
 -- ---- laws
+-- where words hold none
+pub held-none : (ws : List ℕ) {r : ℕ} → r ≡ reply-number (held ws) → (r ≡ 0 → ⊥) → no-tally ≡ held-or-none (held ws)
+held-none ws e some = go (held ws) (λ z. some (e ∙ z))
+  where
+    go : (y : Reply Tally) → (reply-number y ≡ 0 → ⊥) → no-tally ≡ held-or-none y
+    go (taken t) some = absurd (some refl)
+    go (refused r) some = refl
+
 -- a tally that can be asked: the words hold it, what it is asked by is within its width, and the words for the answer are long enough
 pub record AskedTally (ws : List ℕ) (narrow long : Bool) : Type 0 where
   pub in-words : Held ws

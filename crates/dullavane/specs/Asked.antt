@@ -10,7 +10,7 @@ use Rattle.rules.specs.declared.Reason.the-variants.{UnreliableRegion, BadUnit,
 use Rattle.rules.specs.declared.Standing.{Standing}
 use Rattle.rules.specs.declared.Standing.the-variants.{Live, Default}
 use Rattle.rules.specs.declared.Refusal.the-variants.{WrongState, TooShort}
-use Rattle.rules.specs.Refusals.{Reply, taken, unless, number, _>>=_}
+use Rattle.rules.specs.Refusals.{Reply, taken, refused, unless, number, _>>=_}
 use Rattle.interval.specs.declared.Tally.{Tally}
 use Rattle.interval.specs.Tally.{in-range, answer-turn}
 use Rattle.interval.specs.Lent.{Lent}
@@ -27,6 +27,14 @@ in-turn narrow long t =
 
 unfoldable pub asked-tally : List ℕ → Bool → Bool → Reply Tally
 asked-tally ws narrow long = held ws >>= in-turn narrow long
+
+-- the tally itself; all zeros where words hold none
+abbrev pub no-tally : Tally
+no-tally = record { units = 0; requirements = 0; records = 0; least = 0; smoothing = 0; limit = 0; percent = 0; interval = 0 }
+
+abbrev pub held-or-none : Reply Tally → Tally
+held-or-none (taken t) = t
+held-or-none (refused r) = no-tally
 
 -- a number that is asked by is within its width: a row 16 bits, a region set 8; a direction is 0 or 1
 abbrev pub asked-narrow : ℕ → ℕ → ℕ → Bool

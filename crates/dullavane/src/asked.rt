@@ -3,8 +3,8 @@ ghost use mathlib.Core.Path.{_≡_};
 ghost use mathlib.Core.Bool.{_&&_};
 ghost use Prim.Native.Nat.{_≤_};
 ghost use lib.ListN.{length};
-ghost use Rattle.dullavane.specs.Words.{reply-number};
-ghost use Rattle.dullavane.specs.Asked.{asked-tally, asked-narrow, direction-of, standing-number, with-row, row-number, row-after};
+ghost use Rattle.dullavane.specs.Words.{held, reply-number};
+ghost use Rattle.dullavane.specs.Asked.{asked-tally, held-or-none, asked-narrow, direction-of, standing-number, with-row, row-number, row-after};
 ghost use Rattle.dullavane.specs.Answers.{with-answer, answered-number, answered-after};
 use super::words::OVER_8_BITS;
 use super::words::OVER_16_BITS;
@@ -13,6 +13,7 @@ use super::words::words_refusal;
 use answer::Answer;
 use answer::Answered;
 use answer::Row;
+use interval::Tally;
 use interval::turns::answer_turn;
 use rules::Direction;
 use rules::Reason;
@@ -22,7 +23,7 @@ use rules::refusal_number;
 
 // 0 where words hold a tally with every unit in and the answer can be given, else why not: 12 and 11 for the words, 11 out of turn, 11 where
 // a number that it is asked by is over its width, then 12 where the words for the answer are too few.
-pub(crate) fn asked_refusal(words: &[u32], narrow: bool, long: bool) -> u32
+pub fn asked_refusal(words: &[u32], narrow: bool, long: bool) -> u32
     ensures { λ r. ⌜ r ≡ reply-number (asked-tally (now (words .entry)) narrow long) ⌝ }
 {
     let refusal = words_refusal(words);
@@ -41,6 +42,25 @@ pub(crate) fn asked_refusal(words: &[u32], narrow: bool, long: bool) -> u32
     0
 }
 
+// The tally that words hold, for calls of other crates; all zeros where they hold none.
+pub fn tally_held(words: &[u32]) -> Tally
+    ensures { λ r. ⌜ r ≡ held-or-none (held (now (words .entry))) ⌝ }
+{
+    if words_refusal(words) != 0 {
+        return Tally {
+            units: 0,
+            requirements: 0,
+            records: 0,
+            least: 0,
+            smoothing: 0,
+            limit: 0,
+            percent: 0,
+            interval: 0,
+        };
+    }
+    tally_in(words)
+}
+
 // Is each number that a row is asked by within its width? A direction is 0 or 1.
 pub(crate) fn narrow_asked(row: u32, direction: u32, set: u32) -> bool
     ensures { λ r. ⌜ r ≡ asked-narrow row direction set ⌝ }
@@ -54,7 +74,7 @@ pub(crate) fn narrow_asked(row: u32, direction: u32, set: u32) -> bool
     set < OVER_8_BITS
 }
 
-pub(crate) fn direction_of(direction: u32) -> Direction
+pub fn direction_of(direction: u32) -> Direction
     ensures { λ r. ⌜ r ≡ direction-of direction ⌝ }
 {
     if direction == 0 {

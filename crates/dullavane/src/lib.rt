@@ -71,7 +71,7 @@ use writer::SettingsRow;
 use writer::write::write;
 use writing::tell_written;
 
-mod asked;
+pub mod asked;
 mod reports;
 mod runs;
 mod trends;

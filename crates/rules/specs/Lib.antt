@@ -45,3 +45,7 @@ pub mod StripText
 pub mod Week
 pub mod RunningWeek
 pub mod WeekRoster
+-- The panel (document 02, R-13)
+pub mod Phrases
+pub mod Panel
+pub mod Keys

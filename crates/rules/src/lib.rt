@@ -150,6 +150,21 @@ pub struct ReportRow {
     pub version: u16,
 }
 
+// What a display shows: of which book, of which requirement, and which of its pages, 0 the first.
+pub struct Page {
+    pub book: u32,
+    pub requirement: u32,
+    pub page: u32,
+}
+
+// The panel's keys; `Show` is none of them, and draws again.
+pub enum Key {
+    Show,
+    Next,
+    Previous,
+    Home,
+}
+
 // The number that the box shows.
 pub fn refusal_number(refusal: Refusal) -> u32
     ensures { λ r. ⌜ r ≡ number refusal ⌝ }

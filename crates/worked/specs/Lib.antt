@@ -18,3 +18,4 @@ pub mod GroupOfThirteen
 pub mod Strips
 pub mod ReportRows
 pub mod Reports
+pub mod Pages

@@ -1,0 +1,3 @@
+-- What the panel's calls for C promise
+pub mod Words
+pub mod Called

@@ -1,0 +1,2 @@
+-- What the keys of the program promise
+pub mod Commands
