@@ -1,0 +1,1 @@
+-- Laws of the lines in a text and of the steps
