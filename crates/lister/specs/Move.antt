@@ -17,7 +17,7 @@ use Rattle.interval.specs.Lent.{Lent}
 use Rattle.kept.specs.Kept.{kept-answer}
 use Rattle.answer.specs.declared.Answer.{Answer}
 use Rattle.answer.specs.declared.Row.{Row}
-use Rattle.answer.specs.declared.Row.the-variants as row
+use Rattle.answer.specs.declared.Row.the-variants as who
 use Rattle.answer.specs.Promises.{Columns, columns-long, answer-reply, shown, with-lines}
 use Rattle.answer.specs.Roster.{member-reply, row-answer}
 use Rattle.listing.specs.declared.RequirementLine.{RequirementLine}
@@ -67,10 +67,10 @@ module _ (t : Tally) (bytes : List ℕ) (l : Lent) where
 
   -- a row's unit, where it is a member
   abbrev pub row-move : ℕ → Answer → ℕ → ℕ → Columns → Row → Move
-  row-move k a row place c (row.Unit number standing) =
+  row-move k a row place c (who.Unit number standing) =
       moves (member-line (unit-of number standing (amounts-at c place))) (at.Members k a (suc row) (suc place)) c
-  row-move k a row place c row.Other = moves [] (at.Members k a (suc row) place) c
-  row-move k a row place c (row.Refused r) = refuses r
+  row-move k a row place c who.Other = moves [] (at.Members k a (suc row) place) c
+  row-move k a row place c (who.Refused r) = refuses r
 
   -- behind the last row the residual, and then the next requirement
   abbrev pub member-move : ℕ → Answer → ℕ → ℕ → Columns → Move

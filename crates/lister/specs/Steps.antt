@@ -51,6 +51,13 @@ Halted halt.Full room m = NoRoom room m
 Halted halt.Ended room m = m ≡ ends
 Halted (halt.Refused r) room m = m ≡ refuses r
 
+-- what is known where it goes on
+abbrev pub WhereOn : Halt → Type 0 → Type 0
+WhereOn halt.On A = A
+WhereOn halt.Full A = Unit {0}
+WhereOn halt.Ended A = Unit {0}
+WhereOn (halt.Refused r) A = Unit {0}
+
 -- from a cursor on, behind the first `done` bytes of a text: lines that have room, where they lead, and why it halts there
 module _ (t : Tally) (bytes : List ℕ) (l : Lent) where
   pub record Runs (at : Cursor) (c : Columns) (done : ℕ) (old : List ℕ) (s : Step) (c′ : Columns) (new : List ℕ) : Type 0 where
@@ -61,13 +68,21 @@ module _ (t : Tally) (bytes : List ℕ) (l : Lent) where
     pub text : new ≡ take done old ++ (lines ++ drop (done + length lines) old)
     pub halts : Halted (s .halt) (length old - s .done) (move t bytes l (s .at) c′)
 
-  -- the units of a requirement from a row on; where it goes on all rows are behind it
+  -- the units of a requirement from a row on
   abbrev pub walked-step : ℕ → Answer → Walked → Step
   walked-step k a w = record { at = at.Members k a (w .row) (w .place); done = w .done; halt = w .halt }
 
+  -- a row; where it goes on the next comes
+  pub record RowListed (k : ℕ) (a : Answer) (c : Columns) (row place done : ℕ) (old : List ℕ) (w : Walked) (new : List ℕ) : Type 0 where
+    pub runs : Runs (at.Members k a row place) c done old (walked-step k a w) c new
+    pub next : WhereOn (w .halt) (w .row ≡ row + 1)
+    pub few : w .place ≤ w .row
+    pub inside : w .row ≤ t .units
+
+  -- all of them; where it goes on no row is left
   pub record UnitsListed (k : ℕ) (a : Answer) (c : Columns) (row place done : ℕ) (old : List ℕ) (w : Walked) (new : List ℕ) : Type 0 where
     pub runs : Runs (at.Members k a row place) c done old (walked-step k a w) c new
-    pub behind : w .halt ≡ halt.On → w .row ≡ t .units
+    pub behind : WhereOn (w .halt) (w .row ≡ t .units)
     pub few : w .place ≤ w .row
     pub inside : w .row ≤ t .units
 
@@ -108,5 +123,5 @@ untold halt.Full = Refused TooShort
 untold halt.Ended = Nothing
 untold (halt.Refused r) = Refused r
 
-abbrev pub told-as : Step → Listed
-told-as s = cond (ltb 0 (s .done)) (Written (s .done) (s .at)) (untold (s .halt))
+abbrev pub told-as : Cursor → ℕ → Halt → Listed
+told-as at done halt = cond (ltb 0 done) (Written done at) (untold halt)

@@ -11,7 +11,6 @@ ghost use Rattle.lister.specs.Steps.{lent-listing, halt-of, is-on, told-
 use super::Cursor;
 use super::Halt;
 use super::Listed;
-use super::Step;
 use super::turn::turn;
 use book::REQUIREMENT;
 use interval::Tally;
@@ -72,13 +71,11 @@ fn goes_on(halt: Halt) -> bool
 }
 
 // What is told of a listing that does not go on. Where no line was written, nothing was.
-fn told(step: Step) -> Listed
-    ensures { λ r. ⌜ r ≡ told-as step ⌝ }
+fn told(at: Cursor, done: usize, halt: Halt) -> Listed
+    ensures { λ r. ⌜ r ≡ told-as at done halt ⌝ }
 {
-    let halt = step.halt;
-    if 0 < step.done {
-        let at = step.at;
-        return Listed::Written(step.done, at);
+    if 0 < done {
+        return Listed::Written(done, at);
     }
     match halt {
         Halt::On => Listed::Refused(Refusal::TooShort),
@@ -112,14 +109,12 @@ pub fn list(
         (columns (now (performances .entry)) (now (factors .entry)) (now (payments .entry)) (now (used .entry)) (now (unused .entry))) (now (text .entry)) r
         (columns (now (performances .exit)) (now (factors .exit)) (now (payments .exit)) (now (used .exit)) (now (unused .exit))) (now (text .exit))) ⌝ }
 {
-    let mut step = Step {
-        at: cursor,
-        done: 0,
-        halt: tested(tally, bytes.len(), cursor, text.len()),
-    };
-    while goes_on(step.halt) {
-        step = turn(
-            step.at,
+    let mut at = cursor;
+    let mut done: usize = 0;
+    let mut halt = tested(tally, bytes.len(), cursor, text.len());
+    while goes_on(halt) {
+        let step = turn(
+            at,
             tally,
             bytes,
             measures,
@@ -133,9 +128,12 @@ pub fn list(
             payments,
             used,
             unused,
-            step.done,
+            done,
             text,
         );
+        at = step.at;
+        done = step.done;
+        halt = step.halt;
     }
-    told(step)
+    told(at, done, halt)
 }

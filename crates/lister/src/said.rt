@@ -1,7 +1,7 @@
 // A line goes behind what stands in the text. Each answer is how long the line is, or 0 where it has no room.
 ghost use mathlib.Core.Path.{_≡_};
 ghost use Prim.Native.Nat.{_≤_, _<_};
-ghost use lib.ListN.{length, drop};
+ghost use lib.ListN.{length};
 ghost use Rattle.rules.specs.Listing.{interval-line, requirement-line, member-line};
 ghost use Rattle.listing.specs.Lines.{answer-of, unit-of, residual-of};
 ghost use Rattle.lister.specs.Said.{Said};
@@ -18,17 +18,15 @@ use listing::lines::unit_line;
 use listing::pieces::put_word;
 use rules::Standing;
 
-// The line that starts there and ends with its own text.
-fn append(line: &[u8; LINE], start: usize, done: usize, text: &mut [u8]) -> usize
-    requires { ⌜ (start < 165) × (done ≤ length (now text)) ⌝ }
-    ensures { λ r. ⌜ Said (drop start (now (line .entry))) done (now (text .entry)) r (now (text .exit)) ⌝ }
+fn append(line: &[u8], done: usize, text: &mut [u8]) -> usize
+    requires { ⌜ (0 < length (now line)) × (done ≤ length (now text)) ⌝ }
+    ensures { λ r. ⌜ Said (now (line .entry)) done (now (text .entry)) r (now (text .exit)) ⌝ }
 {
-    let length = LINE - start;
-    if text.len() - done < length {
+    if text.len() - done < line.len() {
         return 0;
     }
-    put_word(&line[start..], done + length, text);
-    length
+    put_word(line, done + line.len(), text);
+    line.len()
 }
 
 pub(crate) fn say_interval(interval: u32, done: usize, text: &mut [u8]) -> usize
@@ -37,7 +35,7 @@ pub(crate) fn say_interval(interval: u32, done: usize, text: &mut [u8]) -> usize
 {
     let mut line = [0u8; LINE];
     let start = interval_line(interval, &mut line);
-    append(&line, start, done, text)
+    append(&line[start..], done, text)
 }
 
 fn line_of(given: Answer) -> RequirementLine
@@ -68,7 +66,7 @@ pub(crate) fn say_requirement(given: Answer, done: usize, text: &mut [u8]) -> us
 {
     let mut line = [0u8; LINE];
     let start = requirement_line(line_of(given), &mut line);
-    append(&line, start, done, text)
+    append(&line[start..], done, text)
 }
 
 pub(crate) fn say_unit(
@@ -83,7 +81,7 @@ pub(crate) fn say_unit(
 {
     let mut line = [0u8; LINE];
     let start = unit_line(number, standing, amounts, &mut line);
-    append(&line, start, done, text)
+    append(&line[start..], done, text)
 }
 
 pub(crate) fn say_residual(
@@ -97,5 +95,5 @@ pub(crate) fn say_residual(
 {
     let mut line = [0u8; LINE];
     let start = residual_line(standing, amounts, &mut line);
-    append(&line, start, done, text)
+    append(&line[start..], done, text)
 }

@@ -60,7 +60,7 @@ fn from_residual(
     done: usize,
     text: &mut [u8],
 ) -> Step
-    requires { ⌜ (requirement < tally .requirements) × (tally .requirements ≤ 32) × (place ≤ tally .units) × (done ≤ length (now text))
+    requires { ⌜ (requirement < tally .requirements) × (tally .requirements ≤ 32) × (tally .units ≤ 512) × (place ≤ tally .units) × (done ≤ length (now text))
         × (columns-long (tally .units) (columns (now performances) (now factors) (now payments) (now used) (now unused)) ≡ true) ⌝ }
     ensures { λ r. ⌜ ((bytes : List ℕ) (l : Lent) → Turns tally bytes l (c.Members requirement given (tally .units) place)
         (columns (now (performances .entry)) (now (factors .entry)) (now (payments .entry)) (now (used .entry)) (now (unused .entry))) done (now (text .entry)) r
@@ -108,7 +108,7 @@ fn from_row(
     done: usize,
     text: &mut [u8],
 ) -> Step
-    requires { ⌜ (among tally requirement row place ≡ true) × (tally .requirements ≤ 32) × (done ≤ length (now text))
+    requires { ⌜ (among tally requirement row place ≡ true) × (tally .requirements ≤ 32) × (tally .units ≤ 512) × (done ≤ length (now text))
         × (columns-long (tally .units) (columns (now performances) (now factors) (now payments) (now used) (now unused)) ≡ true) ⌝ }
     ensures { λ r. ⌜ ((bytes : List ℕ) (rest : Lent) → Turns tally bytes (lent-member rest (now (figures .entry)) (now (numbers .entry)) (now (homes .entry)))
         (c.Members requirement given row place) (columns (now (performances .entry)) (now (factors .entry)) (now (payments .entry)) (now (used .entry)) (now (unused .entry))) done
@@ -185,7 +185,7 @@ fn from_members(
     done: usize,
     text: &mut [u8],
 ) -> Step
-    requires { ⌜ (tally .requirements ≤ 32) × (done ≤ length (now text)) ⌝ }
+    requires { ⌜ (tally .requirements ≤ 32) × (tally .units ≤ 512) × (done ≤ length (now text)) ⌝ }
     ensures { λ r. ⌜ ((bytes : List ℕ) (rest : Lent) → Turns tally bytes (lent-member rest (now (figures .entry)) (now (numbers .entry)) (now (homes .entry)))
         (c.Members requirement given row place) (columns (now (performances .entry)) (now (factors .entry)) (now (payments .entry)) (now (used .entry)) (now (unused .entry))) done
         (now (text .entry)) r (columns (now (performances .entry)) (now (factors .entry)) (now (payments .entry)) (now (used .entry)) (now (unused .entry))) (now (text .exit))) ⌝ }
@@ -246,7 +246,7 @@ fn from_answered(
     done: usize,
     text: &mut [u8],
 ) -> Step
-    requires { ⌜ (tally .requirements ≤ 32) × (done ≤ length (now text)) ⌝ }
+    requires { ⌜ (tally .requirements ≤ 32) × (tally .units ≤ 512) × (done ≤ length (now text)) ⌝ }
     ensures { λ r. ⌜ ((bytes : List ℕ) (rest : Lent) → Turns tally bytes (lent-member rest (now (figures .entry)) (now (numbers .entry)) (now (homes .entry)))
         (c.Answered requirement given) (columns (now (performances .entry)) (now (factors .entry)) (now (payments .entry)) (now (used .entry)) (now (unused .entry))) done
         (now (text .entry)) r (columns (now (performances .entry)) (now (factors .entry)) (now (payments .entry)) (now (used .entry)) (now (unused .entry))) (now (text .exit))) ⌝ }
@@ -323,7 +323,7 @@ fn from_requirement(
     done: usize,
     text: &mut [u8],
 ) -> Step
-    requires { ⌜ (tally .requirements ≤ 32) × (24 * tally .requirements ≤ length (now bytes)) × (done ≤ length (now text)) ⌝ }
+    requires { ⌜ (tally .requirements ≤ 32) × (tally .units ≤ 512) × (24 * tally .requirements ≤ length (now bytes)) × (done ≤ length (now text)) ⌝ }
     ensures { λ r. ⌜ ((rest : Lent) → Turns tally (now (bytes .entry)) (lent-listing rest (now (measures .entry)) (now (sums .entry)) (now (figures .entry)) (now (numbers .entry)) (now (homes .entry)) (now (rows .entry)))
         (c.Requirement requirement) (columns (now (performances .entry)) (now (factors .entry)) (now (payments .entry)) (now (used .entry)) (now (unused .entry))) done
         (now (text .entry)) r (columns (now (performances .exit)) (now (factors .exit)) (now (payments .exit)) (now (used .exit)) (now (unused .exit))) (now (text .exit))) ⌝ }
@@ -388,7 +388,7 @@ pub(crate) fn turn(
     done: usize,
     text: &mut [u8],
 ) -> Step
-    requires { ⌜ (tally .requirements ≤ 32) × (24 * tally .requirements ≤ length (now bytes)) × (done ≤ length (now text)) ⌝ }
+    requires { ⌜ (tally .requirements ≤ 32) × (tally .units ≤ 512) × (24 * tally .requirements ≤ length (now bytes)) × (done ≤ length (now text)) ⌝ }
     ensures { λ r. ⌜ ((rest : Lent) → Turns tally (now (bytes .entry)) (lent-listing rest (now (measures .entry)) (now (sums .entry)) (now (figures .entry)) (now (numbers .entry)) (now (homes .entry)) (now (rows .entry)))
         at (columns (now (performances .entry)) (now (factors .entry)) (now (payments .entry)) (now (used .entry)) (now (unused .entry))) done
         (now (text .entry)) r (columns (now (performances .exit)) (now (factors .exit)) (now (payments .exit)) (now (used .exit)) (now (unused .exit))) (now (text .exit))) ⌝ }

@@ -1,42 +1,37 @@
+-- The longest line has room for any; in a shorter text only the requirement that is yet to be answered is asked for.
+use mathlib.Core.Path.{sym}
+use borrow.Author.Tests.{lt-leb}
+use Rattle.lister.proofs.ListLaws.{any-room}
 use borrow.Author.Needs.{needs}
 use Rattle.lister.proofs.list.room_for_any.Statement.{statement}
 use Rattle.lister.proofs.list.room_for_any.Tie as tie
-use Rattle.lister.proofs.list.room_for_any.Reads as reads
-use Rattle.lister.proofs.list.room_for_any.Lts as lts
 
--- src/list.rt:38:9
 returns : tie.Need-returns
-returns c = ?
+returns c =
+    sym (any-room (c .before .args .tally) (c .before .args .cursor) (c .before .args .room) (c .if1 .taken))
 
--- src/list.rt:41:29
 enum-told : tie.Need-enum-told
 enum-told c = search needs
 
--- src/list.rt:42:29
 enum-known-cursor : tie.Need-enum-known-cursor
 enum-known-cursor c = search needs
 
--- src/list.rt:43:35
 enum-told-2 : tie.Need-enum-told-2
 enum-told-2 c = search needs
 
--- src/list.rt:44:40
 enum-told-3 : tie.Need-enum-told-3
 enum-told-3 c = search needs
 
--- src/list.rt:34:1
 returns-2 : tie.Need-returns-2
 returns-2 c = search needs
 
--- src/list.rt:34:1
 returns-3 : tie.Need-returns-3
-returns-3 c = ?
+returns-3 c =
+    rw (c .before .before .cursor .given .1) (rw (lt-leb 165 _ (c .before .before .before .before .if1 .left)))
 
--- src/list.rt:34:1
 returns-4 : tie.Need-returns-4
 returns-4 c = search needs
 
--- src/list.rt:34:1
 returns-5 : tie.Need-returns-5
 returns-5 c = search needs
 

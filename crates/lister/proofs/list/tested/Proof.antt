@@ -1,42 +1,46 @@
+-- The tests, one after the other.
+use mathlib.Core.Path.{_≡_, sym, _∙_}
+use mathlib.Core.Bool.{true, _&&_}
+use lib.Dec.{eqb}
+use borrow.Author.Tests.{not-true, not-false, le-leb, lt-leb}
+use Rattle.interval.specs.Tally.{in-range, book-end}
+use Rattle.lister.specs.Promises.{list-tests}
 use borrow.Author.Needs.{needs}
 use Rattle.lister.proofs.list.tested.Statement.{statement}
 use Rattle.lister.proofs.list.tested.Tie as tie
-use Rattle.lister.proofs.list.tested.Reads as reads
-use Rattle.lister.proofs.list.tested.Lts as lts
-use Rattle.lister.proofs.list.ended.Reads as ended-reads
-use Rattle.lister.proofs.list.room_for_any.Reads as room-for-any-reads
 
--- src/list.rt:51:9
+ended-true : (c : tie.Else1) → let t = c .before .before .args .tally in (in-range t && eqb (t .records) (book-end t)) ≡ true
+ended-true c = sym (c .before .ended .ensures) ∙ not-false _ (c .if1 .left)
+
 ended-requires : tie.Need-ended-requires
 ended-requires c κs = search needs
 
--- src/list.rt:52:9
 returns : tie.Need-returns
-returns c = ?
+unfolding list-tests
+returns c = rw (sym (c .before .ended .ensures) ∙ not-true _ (c .if1 .taken))
 
--- src/list.rt:54:30
 cast-if2 : tie.Need-cast-if2
 cast-if2 c = search needs
 
--- src/list.rt:54:16
 mul-if2 : tie.Need-mul-if2
 mul-if2 c = search needs
 
--- src/list.rt:55:9
 returns-2 : tie.Need-returns-2
-returns-2 c = ?
+unfolding list-tests
+returns-2 c = rw (ended-true (c .before .before), lt-leb _ _ (c .if2 .taken))
 
--- src/list.rt:57:9
 room-for-any-requires : tie.Need-room-for-any-requires
 room-for-any-requires c κs = search needs
 
--- src/list.rt:58:9
 returns-3 : tie.Need-returns-3
-returns-3 c = ?
+unfolding list-tests
+returns-3 c =
+    rw (ended-true (c .before .before .before .before), le-leb _ _ (c .before .before .if2 .left), sym (c .before .room-for-any .ensures) ∙ not-true _ (c .if3 .taken))
 
--- src/list.rt:48:1
 returns-4 : tie.Need-returns-4
-returns-4 c = ?
+unfolding list-tests
+returns-4 c =
+    rw (ended-true (c .before .before .before .before), le-leb _ _ (c .before .before .if2 .left), sym (c .before .room-for-any .ensures) ∙ not-false _ (c .if3 .left))
 
 pub tested-spec : {M : Type 1} → statement M
 tested-spec =

@@ -1,44 +1,35 @@
+-- A piece with lines, or why there is none.
+use borrow.Author.Tests.{lt-ltb, le-ltb}
 use borrow.Author.Needs.{needs}
 use Rattle.lister.proofs.list.told.Statement.{statement}
 use Rattle.lister.proofs.list.told.Tie as tie
-use Rattle.lister.proofs.list.told.Reads as reads
-use Rattle.lister.proofs.list.told.Lts as lts
 
--- src/list.rt:81:9
 returns : tie.Need-returns
-returns c = ?
+returns c = rw (lt-ltb 0 _ (c .if1 .taken))
 
--- src/list.rt:84:37
 enum-told : tie.Need-enum-told
 enum-told c = search needs
 
--- src/list.rt:85:39
 enum-told-2 : tie.Need-enum-told-2
 enum-told-2 c = search needs
 
--- src/list.rt:86:24
 enum-told-3 : tie.Need-enum-told-3
 enum-told-3 c = search needs
 
--- src/list.rt:87:23
 enum-known-halt : tie.Need-enum-known-halt
 enum-known-halt c = search needs
 
--- src/list.rt:75:1
 returns-2 : tie.Need-returns-2
-returns-2 c = ?
+returns-2 c = rw (le-ltb 0 _ (c .before .before .if1 .left), c .enum-told .given .1)
 
--- src/list.rt:75:1
 returns-3 : tie.Need-returns-3
-returns-3 c = ?
+returns-3 c = rw (le-ltb 0 _ (c .before .before .if1 .left), c .enum-told2 .given .1)
 
--- src/list.rt:75:1
 returns-4 : tie.Need-returns-4
-returns-4 c = ?
+returns-4 c = rw (le-ltb 0 _ (c .before .before .if1 .left), c .enum-told3 .given .1)
 
--- src/list.rt:75:1
 returns-5 : tie.Need-returns-5
-returns-5 c = ?
+returns-5 c = rw (le-ltb 0 _ (c .before .before .before .if1 .left), c .before .halt .given .1)
 
 pub told-spec : {M : Type 1} → statement M
 told-spec =
