@@ -5,3 +5,4 @@ pub mod ListLaws
 -- laws of the moves, and of the members' rows
 pub mod MoveLaws
 pub mod MembersLaws
+pub mod TurnLaws

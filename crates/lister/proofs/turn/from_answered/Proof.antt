@@ -1,42 +1,64 @@
+-- The requirement's line, where it has room, then the members'.
+use native.Mathlib.Omega.{arith}
+use Rattle.rules.specs.declared.Refusal.the-variants.{WrongState}
+use Rattle.interval.specs.Lent.{Lent, lent-member}
+use Rattle.answer.specs.Promises.{Columns, columns}
+use Rattle.lister.proofs.MoveLaws.{move-past}
+use Rattle.lister.proofs.StepsLaws.{said-within}
+use Rattle.lister.proofs.TurnLaws.{turn-refused, answered-full, answered-then}
 use borrow.Author.Needs.{needs}
 use Rattle.lister.proofs.turn.from_answered.Statement.{statement}
 use Rattle.lister.proofs.turn.from_answered.Tie as tie
-use Rattle.lister.proofs.turn.from_answered.Reads as reads
-use Rattle.lister.proofs.turn.from_answered.Lts as lts
-use Rattle.lister.proofs.said.say_requirement.Reads as say-requirement-reads
-use Rattle.lister.proofs.turn.from_members.Reads as from-members-reads
 
--- src/turn.rt:255:9
+abbrev cols : tie.Start → Columns
+cols s = let a = s .args in columns (a .performances .now) (a .factors .now) (a .payments .now) (a .used .now) (a .unused .now)
+
+abbrev lists : tie.Start → Lent → Lent
+lists s rest = let a = s .args in lent-member rest (a .figures .now) (a .numbers .now) (a .homes .now)
+
+abbrev start : tie.After-say-requirement → tie.Start
+start w = w .before .before .before .before .before .before .before
+
 returns : tie.Need-returns
-returns c = ?
+returns c =
+    let s = c .before .before .before .before .before in
+    let a = s .args in
+    λ bytes rest. turn-refused WrongState (s .pre .2) (move-past (a .tally) bytes (lists s rest) (cols s) (a .requirement) (a .given) (c .if1 .taken))
 
--- src/turn.rt:261:9
 say-requirement-requires : tie.Need-say-requirement-requires
 say-requirement-requires c κs = search needs
 
--- src/turn.rt:263:9
 same-length : tie.Need-same-length
 same-length c = search needs
 
--- src/turn.rt:263:9
 returns-2 : tie.Need-returns-2
-returns-2 c = ?
+returns-2 c =
+    let w = c .before .before .before in
+    let s = start w in
+    let a = s .args in
+    λ bytes rest. answered-full (a .tally) bytes (lists s rest) (cols s) (a .requirement) (a .given) (a .done) (a .text .now) (w .before .before .if1 .left)
+    (s .pre .2) (w .say-requirement .ensures) (c .if2 .taken)
 
--- src/turn.rt:283:9
 add-from-members : tie.Need-add-from-members
-add-from-members c = ?
+add-from-members c =
+    let w = c .before .before .before in
+    omega (arith, said-within (w .say-requirement .ensures) (start w .pre .2), start w .good)
 
--- src/turn.rt:269:5
 from-members-requires : tie.Need-from-members-requires
 from-members-requires c κs = ?
 
--- src/turn.rt:234:1
 same-length-2 : tie.Need-same-length-2
 same-length-2 c = search needs
 
--- src/turn.rt:234:1
 returns-3 : tie.Need-returns-3
-returns-3 c = ?
+returns-3 c =
+    let f = c .before .before in
+    let e = f .before .before in
+    let w = e .before .before .before in
+    let s = start w in
+    let a = s .args in
+    λ bytes rest. answered-then (a .tally) bytes (lists s rest) (cols s) (a .requirement) (a .given) (a .done) (a .text .now) (w .before .before .if1 .left)
+    (s .pre .2) (w .say-requirement .ensures) (e .if2 .left) (f .from-members .ensures bytes rest)
 
 pub from-answered-spec : {M : Type 1} → statement M
 from-answered-spec =

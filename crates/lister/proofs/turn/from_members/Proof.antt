@@ -1,37 +1,55 @@
+-- Behind the tests, the members.
+use mathlib.Core.Path.{sym, _∙_}
+use borrow.Author.Tests.{not-true, not-false}
+use Rattle.rules.specs.declared.Refusal.the-variants.{WrongState, TooShort}
+use Rattle.interval.specs.Lent.{Lent, lent-member}
+use Rattle.answer.specs.Promises.{Columns, columns}
+use Rattle.lister.proofs.MoveLaws.{move-nowhere, move-short}
+use Rattle.lister.proofs.TurnLaws.{turn-refused}
 use borrow.Author.Needs.{needs}
 use Rattle.lister.proofs.turn.from_members.Statement.{statement}
 use Rattle.lister.proofs.turn.from_members.Tie as tie
-use Rattle.lister.proofs.turn.from_members.Reads as reads
-use Rattle.lister.proofs.turn.from_members.Lts as lts
-use Rattle.answer.proofs.lent.columns_long.Reads as columns-long-reads
-use Rattle.lister.proofs.turn.among.Reads as among-reads
-use Rattle.lister.proofs.turn.from_row.Reads as from-row-reads
 
--- src/turn.rt:193:9
+abbrev cols : tie.Start → Columns
+cols s = let a = s .args in columns (a .performances .now) (a .factors .now) (a .payments .now) (a .used .now) (a .unused .now)
+
+abbrev lists : tie.Start → Lent → Lent
+lists s rest = let a = s .args in lent-member rest (a .figures .now) (a .numbers .now) (a .homes .now)
+
 among-requires : tie.Need-among-requires
 among-requires c κs = search needs
 
--- src/turn.rt:194:9
 returns : tie.Need-returns
-returns c = ?
+returns c =
+    let m = c .before in
+    let s = m .before .before .before .before in
+    let a = s .args in
+    λ bytes rest. turn-refused WrongState (s .pre .2) (move-nowhere (a .tally) bytes (lists s rest) (cols s) (a .requirement) (a .given) (a .row) (a .place)
+    (sym (m .among .ensures) ∙ not-true _ (c .if1 .taken)))
 
--- src/turn.rt:200:9
 columns-long-requires : tie.Need-columns-long-requires
 columns-long-requires c κs = search needs
 
--- src/turn.rt:208:9
 returns-2 : tie.Need-returns-2
-returns-2 c = ?
+returns-2 c =
+    let l = c .before in
+    let m = l .before .before in
+    let s = m .before .before .before .before in
+    let a = s .args in
+    λ bytes rest. turn-refused TooShort (s .pre .2) (move-short (a .tally) bytes (lists s rest) (cols s) (a .requirement) (a .given) (a .row) (a .place)
+    (sym (m .among .ensures) ∙ not-false _ (l .before .if1 .left)) (sym (l .columns-long .ensures) ∙ not-true _ (c .if2 .taken)))
 
--- src/turn.rt:214:5
 from-row-requires : tie.Need-from-row-requires
-from-row-requires c κs = ?
+from-row-requires c κs =
+    let e = c .before in
+    let l = e .before in
+    let m = l .before .before in
+    let s = m .before .before .before .before in
+    (sym (m .among .ensures) ∙ not-false _ (l .before .if1 .left), s .pre .0, s .pre .1, s .pre .2, sym (l .columns-long .ensures) ∙ not-false _ (e .if2 .left))
 
--- src/turn.rt:171:1
 same-length : tie.Need-same-length
 same-length c = search needs
 
--- src/turn.rt:171:1
 returns-3 : tie.Need-returns-3
 returns-3 c = search needs
 
