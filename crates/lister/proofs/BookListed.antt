@@ -1,16 +1,16 @@
 -- A BOOK'S LISTING COMES WHOLE, PIECE BY PIECE: over a taken book, whatever texts are lent and whatever is refused in between, what the calls have written is
 -- the front of the rules' listing, and each call gives of the rest, or says that nothing is left. What is left at a cursor goes along with the moves.
-use mathlib.Core.Path.{_≡_, refl, sym, _∙_, ap, subst, subst₂}
-use mathlib.Core.Bool.{Bool, true, false, true≢false}
-use mathlib.Core.List.{List, [], _∷_, _++_, append-assoc, append-nil}
-use Prim.Native.Nat.{ℕ, suc, _+_, _-_, _≤_, _<_}
+use mathlib.Core.Path.{_≡_, refl, sym, _∙_, ap, subst}
+use mathlib.Core.Bool.{Bool, true, false, _||_, true≢false}
+use mathlib.Core.List.{List, [], _∷_, _++_, append-assoc, append-nil, append-cancel-left}
+use Prim.Native.Nat.{ℕ, _-_, _≤_, _<_}
 use native.Mathlib.Omega.{arith}
 use lib.Dec.{leb}
 use lib.ListN.{length, take, drop, length-append}
 use lib.Seq.{take-append-seam, drop-append-seam}
 use borrow.Author.Tests.{leb-false, le-leb, eq-eqb}
 use Rattle.rules.specs.declared.Refusal.the-variants.{TooShort}
-use Rattle.rules.specs.Refusals.{taken, unless}
+use Rattle.rules.specs.Refusals.{Reply, taken, refused, unless}
 use Rattle.rules.specs.Book.{Book}
 use Rattle.rules.specs.Listing.{listing}
 use Rattle.interval.specs.declared.Tally.{Tally}
@@ -35,8 +35,8 @@ use Rattle.lister.specs.Promises.{
   ListPromise,
 }
 use Rattle.lister.proofs.Promises.{line-fits, refused-writes-nothing, nothing-writes-nothing}
-use Rattle.lister.specs.BookListed.{Taken, Reached, first, piece, again, GivenOf, some, none, no-room, OnItsWay}
-use Rattle.lister.proofs.LinesLeft.{Left, Leads, leads}
+use Rattle.lister.specs.BookListed.{Taken, Reached, first, piece, again, pieces, GivenOf, some, none, no-room, OnItsWay}
+use Rattle.lister.proofs.LinesLeft.{Left, Leads, leads, some-left}
 
 -- ---- a reply
 abbrev IsWritten : Listed → Type 0
@@ -76,6 +76,26 @@ lines-front lines old e = ap (λ (xs : List ℕ). take (length lines) xs) e ∙ 
 
 lines-past : (lines old : List ℕ) {new : List ℕ} → new ≡ lines ++ drop (length lines) old → drop (length lines) new ≡ drop (length lines) old
 lines-past lines old e = ap (λ (xs : List ℕ). drop (length lines) xs) e ∙ drop-append-seam lines (drop (length lines) old)
+
+-- ---- each piece is a byte or more
+module _ (t : Tally) (bytes : List ℕ) (l : Lent) where
+  piece-some :
+      {at next : Cursor} {c c′ : Columns} {old new : List ℕ} {n : ℕ} → ListPromise at t bytes l c old (Written n next) c′ new → 0 < length (take n new)
+  piece-some {at} {next} {c} {c′} {old} {new} {n} p = go (list-tests t (length bytes) at (length old)) (p .kept)
+    where
+      go : (x : Reply Cursor) → by-tests x t bytes l c old (Written n next) c′ new → 0 < length (take n new)
+      go (taken start) q =
+          let s = told-some (q .lines) (q .next) _ (q .reply) in
+          let said : take n new ≡ q .lines = ap (λ (i : ℕ). take i new) (s .0) ∙ lines-front (q .lines) old (q .text) in
+          omega (arith, s .2, ap length said)
+      go (refused why) q = absurd (subst IsWritten (q .reply) tt)
+
+  pieces-said : (c₀ : Columns) {at : Cursor} {c : Columns} {said : List ℕ} (w : Reached t bytes l c₀ at c said) → pieces t bytes l c₀ w ≤ length said
+  unfolding pieces
+  pieces-said c₀ first = omega arith
+  pieces-said c₀ (piece {said = said} {new = new} {n = n} w p) =
+      omega (arith, pieces-said c₀ w, piece-some p, length-append said (take n new))
+  pieces-said c₀ (again w p) = pieces-said c₀ w
 
 module _ {b : Book} {t : Tally} {bytes : List ℕ} {l : Lent} (h : Taken b t bytes l) where
   -- moves one after another say the front of what is left
@@ -143,6 +163,38 @@ module _ {b : Book} {t : Tally} {bytes : List ℕ} {l : Lent} (h : Taken b t byt
           (q .reply) (q .text)
       by false e q = no-room (q .reply) (short t at (length old) e) (q .columns) (q .text)
 
+  -- where nothing is left it says so, in whatever text
+  room-past : (at : Cursor) (c : Columns) {rest : List ℕ} (room : ℕ) → Left b t bytes l at c rest → rest ≡ [] → room-for-any t at room ≡ true
+  room-past at.Interval c room w e = refl
+  room-past (at.Requirement k) c room w e = go (leb (t .requirements) k) refl (leb longest-line room)
+    where
+      go : (s : Bool) → leb (t .requirements) k ≡ s → (u : Bool) → (u || leb (t .requirements) k) ≡ true
+      go s f true = refl
+      go true f false = f
+      go false f false =
+          absurd (omega (arith, ap length e, some-left b t bytes l k w (omega (arith, leb-false (t .requirements) k f, h .requirements))))
+  room-past (at.Answered k a) c room w e = refl
+  room-past (at.Members k a row place) c room w e = refl
+
+  nothing-left :
+      (rest : List ℕ) {at : Cursor} {c c′ : Columns} {old new : List ℕ} {r : Listed} → Left b t bytes l at c rest → rest ≡ [] →
+      ListPromise at t bytes l c old r c′ new → r ≡ Nothing
+  nothing-left rest {at} {c} {c′} {old} {new} {r} w e p = by (rw (room-past at c (length old) w e) at (tested p))
+    where
+      told :
+          (lines : List ℕ) (next : Cursor) (m : Move) (more : List ℕ) → lines ++ more ≡ [] → Leads b t bytes l more m →
+          Stops (length old - length lines) m → r ≡ piece-told lines next m → r ≡ Nothing
+      told [] next (moves line after c₂) more f d stops reply =
+          absurd (omega (arith, ap length f, ap length (d .1), length-append line (d .0)))
+      told [] next ends more f d stops reply = reply
+      told [] next (refuses why) more f d stops reply = absurd d
+      told (x ∷ lines) next m more f d stops reply = absurd (omega (arith, ap length f))
+
+      by : ListedPiece at t bytes l c old r c′ new → r ≡ Nothing
+      by q =
+          let d = goes-left rest (q .piece .goes) w in
+          told (q .lines) (q .next) (move t bytes l (q .next) c′) (d .0) (sym (d .1) ∙ e) (leads h (q .next) c′ (d .0) (d .2)) (q .piece .stops) (q .reply)
+
   -- ---- calls one after another
   module _ (c₀ : Columns) (long : columns-long (t .units) c₀ ≡ true) where
     reached-left :
@@ -175,3 +227,18 @@ module _ {b : Book} {t : Tally} {bytes : List ℕ} {l : Lent} (h : Taken b t byt
     listed-whole {said = said} w p =
         let d = book-listed w in
         sym (d .whole ∙ ap (λ (xs : List ℕ). said ++ xs) (ended (d .gives p) refl) ∙ append-nil said)
+
+    -- and then every call says so, in whatever text
+    pub whole-listed :
+        {at : Cursor} {c c′ : Columns} {said old new : List ℕ} {r : Listed} → Reached t bytes l c₀ at c said → said ≡ listing b →
+        ListPromise at t bytes l c old r c′ new → r ≡ Nothing
+    whole-listed {said = said} w e p =
+        let d = reached-left w in
+        nothing-left (d .0) (d .2) (append-cancel-left said (d .0) [] (sym (d .1) ∙ sym e ∙ sym (append-nil said))) p
+
+    -- NO LISTING HAS MORE PIECES THAN BYTES
+    pub pieces-few :
+        {at : Cursor} {c : Columns} {said : List ℕ} (w : Reached t bytes l c₀ at c said) → pieces t bytes l c₀ w ≤ length (listing b)
+    pieces-few {said = said} w =
+        let d = book-listed w in
+        omega (arith, pieces-said t bytes l c₀ w, ap length (d .whole), length-append said (d .rest))

@@ -1,7 +1,7 @@
 -- What is left of a taken book's listing at a cursor, and that every move says the front of it: nothing is refused, and it ends where nothing is left. The
 -- members' lines are read back from the columns, and the rows of the requirement's regions name them in their order.
 use mathlib.Core.Path.{_≡_, refl, sym, _∙_, ap, subst, subst₂}
-use mathlib.Core.Bool.{Bool, true, false, cond, _&&_}
+use mathlib.Core.Bool.{Bool, true, false, cond}
 use mathlib.Core.List.{List, [], _∷_, _++_, map, append-assoc}
 use Prim.Native.Nat.{ℕ, zero, suc, _+_, _*_, _≤_, _<_}
 use native.Mathlib.Decide.{decLt}
@@ -15,14 +15,13 @@ use lib.Seq.{drop-cons, getD-at, getD-take}
 use borrow.Author.Tests.{ltb-true, lt-ltb, le-ltb, le-leb}
 use Rattle.integers.specs.Sums.{one, both}
 use Rattle.integers.proofs.Sums.{none-below}
-use Rattle.rules.specs.declared.Standing.{Standing}
 use Rattle.rules.specs.Refusals.{Reply, taken, refused}
 use Rattle.rules.specs.Contents.{requirement-size}
 use Rattle.rules.specs.Book.{Requirement, covers, Book}
 use Rattle.rules.specs.RequirementRecord.{requirement-record}
 use Rattle.rules.specs.Members.{unit, residual}
 use Rattle.rules.specs.Answer.{Line, answered, answer, Answer as Full}
-use Rattle.rules.specs.Listing.{interval-line, requirement-line, member-line, joined, answer-lines, listing}
+use Rattle.rules.specs.Listing.{requirement-line, member-line, joined, answer-lines, listing}
 use Rattle.interval.specs.declared.Tally.{Tally}
 use Rattle.interval.specs.Lent.{Lent}
 use Rattle.interval.specs.Calls.{left}
@@ -30,19 +29,19 @@ use Rattle.kept.specs.Kept.{region-of, row-standing, residual-row, kept-answer}
 use Rattle.answer.specs.declared.Answer.{Answer}
 use Rattle.answer.specs.declared.Answered.{Answered}
 use Rattle.answer.specs.declared.Answered.the-variants as reply
-use Rattle.answer.specs.declared.Row.{Row}
-use Rattle.answer.specs.declared.Row.the-variants.{Unit as Member, Other, Refused as Unknown}
+use Rattle.answer.specs.declared.Row.the-variants.{Unit as Member, Other}
 use Rattle.answer.specs.Lists.{headed}
 use Rattle.answer.proofs.Lists.{headed-length, headed-take}
 use Rattle.answer.specs.Promises.{Columns, columns-long, answer-reply, last-standing, shown, replied, with-lines}
 use Rattle.answer.specs.Roster.{Named, member-reply, row-answer, row-says}
 use Rattle.answer.specs.BookAnswered.{Answers, RulesAnswer, line-named}
 use Rattle.answer.proofs.ReportLaws.{up-to, up-to-none, up-to-more, up-to-few, found-at}
-use Rattle.listing.specs.Lines.{answer-of, unit-of, residual-of}
+use Rattle.listing.specs.Lines.{unit-of, residual-of}
 use Rattle.lister.specs.declared.Cursor.{Cursor}
 use Rattle.lister.specs.declared.Cursor.the-variants as at
-use Rattle.lister.specs.Move.{Move, moves, ends, refuses, line-of, amounts-at, among, answering, row-move, member-move, move}
+use Rattle.lister.specs.Move.{Move, moves, ends, refuses, amounts-at, answering, row-move, member-move, move}
 use Rattle.lister.specs.BookListed.{Taken}
+use Rattle.lister.proofs.Promises.{requirement-some}
 
 -- ---- lists
 some-of : {A : Type 0} (xs : List A) (k : ℕ) → k < length xs → A
@@ -403,3 +402,21 @@ module _ {b : Book} {t : Tally} {bytes : List ℕ} {l : Lent} (h : Taken b t byt
   leads (at.Requirement k) c rest w = from-requirement k c rest w
   leads (at.Answered k a) c rest w = from-answered k a c rest w
   leads (at.Members k a row place) c rest w = from-members k a row place c rest w
+
+-- where a requirement is yet to be answered something is left
+pub some-left :
+    (b : Book) (t : Tally) (bytes : List ℕ) (l : Lent) (k : ℕ) {c : Columns} {rest : List ℕ} → LeftRequirement b t bytes l k c rest → k < length (b .requirements) →
+    0 < length rest
+unfolding joined answer-lines
+some-left b t bytes l k w inside =
+    let qs = b .requirements in
+    let z = some-of qs k inside in
+    let full = answer b (getD qs k z) in
+    let e = w .left ∙ ap (λ (xs : List Requirement). lines-of-all b xs) (drop-cons qs k z inside) in
+    omega (
+      arith,
+      ap length e,
+      length-append (answer-lines full) (lines-of-all b (drop (suc k) qs)),
+      length-append (requirement-line full) (joined member-line (full .lines)),
+      requirement-some full,
+    )

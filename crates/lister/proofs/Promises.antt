@@ -1,13 +1,13 @@
 -- Laws of the definitions in specs/Promises.antt: a listing goes one way alone, so that a call has one answer; and on a refusal nothing is written. Only an
 -- answered requirement changes the columns, and its line, which comes next, has room wherever a requirement is yet to be answered.
 use mathlib.Core.Path.{_≡_, refl, sym, _∙_, ap, subst, subst₂}
-use mathlib.Core.Bool.{Bool, true, false, cond, _&&_, _||_, false≢true}
+use mathlib.Core.Bool.{Bool, true, false, cond, _&&_}
 use mathlib.Core.List.{List, [], _∷_, _++_}
 use Prim.Native.Nat.{ℕ, suc, _+_, _-_, _*_, _≤_, _<_}
 use native.Mathlib.Omega.{arith}
 use lib.Dec.{eqb, leb, ltb, lit≤}
 use lib.ListN.{length, drop, length-append}
-use borrow.Author.Tests.{leb-true, leb-false, lt-ltb, ltb-true, ltb-false}
+use borrow.Author.Tests.{leb-true, lt-ltb, ltb-true}
 use Rattle.rules.specs.declared.Direction.{Direction}
 use Rattle.rules.specs.declared.Direction.the-variants.{Raise, Lower}
 use Rattle.rules.specs.declared.Refusal.{Refusal}
@@ -36,21 +36,7 @@ use Rattle.lister.specs.declared.Cursor.the-variants as at
 use Rattle.lister.specs.declared.Listed.{Listed}
 use Rattle.lister.specs.declared.Listed.the-variants.{Written, Nothing, Refused}
 use Rattle.lister.specs.Move.{Move, moves, ends, refuses, line-of, amounts-at, among, answering, row-move, move}
-use Rattle.lister.specs.Promises.{
-  longest-line,
-  room-for-any,
-  list-tests,
-  Stops,
-  Goes,
-  stays,
-  and-then,
-  Piece,
-  piece-told,
-  ListedPiece,
-  Unlisted,
-  by-tests,
-  ListPromise,
-}
+use Rattle.lister.specs.Promises.{longest-line, room-for-any, list-tests, Stops, Goes, stays, and-then, piece-told, by-tests, ListPromise}
 
 -- ---- no line is empty, and none is longer than the longest
 words-some : (ws : List (List ℕ)) → 0 < length (words ws)
@@ -58,6 +44,9 @@ unfolding words text
 words-some [] = omega arith
 words-some (w ∷ []) = omega (arith, length-append w (text "\n"))
 words-some (w ∷ v ∷ ws) = omega (arith, length-append w (text " " ++ words (v ∷ ws)))
+
+pub requirement-some : (a : Full) → 0 < length (requirement-line a)
+requirement-some a = words-some _
 
 direction-most : (d : Direction) → length (direction-word d) ≤ 5
 unfolding text
