@@ -59,7 +59,13 @@ told-some [] next ends e = absurd (subst IsWritten e tt)
 told-some [] next (refuses r) e = absurd (subst IsWritten e tt)
 told-some (x ∷ lines) next m e = let w = written-only e in (w .0, w .1, omega arith)
 
--- where the longest line has room, any has
+-- nothing is told where nothing is left
+ended : {rest old new : List ℕ} {c c′ : Columns} {r : Listed} → GivenOf rest c old r c′ new → r ≡ Nothing → rest ≡ []
+ended (some n next reply above fits front inside past) e = absurd (subst IsNothing (sym e ∙ reply) tt)
+ended (none reply left columns text) e = left
+ended (no-room reply room columns text) e = absurd (subst IsNothing (sym e ∙ reply) tt)
+
+-- the test of the room fails only in a text shorter than the longest line
 short : (t : Tally) (at : Cursor) (room : ℕ) → room-for-any t at room ≡ false → room < longest-line
 short t at.Interval room e = absurd (true≢false e)
 short t (at.Requirement k) room e = go (leb longest-line room) refl
@@ -214,11 +220,6 @@ module _ {b : Book} {t : Tally} {bytes : List ℕ} {l : Lent} (h : Taken b t byt
     book-listed w =
         let d = reached-left w in
         record { rest = d .0; whole = d .1; gives = λ p. gives-left (d .0) (d .2) p }
-
-    ended : {rest old new : List ℕ} {c c′ : Columns} {r : Listed} → GivenOf rest c old r c′ new → r ≡ Nothing → rest ≡ []
-    ended (some n next reply above fits front inside past) e = absurd (subst IsNothing (sym e ∙ reply) tt)
-    ended (none reply left columns text) e = left
-    ended (no-room reply room columns text) e = absurd (subst IsNothing (sym e ∙ reply) tt)
 
     -- WHERE A CALL SAYS THAT NOTHING IS LEFT the whole listing is written
     pub listed-whole :

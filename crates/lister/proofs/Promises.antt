@@ -285,7 +285,7 @@ module _ (t : Tally) (bytes : List ℕ) (l : Lent) where
       (said-some c (member-line (residual-of (a .residual) (amounts-at c place))) (at.Requirement (suc k)) c (words-some _))
       (λ r. tt)
 
-  -- by no line
+  -- so do moves one after another
   quiet : {at next : Cursor} {c c′ : Columns} {lines : List ℕ} → Goes t bytes l at c lines next c′ → Settled at → lines ≡ [] → c′ ≡ c
   quiet stays h e = refl
   quiet (and-then {at = at} {next = next} {c = c} {c₁ = c₁} {line = []} m g) h e =
@@ -301,7 +301,7 @@ module _ (t : Tally) (bytes : List ℕ) (l : Lent) where
       let w = subst Comes m (comes at c h) in
       omega (arith, w .0, ap length e, length-append line lines)
 
-  pub columns-stay :
+  columns-stay :
       (at : Cursor) {next : Cursor} {c c′ : Columns} {lines : List ℕ} (room : ℕ) → room-for-any t at room ≡ true → Goes t bytes l at c lines next c′ →
       lines ≡ [] → Stops room (move t bytes l next c′) → c′ ≡ c
   columns-stay at.Interval room fine g e s = quiet g tt e
