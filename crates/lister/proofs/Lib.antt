@@ -2,7 +2,12 @@
 pub mod SaidLaws
 pub mod StepsLaws
 pub mod ListLaws
--- laws of the moves, and of the members' rows
+-- of the moves, the members' rows and a requirement's turn
 pub mod MoveLaws
 pub mod MembersLaws
 pub mod TurnLaws
+-- a call for a piece of a listing has one answer, and on a refusal nothing is written
+pub mod Promises
+-- what is left of a taken book's listing at a cursor, and that its pieces are the rules' listing
+mod LinesLeft
+pub mod BookListed

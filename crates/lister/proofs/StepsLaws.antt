@@ -47,6 +47,14 @@ said-within {line} {old} {done = done} {r = r} w h = go (decLe (done + length li
     go (yes k) = omega (arith, w .said k .0, k)
     go (no k) = omega (arith, w .unsaid (omega arith) .0, h)
 
+-- and the text stays as long as it was
+pub said-fits : {line old new : List ℕ} {done r : ℕ} → Said line done old r new → done ≤ length old → done + r ≤ length new
+said-fits {line} {old} {new} {done} {r} w h = go (decLe (done + length line) (length old))
+  where
+    go : Dec (done + length line ≤ length old) → done + r ≤ length new
+    go (yes k) = omega (arith, w .said k .0, k, ap length (w .said k .1) ∙ same-size done line old k)
+    go (no k) = omega (arith, w .unsaid (omega arith) .0, ap length (w .unsaid (omega arith) .1), h)
+
 module _ {t : Tally} {bytes : List ℕ} {l : Lent} where
   pub goes-then :
       {at mid last : Cursor} {c c₁ c₂ : Columns} {first second : List ℕ} → Goes t bytes l at c first mid c₁ → Goes t bytes l mid c₁ second last c₂ →

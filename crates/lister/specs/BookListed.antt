@@ -2,7 +2,7 @@
 use mathlib.Core.Path.{_≡_}
 use mathlib.Core.Bool.{true, false}
 use mathlib.Core.List.{List, [], _++_}
-use Prim.Native.Nat.{ℕ, _+_, _*_, _≤_, _<_}
+use Prim.Native.Nat.{ℕ, suc, _+_, _*_, _≤_, _<_}
 use lib.ListN.{length, getD, take, drop}
 use Rattle.rules.specs.declared.Refusal.{Refusal}
 use Rattle.rules.specs.declared.Refusal.the-variants.{TooShort}
@@ -44,6 +44,12 @@ module _ (t : Tally) (bytes : List ℕ) (l : Lent) (c₀ : Columns) where
     again :
         {at : Cursor} {c c′ : Columns} {said old new : List ℕ} {why : Refusal} → Reached at c said → ListPromise at t bytes l c old (Refused why) c′ new →
         Reached at c′ said
+
+  -- how many of them wrote something
+  unfoldable pub pieces : {at : Cursor} {c : Columns} {said : List ℕ} → Reached at c said → ℕ
+  pieces first = 0
+  pieces (piece w p) = suc (pieces w)
+  pieces (again w p) = pieces w
 
 -- what a call gives of the rest: some of it, in a text that had room for it; or nothing, where nothing is left; or 12, in a text shorter than the longest line,
 -- and nothing is written

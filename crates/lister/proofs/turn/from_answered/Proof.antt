@@ -4,7 +4,7 @@ use Rattle.rules.specs.declared.Refusal.the-variants.{WrongState}
 use Rattle.interval.specs.Lent.{Lent, lent-member}
 use Rattle.answer.specs.Promises.{Columns, columns}
 use Rattle.lister.proofs.MoveLaws.{move-past}
-use Rattle.lister.proofs.StepsLaws.{said-within}
+use Rattle.lister.proofs.StepsLaws.{said-within, said-fits}
 use Rattle.lister.proofs.TurnLaws.{turn-refused, answered-full, answered-then}
 use borrow.Author.Needs.{needs}
 use Rattle.lister.proofs.turn.from_answered.Statement.{statement}
@@ -45,7 +45,10 @@ add-from-members c =
     omega (arith, said-within (w .say-requirement .ensures) (start w .pre .2), start w .good)
 
 from-members-requires : tie.Need-from-members-requires
-from-members-requires c κs = ?
+from-members-requires c κs =
+    let w = c .before .before .before .before in
+    let s = start w in
+    (s .pre .0, s .pre .1, said-fits (w .say-requirement .ensures) (s .pre .2))
 
 same-length-2 : tie.Need-same-length-2
 same-length-2 c = search needs
