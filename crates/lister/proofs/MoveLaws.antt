@@ -49,8 +49,7 @@ columns-there units place c e h =
     let a = both (ltb units (length (c .performances))) _ e in
     let b = both (ltb units (length (c .factors))) _ (a .1) in
     let d = both (ltb units (length (c .payments))) _ (b .1) in
-    let f = both (ltb units (length (c .used))) _ (d .1) in
-    (
+    let f = both (ltb units (length (c .used))) _ (d .1) in (
       omega (arith, ltb-true units (length (c .performances)) (a .0)),
       omega (arith, ltb-true units (length (c .factors)) (b .0)),
       omega (arith, ltb-true units (length (c .payments)) (d .0)),

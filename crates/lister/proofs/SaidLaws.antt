@@ -25,8 +25,13 @@ with-lines-at done lines old = take done old ++ (lines ++ drop (done + length li
 module _ (done : ℕ) (lines old : List ℕ) (fits : done + length lines ≤ length old) where
   pub same-size : length (with-lines-at done lines old) ≡ length old
   same-size =
-      omega (arith, length-append (take done old) (lines ++ drop (done + length lines) old), length-append lines (drop (done + length lines) old),
-      length-drop (done + length lines) old, length-take-le done old (omega arith))
+      omega (
+        arith,
+        length-append (take done old) (lines ++ drop (done + length lines) old),
+        length-append lines (drop (done + length lines) old),
+        length-drop (done + length lines) old,
+        length-take-le done old (omega arith),
+      )
 
   front : with-lines-at done lines old ≡ (take done old ++ lines) ++ drop (done + length lines) old
   front = sym (append-assoc (take done old) lines (drop (done + length lines) old))
@@ -86,5 +91,12 @@ said-line {text = text} {text′ = text′} {done = done} {r = r} w s = subst (�
 -- its own text stays as long as it was
 pub line-size : {line old whole : List ℕ} {start : ℕ} → LineWritten line old start whole → length old ≡ 165 → 165 ≤ length whole
 line-size {line} {old} {whole} {start} w e =
-    omega (arith, w .place, ap length (w .bytes), ap length (w .before), length-drop start whole, length-take-le start old (omega (arith, w .place, e)),
-    length-take start whole)
+    omega (
+      arith,
+      w .place,
+      ap length (w .bytes),
+      ap length (w .before),
+      length-drop start whole,
+      length-take-le start old (omega (arith, w .place, e)),
+      length-take start whole,
+    )

@@ -161,9 +161,10 @@ module _ (t : Tally) (bytes : List ℕ) (l : Lent) (c : Columns) (k : ℕ) (one 
       go : (x : Reply Requirement) → reply ≡ x → (move t bytes l (at.Requirement k) c ≡ refuses why) × (c₁ ≡ c)
       go (taken q) f = absurd (true≢false (ap is-given (sym (w .reply ∙ ap (replied t l) f) ∙ e)))
       go (refused x) f =
-          let same : x ≡ why = ap (refusal-of x) (sym (w .reply ∙ ap (replied t l) f) ∙ e) in
-          (move-requirement t bytes l c k one ∙ ap (answering t bytes l k c) f ∙ ap refuses same,
-          w .written ∙ ap (λ (y : Reply Requirement). left (λ q. with-lines (kept-answer t l q)) y c) f)
+          let same : x ≡ why = ap (refusal-of x) (sym (w .reply ∙ ap (replied t l) f) ∙ e) in (
+            move-requirement t bytes l c k one ∙ ap (answering t bytes l k c) f ∙ ap refuses same,
+            w .written ∙ ap (λ (y : Reply Requirement). left (λ q. with-lines (kept-answer t l q)) y c) f,
+          )
         where
           refusal-of : Refusal → Answered → Refusal
           refusal-of other (Given a) = other

@@ -78,7 +78,14 @@ fn list_row(
     let who = member(tally, row, direction, given.set, figures, numbers, homes);
     match who {
         Row::Unit(number, standing) => {
-            let shares = amounts(place as usize, performances, factors, payments, used, unused);
+            let shares = amounts(
+                place as usize,
+                performances,
+                factors,
+                payments,
+                used,
+                unused,
+            );
             let said = say_unit(number, standing, shares, done, text);
             if said == 0 {
                 return halted(row, place, done, Halt::Full);

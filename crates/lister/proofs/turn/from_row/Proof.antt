@@ -42,9 +42,14 @@ from-residual-requires c κs =
     let u = c .before .before .before .before .before in
     let s = start u in
     let a = s .args in
-    let w = u .list-units .ensures [] no-lists in
-    (among-means (a .tally) (a .requirement) (a .row) (a .place) (s .pre .0) .requirement, s .pre .1, s .pre .2, omega (arith, w .few, w .inside),
-    omega (arith, w .runs .fits, run-size (w .runs)), s .pre .4)
+    let w = u .list-units .ensures [] no-lists in (
+      among-means (a .tally) (a .requirement) (a .row) (a .place) (s .pre .0) .requirement,
+      s .pre .1,
+      s .pre .2,
+      omega (arith, w .few, w .inside),
+      omega (arith, w .runs .fits, run-size (w .runs)),
+      s .pre .4,
+    )
 
 same-length-2 : tie.Need-same-length-2
 same-length-2 c = search needs
