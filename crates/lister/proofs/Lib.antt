@@ -11,3 +11,5 @@ pub mod Promises
 -- what is left of a taken book's listing at a cursor, and that its pieces are the rules' listing
 mod LinesLeft
 pub mod BookListed
+-- a listing comes to its end
+pub mod Progress

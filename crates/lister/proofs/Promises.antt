@@ -36,15 +36,10 @@ use Rattle.lister.specs.declared.Cursor.the-variants as at
 use Rattle.lister.specs.declared.Listed.{Listed}
 use Rattle.lister.specs.declared.Listed.the-variants.{Written, Nothing, Refused}
 use Rattle.lister.specs.Move.{Move, moves, ends, refuses, line-of, amounts-at, among, answering, row-move, move}
+use Rattle.lister.proofs.SaidLaws.{words-some}
 use Rattle.lister.specs.Promises.{longest-line, room-for-any, list-tests, Stops, Goes, stays, and-then, piece-told, by-tests, ListPromise}
 
--- ---- no line is empty, and none is longer than the longest
-words-some : (ws : List (List ℕ)) → 0 < length (words ws)
-unfolding words text
-words-some [] = omega arith
-words-some (w ∷ []) = omega (arith, length-append w (text "\n"))
-words-some (w ∷ v ∷ ws) = omega (arith, length-append w (text " " ++ words (v ∷ ws)))
-
+-- ---- no line is longer than the longest
 pub requirement-some : (a : Full) → 0 < length (requirement-line a)
 requirement-some a = words-some _
 
