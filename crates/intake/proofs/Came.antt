@@ -30,8 +30,8 @@ use Rattle.chain.specs.BookWay.{records-in}
 use Rattle.chain.specs.Keeps.{BookMeans}
 use Rattle.chain.specs.Spelled.{spelled}
 use Rattle.chain.proofs.Spelled.{chain-book}
-use Rattle.intake.specs.Turns.{TurnPromise, counts-of}
-use Rattle.intake.proofs.Turns.{turn-calls}
+use Rattle.reader.specs.Turns.{TurnPromise, counts-of}
+use Rattle.reader.proofs.Turns.{turn-calls}
 use Rattle.intake.specs.declared.whole.Next as n
 use Rattle.intake.specs.declared.whole.Next.{Next}
 use Rattle.intake.specs.Came.{Came, RefusedBook, RoomFor, TakenTo, at-contents, at-record}

@@ -2,7 +2,6 @@
 // it is takes the record. A whole book goes so to its end, from a file or held in memory.
 pub mod held;
 pub mod input;
-pub mod turn;
 pub mod whole;
 
 pub const UNITS: usize = 512;

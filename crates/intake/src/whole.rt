@@ -8,8 +8,6 @@ ghost use Rattle.intake.specs.Came.{TakenTo, RoomFor};
 use super::RECORDS;
 use super::UNITS;
 use super::input::fill_from;
-use super::turn::size;
-use super::turn::take;
 use book::CONTENTS;
 use book::REQUIREMENT;
 use interval::FIGURES_LENGTH;
@@ -21,6 +19,8 @@ use interval::Taking;
 use interval::Tally;
 use interval::requirement::requirement;
 use interval::turns::BEFORE_UNITS;
+use reader::turn::size;
+use reader::turn::take;
 use rules::Located;
 use rules::locate;
 

@@ -8,7 +8,7 @@ use Rattle.interval.specs.declared.Tally.{Tally}
 use Rattle.interval.specs.Tally.{units-end, book-end}
 use Rattle.interval.specs.Lent.{Lent}
 use Rattle.intake.specs.declared.whole.Next.{Next}
-use Rattle.intake.specs.Turns.{TurnPromise}
+use Rattle.reader.specs.Turns.{TurnPromise}
 use Rattle.intake.specs.Came.{Came, RoomFor, TakenTo}
 use Rattle.intake.proofs.Came.{came-here, came-next, came-records, came-stops, not-taken}
 use Rattle.intake.proofs.whole.take_requirements.Statement.{statement}

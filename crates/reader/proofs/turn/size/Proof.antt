@@ -3,8 +3,8 @@ use native.Mathlib.Omega.{arith}
 use lib.Dec.{lit≤}
 use mathlib.Core.Path.{sym}
 use Rattle.chain.proofs.BookRecords.{settings-sized, frequency-sized, unit-sized, requirement-sized}
-use Rattle.intake.proofs.turn.size.Statement.{statement}
-use Rattle.intake.proofs.turn.size.Tie as tie
+use Rattle.reader.proofs.turn.size.Statement.{statement}
+use Rattle.reader.proofs.turn.size.Tie as tie
 
 returns : tie.Need-returns
 returns c = (sym (settings-sized _ _ (omega arith)), lit≤ tt)

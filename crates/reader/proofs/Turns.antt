@@ -10,7 +10,7 @@ use Rattle.interval.specs.Lent.{Lent}
 use Rattle.interval.proofs.Promises.{settings-only, frequency-only, unit-only, requirement-only}
 use Rattle.chain.specs.BookRecords.{record-size}
 use Rattle.chain.specs.Way.{Call}
-use Rattle.intake.specs.Turns.{TurnPromise, counts-of}
+use Rattle.reader.specs.Turns.{TurnPromise, counts-of}
 
 pub size-only : (t : Tally) {r r′ : ℕ} → r ≡ record-size (t .units) (t .records) → r′ ≡ record-size (t .units) (t .records) → r ≡ r′
 size-only t a b = a ∙ sym b

@@ -4,7 +4,7 @@ ghost use mathlib.Core.Path.{_≡_};
 ghost use Prim.Native.Nat.{_≤_};
 ghost use Rattle.chain.specs.BookRecords.{record-size};
 ghost use Rattle.interval.specs.Lent.{lent-unit};
-ghost use Rattle.intake.specs.Turns.{TurnPromise};
+ghost use Rattle.reader.specs.Turns.{TurnPromise};
 use book::FREQUENCY;
 use book::REQUIREMENT;
 use book::SETTINGS;

@@ -4,9 +4,9 @@ use mathlib.Core.List.{[]}
 use native.Mathlib.Omega.{arith}
 use borrow.Author.Needs.{needs}
 use Rattle.interval.specs.Lent.{lent-unit}
-use Rattle.intake.specs.Turns.{TurnPromise}
-use Rattle.intake.proofs.turn.take.Statement.{statement}
-use Rattle.intake.proofs.turn.take.Tie as tie
+use Rattle.reader.specs.Turns.{TurnPromise}
+use Rattle.reader.proofs.turn.take.Statement.{statement}
+use Rattle.reader.proofs.turn.take.Tie as tie
 
 settings-requires : tie.Need-settings-requires
 settings-requires c κs = search needs
