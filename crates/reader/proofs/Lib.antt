@@ -1,2 +1,6 @@
 pub mod Turns
 pub mod ReadingLaws
+pub mod OneMore
+pub mod Arrives
+pub mod ReadsStep
+pub mod ReadsBook
