@@ -4,3 +4,4 @@ pub mod OneMore
 pub mod Arrives
 pub mod ReadsStep
 pub mod ReadsBook
+pub mod ReadsAmong

@@ -101,7 +101,7 @@ module _ {alone : Bool} {bs place₀ : List ℕ} {l₀ : Lent} where
             }
 
   -- ---- where it ends
-  reads-fair :
+  pub reads-fair :
       {n p : ℕ} {r : Came} {place : List ℕ} {l : Lent} → 769 ≤ length place₀ → Fair alone bs l₀ → Reads alone bs place₀ l₀ n p r place l →
       ReadOutcome bs l₀ r place l
   reads-fair {n} {p} {r} {place} {l} room fair w = go r (walked room w)

@@ -117,10 +117,10 @@ module _
     abbrev start : ℕ
     start = requirement-size * (t .records - units-end t)
 
-    means : Means bs (part-of bs) l₀ (t .records) t l
+    pub means : Means bs (part-of bs) l₀ (t .records) t l
     means = chain (s .chain)
 
-    same-end : book-end t ≡ records-in bs
+    pub same-end : book-end t ≡ records-in bs
     same-end = ap₂ (λ (u q : ℕ). before-units + u + q) (means .units) (means .requirements)
 
     fits : start + asked t alone ≤ 769
