@@ -5,3 +5,4 @@ pub mod Arrives
 pub mod ReadsStep
 pub mod ReadsBook
 pub mod ReadsAmong
+pub mod ReadFrom

@@ -443,7 +443,7 @@ module _
 never-many : (w : Wanted) (count : ℕ) → count ≤ w .to - w .from → w .to - w .from < count → ⊥
 never-many w count h f = omega arith
 
-within-wanted :
+pub within-wanted :
     (alone : Bool) {bs : List ℕ} {p count : ℕ} {old new : List ℕ} (reading : Reading) → Arrives bs p (wanted-part reading alone (length old)) count old new →
     TooMany (wanted-part reading alone (length new)) count → ⊥
 within-wanted alone {count = count} reading a h =

@@ -74,3 +74,10 @@ abbrev pub ReadOutcome : List ℕ → Lent → Came → List ℕ → Lent → Ty
 ReadOutcome bs l₀ (Wants reading) place l = Unit {0}
 ReadOutcome bs l₀ (Taken t) place l = TakenBook bs l₀ t place l
 ReadOutcome bs l₀ (Refused why) place l = book bs ≡ refused why
+
+-- ---- what came is an input, of bytes, and the reading of it a walk, whatever would have come behind it
+pub record ReadFrom (alone : Bool) (place₀ : List ℕ) (l₀ : Lent) (r : Came) (place : List ℕ) (l : Lent) : Type 0 where
+  pub input : List ℕ
+  pub arrivals : ℕ
+  pub walk : Reads alone input place₀ l₀ arrivals (length input) r place l
+  pub bytes : (i : ℕ) → getD input i 0 < 256

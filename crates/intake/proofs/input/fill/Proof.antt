@@ -3,14 +3,14 @@ use mathlib.Core.Path.{_≡_, refl}
 use Prim.Native.Nat.{_-_, _≤_}
 use native.Mathlib.Omega.{arith}
 use lib.ListN.{length}
-use Rattle.intake.proofs.input.fill_from.Statement.{statement}
-use Rattle.intake.proofs.input.fill_from.Tie as tie
+use Rattle.intake.proofs.input.fill.Statement.{statement}
+use Rattle.intake.proofs.input.fill.Tie as tie
 
 abbrev Inv-loop : tie.InvT-loop
-Inv-loop file place₀ done₀ place done = (done ≤ length place) × (length place ≡ length place₀)
+Inv-loop place₀ done₀ place done = (done ≤ length place) × (length place ≡ length place₀)
 
 abbrev μ-loop : tie.MeasureT-loop
-μ-loop file place₀ done₀ place done = length place₀ - done
+μ-loop place₀ done₀ place done = length place₀ - done
 
 loop-holds : tie.Need-loop-holds Inv-loop μ-loop
 loop-holds c = (omega arith, refl)
@@ -45,8 +45,8 @@ same-length-3 c = omega arith
 returns-3 : tie.Need-returns-3 Inv-loop μ-loop
 returns-3 c = omega arith
 
-pub fill-from-spec : {M : Type 1} → statement M
-fill-from-spec =
+pub fill-spec : {M : Type 1} → statement M
+fill-spec =
     tie.close
     (tie.spec
     Inv-loop
