@@ -98,15 +98,9 @@ pub fn take_book(
             deviations,
         );
         match said {
-            Came::Wants(next) => {
-                reading = next;
-            }
-            Came::Taken(tally) => {
-                return Next::Taken(tally);
-            }
-            Came::Refused(why) => {
-                return Next::Refused(why);
-            }
+            Came::Wants(next) => reading = next,
+            Came::Taken(tally) => return Next::Taken(tally),
+            Came::Refused(why) => return Next::Refused(why),
         }
     }
 }
