@@ -1,6 +1,5 @@
-// settle: reads a book on standard input, record by record, and prints its listing; on refusal the one line `refused` with number, place and t. Nothing
-// is printed before the book has ended. What goes wrong with reading or writing is told on standard error.
-mod answers;
+// settle: reads a book on standard input, as its bytes come, and prints its listing; on refusal the one line `refused` with number, place and t. Nothing is
+// printed before the book has ended. What goes wrong with reading or writing is told on standard error.
 mod output;
 
 use intake::MEMBERS;
@@ -22,9 +21,9 @@ use rules::locate;
 //   units: numbers 1,024, homes 512, rows 32,768, groups 1,024
 //   bytes 769
 //   columns: performances, factors, payments, used, unused 4,104 each; the first holds the deviations of a group while the book is read
-//   a line of text 165
-//   five of a unit's readings 20 (`units`), a share's counters 512 (`share`)
-// Together 65,214, within 65,536.
+//   a text of 165, the longest line
+//   one of: five of a unit's readings 20 (`units`), a share's counters 512 (`share`), a line that is put together 165 (`lister`)
+// Together 65,194, within 65,536.
 fn main() {
     let mut measures = [0i32; SERIES_LENGTH];
     let mut sums = [0i64; SUMS_LENGTH];
@@ -54,28 +53,26 @@ fn main() {
         &mut performances,
     );
     match next {
-        Next::Taken(tally) => answers::print_book(
-            tally,
-            &bytes,
-            &measures,
-            &sums,
-            &figures,
-            &numbers,
-            &homes,
-            &rows,
-            &mut performances,
-            &mut factors,
-            &mut payments,
-            &mut used,
-            &mut unused,
-            &mut text,
-        ),
-        Next::Ended => {
-            output::refused(locate(0, Refusal::EndsEarly), &mut text);
+        Next::Taken(tally) => {
+            output::print_listing(
+                tally,
+                &bytes,
+                &measures,
+                &sums,
+                &figures,
+                &numbers,
+                &homes,
+                &rows,
+                &mut performances,
+                &mut factors,
+                &mut payments,
+                &mut used,
+                &mut unused,
+                &mut text,
+            );
         }
-        Next::Refused(said) => {
-            output::refused(said, &mut text);
-        }
-        Next::Failed => output::reading_failed(),
+        Next::Ended => output::print_refused(locate(0, Refusal::EndsEarly)),
+        Next::Refused(said) => output::print_refused(said),
+        Next::Failed => output::say_reading_failed(),
     }
 }
