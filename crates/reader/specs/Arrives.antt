@@ -76,7 +76,7 @@ ReadOutcome bs l₀ (Wants reading) place l = Unit {0}
 ReadOutcome bs l₀ (Taken t) place l = TakenBook bs l₀ t place l
 ReadOutcome bs l₀ (Refused why) place l = book bs ≡ refused why
 
--- ---- what came is an input, of bytes, and the reading of it a walk, whatever would have come behind it
+-- ---- what came is an input of its own, of bytes, and the reading of it a walk to its end; of what would have come behind it nothing is said
 pub record ReadFrom (alone : Bool) (place₀ : List ℕ) (l₀ : Lent) (r : Came) (place : List ℕ) (l : Lent) : Type 0 where
   pub input : List ℕ
   pub arrivals : ℕ
