@@ -1,5 +1,5 @@
 -- Laws of the definitions in specs/Came.antt: a walk of the reading has taken records of a book, one after the other, or met a refusal.
-use mathlib.Core.Path.{_≡_, refl, sym, _∙_, ap, ap₂, subst}
+use mathlib.Core.Path.{_≡_, refl, sym, _∙_, ap₂, subst}
 use mathlib.Core.Bool.{Bool, true, false, cond}
 use mathlib.Core.List.{List}
 use Prim.Native.Nat.{ℕ, suc, _+_, _≤_, _<_}
@@ -18,9 +18,9 @@ use Rattle.interval.specs.declared.Taking.{Taking}
 use Rattle.interval.specs.Tally.{before-units, book-end}
 use Rattle.interval.specs.Lent.{Lent}
 use Rattle.interval.specs.Promises.{ContentsPromise}
-use Rattle.chain.specs.Taken.{counts-in, CountsFit}
+use Rattle.chain.specs.Taken.{counts-in}
 use Rattle.chain.proofs.Taken.{contents-is}
-use Rattle.chain.specs.Chain.{Chain, Means}
+use Rattle.chain.specs.Chain.{Chain}
 use Rattle.chain.proofs.ChainTheorem.{chain}
 use Rattle.chain.specs.BookWay.{records-in}
 use Rattle.chain.specs.Keeps.{BookMeans}
@@ -30,9 +30,9 @@ use Rattle.reader.specs.declared.Reading.{Reading}
 use Rattle.reader.specs.declared.Reading.the-variants.{Contents, Record}
 use Rattle.reader.specs.declared.Came as r
 use Rattle.reader.specs.Reading.{CamePromise, ContentsCame, RecordCame, after-contents, after-record, all, is-end, some, too-many, wanted-part}
-use Rattle.reader.specs.Arrives.{Arrives, ReadFrom, Reads, arrives, starts}
-use Rattle.reader.proofs.OneMore.{OneMore, chain-calls, chain-next, next-part, one-more}
-use Rattle.reader.proofs.Arrives.{AtContents, AtRecord, Stands}
+use Rattle.reader.specs.Arrives.{Arrives, Reads, arrives, starts}
+use Rattle.reader.proofs.OneMore.{chain-calls, chain-next, next-part, one-more}
+use Rattle.reader.proofs.Arrives.{Stands}
 use Rattle.reader.proofs.ReadsStep.{within-wanted}
 use Rattle.reader.proofs.ReadsBook.{walked}
 use Rattle.intake.specs.declared.whole.Next as n

@@ -1,5 +1,5 @@
-// intake: what every program that reads books does alike. A book comes from a file however few bytes each reading brings, each to where the reading wants it; or
-// it is held whole in memory, and each record goes from there to the call whose turn it is.
+// intake: what every program that reads books does alike. A book comes from a file, however few bytes each reading brings, to where they are wanted; or it is
+// held whole in memory, and each record goes from there to the call whose turn it is.
 pub mod held;
 pub mod input;
 pub mod whole;

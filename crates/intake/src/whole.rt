@@ -1,5 +1,5 @@
-// A whole book from an open file: bytes go where the reading wants them, however few come at a time, up to the book's end or its refusal. The programs that read
-// books differ in what they do with one that was taken.
+// A whole book from an open file: bytes go where they are wanted, however few come at a time, up to the book's end or its refusal. The programs that read books
+// differ in what they do with one that was taken.
 ghost use Prim.Native.Nat.{_≤_};
 ghost use lib.ListN.{length};
 ghost use Rattle.interval.specs.Lent.{lent-unit};

@@ -1,40 +1,30 @@
--- Where a walk stands: so many records of the book were taken from the bytes that came, what has come of the next one is in its place, and the requirements so far
--- stay in theirs. Each arrival leads to such a place again, to the book's end, or to the format's refusal.
-use mathlib.Core.Path.{_≡_, refl, sym, _∙_, ap, ap₂, subst}
+-- Where a walk stands: so many records of the book were taken from the bytes that came, what has come of the next one is in its place, and the requirements so
+-- far stay in theirs.
+use mathlib.Core.Path.{_≡_, sym, _∙_, ap, ap₂}
 use mathlib.Core.Bool.{Bool, true, false, cond, _&&_}
 use mathlib.Core.List.{List, _++_}
-use Prim.Native.Nat.{ℕ, zero, suc, _+_, _*_, _-_, _≤_, _<_, min}
+use Prim.Native.Nat.{ℕ, _+_, _*_, _-_, _≤_, _<_}
 use native.Mathlib.Decide.{decLt}
-use native.Mathlib.Numerals.{add-one}
 use native.Mathlib.Omega.{arith}
 use lib.Dec.{eqb, leb}
-use lib.ListN.{length, getD, take, drop, length-take, length-drop}
-use lib.Seq.{drop-drop, ext-getD, getD-drop, getD-take, take-add, take-all, take-take}
-use borrow.Author.Tests.{leb-true, eq-eqb, ne-eqb, eqb-true, eqb-false}
-use Rattle.integers.proofs.Sums.{none-below}
-use Rattle.rules.specs.declared.Refusal.{Refusal}
+use lib.ListN.{length, take, drop, length-take, length-drop}
+use lib.Seq.{drop-drop, ext-getD, getD-drop, getD-take, take-add, take-take}
+use borrow.Author.Tests.{leb-true, eq-eqb, ne-eqb}
 use Rattle.rules.specs.declared.Refusal.the-variants.{EndsEarly}
-use Rattle.rules.specs.declared.Located.{Located}
-use Rattle.rules.specs.Refusals.{taken, refused}
+use Rattle.rules.specs.Refusals.{taken}
 use Rattle.rules.specs.Contents.{Counts, contents, contents-size, requirement-size}
 use Rattle.rules.specs.WholeBook.{book}
 use Rattle.laws.proofs.LimitsLaws.{passed}
 use Rattle.interval.specs.declared.Tally.{Tally}
-use Rattle.interval.specs.declared.Step.{Step}
 use Rattle.interval.specs.Tally.{before-units, units-end, book-end}
 use Rattle.interval.specs.Lent.{Lent}
 use Rattle.chain.specs.Taken.{counts-in}
 use Rattle.chain.specs.Chain.{Chain}
 use Rattle.chain.specs.BookRecords.{part-of, record-size, record-start}
 use Rattle.chain.proofs.BookRecords.{settings-sized, frequency-sized, unit-sized, requirement-sized}
-use Rattle.chain.specs.Alike.{Alike}
-use Rattle.chain.proofs.Alike.{whole, cut-behind}
-use Rattle.chain.specs.Way.{records-of, reads}
-use Rattle.chain.specs.BookWay.{records-in}
 use Rattle.reader.specs.declared.Reading.{Reading}
 use Rattle.reader.specs.declared.Reading.the-variants.{Contents, Record}
-use Rattle.reader.specs.Reading.{asked, is-end, span-of, wanted-in, wanted-part}
-use Rattle.reader.specs.Arrives.{Arrives}
+use Rattle.reader.specs.Reading.{asked, is-end}
 
 -- ---- parts of lists
 pub drop-take : (j k : ℕ) (xs : List ℕ) → drop j (take (j + k) xs) ≡ take k (drop j xs)
@@ -123,6 +113,10 @@ pub contents-long : (bs : List ℕ) (c : Counts) → contents bs ≡ taken c →
 unfolding contents
 contents-long bs c e = leb-true contents-size (length bs) (passed (leb contents-size (length bs)) EndsEarly _ c e .0)
 
+-- requirement i stands in its place
+abbrev pub Keeps : List ℕ → Tally → List ℕ → ℕ → Type 0
+Keeps bs t place i = take requirement-size (drop (requirement-size * i) place) ≡ take requirement-size (part-of bs (units-end t + i))
+
 -- ---- the record whose turn it is, where so many of its bytes have come: those before it were taken, and the requirements among them stand in the place
 module _ (alone : Bool) (bs : List ℕ) (l₀ : Lent) where
   pub record AtRecord (p : ℕ) (t : Tally) (got : ℕ) (place : List ℕ) (l : Lent) : Type 0 where
@@ -133,7 +127,7 @@ module _ (alone : Bool) (bs : List ℕ) (l₀ : Lent) where
     pub few : got < asked t alone
     pub here : take got (drop (requirement-size * (t .records - units-end t)) place) ≡ take got (part-of bs (t .records))
     pub kept :
-        (i : ℕ) → units-end t + i < t .records → take requirement-size (drop (requirement-size * i) place) ≡ take requirement-size (part-of bs (units-end t + i))
+        (i : ℕ) → units-end t + i < t .records → Keeps bs t place i
 
   pub record AtContents (p got : ℕ) (place : List ℕ) (l : Lent) : Type 0 where
     pub come : p ≡ got

@@ -1,30 +1,35 @@
--- What has come so far is an input of its own, which may go on in any way: each arrival makes it longer, and the walk over it is one further. A caller who reads until
+-- What has come so far is an input of its own, which may go on in any way: each arrival makes it longer, and the walk over it is one further. Who reads until
 -- `came` wants no more has so walked over what came.
-use mathlib.Core.Path.{_≡_, refl, sym, _∙_, ap, subst}
-use mathlib.Core.Bool.{Bool}
+use mathlib.Core.Path.{_≡_, sym, _∙_, ap, subst}
+use mathlib.Core.Bool.{Bool, true, false}
 use mathlib.Core.List.{List, [], _∷_, _++_}
-use Prim.Native.Nat.{ℕ, zero, suc, _+_, _*_, _-_, _≤_, _<_, min}
+use Prim.Native.Nat.{ℕ, zero, suc, _+_, _*_, _-_, _≤_, _<_}
 use native.Mathlib.Decide.{decLt}
 use native.Mathlib.Omega.{arith}
 use lib.ListN.{length, getD, take, drop, length-append, length-drop, length-take}
-use lib.Seq.{drop-append-seam, getD-append-add, getD-drop, getD-take, length-take-le, take-all, take-append-le, take-append-seam, take-length}
+use lib.Seq.{drop-append-seam, getD-drop, getD-take, length-take-le, take-all, take-append-seam, take-length}
 use Rattle.integers.proofs.Fills.{getD-past}
-use Rattle.interval.specs.declared.Tally.{Tally}
+use Rattle.rules.specs.Quantities.{most-units}
+use Rattle.rules.specs.Refusals.{taken}
+use Rattle.rules.specs.Contents.{contents}
 use Rattle.interval.specs.Lent.{Lent}
 use Rattle.chain.specs.Taken.{counts-in}
 use Rattle.chain.proofs.Taken.{contents-is}
-use Rattle.chain.specs.BookRecords.{record-size, record-start}
+use Rattle.chain.specs.Long.{Long}
+use Rattle.chain.proofs.Long.{shorter}
+use Rattle.chain.specs.BookRecords.{record-start}
 use Rattle.reader.specs.declared.Reading.{Reading}
 use Rattle.reader.specs.declared.Reading.the-variants.{Contents, Record}
 use Rattle.reader.specs.declared.Wanted.{Wanted}
 use Rattle.reader.specs.declared.Came.{Came}
-use Rattle.reader.specs.declared.Came.the-variants.{Wants, Taken, Refused}
+use Rattle.reader.specs.declared.Came.the-variants.{Wants}
 use Rattle.reader.specs.declared.Span.{Span}
-use Rattle.reader.specs.Reading.{CamePromise, asked, span-of, wanted-in, wanted-part}
-use Rattle.reader.specs.Arrives.{Arrives, ReadFrom, Reads, arrives, starts}
-use Rattle.reader.proofs.Arrives.{AtContents, AtRecord, Stands, asked-most, part-alike, record-most}
-use Rattle.reader.proofs.ReadsStep.{After, means, same-end, stands-next, wanted-from, wanted-to}
-use Rattle.reader.proofs.ReadsBook.{reads-size, walked}
+use Rattle.reader.specs.Reading.{CamePromise, span-of, wanted-in, wanted-part}
+use Rattle.reader.specs.Arrives.{Arrives, ReadFrom, ReadOutcome, Reads, arrives, book-size, starts}
+use Rattle.reader.proofs.Arrives.{Stands, asked-most, part-alike, record-most}
+use Rattle.reader.proofs.ReadsStep.{After, means, stands-next}
+use Rattle.reader.proofs.ReadsBook.{reads-book, reads-size, walked}
+use Rattle.reader.proofs.ReadsAmong.{reads-among}
 
 -- a walk that goes on says nothing of what is behind the bytes that came
 arrives-more :
@@ -151,3 +156,14 @@ read-falls {alone} {place₀} {l₀} {reading} {next} {old} {l} s room {count} {
     let at = position-is alone (s .input) l₀ (length (s .input)) reading old l (walked room (s .walk) .1) in
     let then = position-is alone _ l₀ (length (s .input) + count) next new l′ (after .1) in
     omega (arith, after .0, at .0, at .1, then .0)
+
+-- ---- and where the reading has ended is said of what came
+enough : {l₀ : Lent} → Long l₀ most-units → (bs : List ℕ) → contents bs ≡ taken (counts-in bs) → Long l₀ (counts-in bs .units)
+enough long bs table = shorter (contents-is bs (counts-in bs) table .1 .units) long
+
+module _ {place₀ : List ℕ} {l₀ : Lent} {r : Came} {place : List ℕ} {l : Lent} (room : 769 ≤ length place₀) (long : Long l₀ most-units) where
+  pub read-alone : (w : ReadFrom true place₀ l₀ r place l) → ReadOutcome (w .input) l₀ r place l
+  read-alone w = reads-book room (enough long (w .input)) (w .bytes) (w .walk)
+
+  pub read-among : (w : ReadFrom false place₀ l₀ r place l) → ReadOutcome (take (book-size (w .input)) (w .input)) l₀ r place l
+  read-among w = reads-among room (enough long (w .input)) (w .bytes) (w .walk)

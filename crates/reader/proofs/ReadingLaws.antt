@@ -1,19 +1,21 @@
 -- Laws of the definitions in specs/Reading.antt: what the code computes is theirs, and any two answers that a promise allows are equal.
 use mathlib.Core.Path.{_≡_, refl, sym, _∙_, ap, ap₂, subst}
-use mathlib.Core.Bool.{Bool, true, false, not, cond, _&&_}
-use mathlib.Core.List.{List, []}
-use Prim.Native.Nat.{ℕ, _+_, _*_, _-_, _≤_, _<_, min}
+use mathlib.Core.Bool.{Bool, true, false, not, cond}
+use mathlib.Core.List.{List}
+use Prim.Native.Nat.{ℕ, _+_, _-_, _≤_, _<_, min}
 use native.Mathlib.Decide.{decLt}
 use native.Mathlib.Omega.{arith}
 use lib.ListN.{length, take, drop}
+use Rattle.rules.specs.Contents.{contents}
 use Rattle.interval.specs.declared.Tally.{Tally}
-use Rattle.interval.specs.declared.Opened.{Opened}
 use Rattle.interval.specs.declared.Taking as k
 use Rattle.interval.specs.declared.Taking.{Taking}
 use Rattle.interval.specs.declared.Step.{Step}
-use Rattle.interval.specs.Tally.{book-end}
+use Rattle.interval.specs.Tally.{before-units, units-end}
 use Rattle.interval.specs.Lent.{Lent}
+use Rattle.interval.specs.Calls.{opened}
 use Rattle.interval.proofs.Promises.{contents-only}
+use Rattle.chain.proofs.Way.{any-frequency, any-unit}
 use Rattle.chain.specs.BookRecords.{record-size}
 use Rattle.reader.specs.declared.Reading.{Reading}
 use Rattle.reader.specs.declared.Reading.the-variants.{Contents, Record}
@@ -22,7 +24,6 @@ use Rattle.reader.specs.declared.Came as n
 use Rattle.reader.specs.declared.Came.{Came}
 use Rattle.reader.specs.declared.Span.{Span}
 use Rattle.reader.specs.Reading.{
-  All,
   CamePromise,
   ContentsCame,
   HandedOn,
@@ -38,7 +39,9 @@ use Rattle.reader.specs.Reading.{
   there-of,
   too-many,
   wanted-in,
+  wanted-part,
 }
+use Rattle.reader.specs.Turns.{TurnPromise}
 use Rattle.reader.proofs.Turns.{turn-only}
 
 -- ---- the bytes that are asked for
@@ -51,7 +54,9 @@ module _ (t : Tally) where
   asked-of-many true h = let z : _≡_ {A = Bool} false true = h in cc
   asked-of-many false h = omega arith
 
-  pub asked-alone : (alone end : Bool) → not alone ≡ false → end ≡ is-end (t .records + 1) t → record-size (t .units) (t .records) + cond end 1 0 ≡ asked t alone
+  pub asked-alone :
+      (alone end : Bool) → not alone ≡ false → end ≡ is-end (t .records + 1) t →
+      record-size (t .units) (t .records) + cond end 1 0 ≡ asked t alone
   unfolding asked
   asked-alone true end h e = ap (λ (x : Bool). record-size (t .units) (t .records) + cond x 1 0) e
   asked-alone false end h e = let z : _≡_ {A = Bool} true false = h in cc
@@ -74,7 +79,8 @@ wanted-says reading alone room same ends begins =
       inside = omega arith;
     }
 
-pub wanted-only : {reading : Reading} {alone : Bool} {room : ℕ} {r r′ : Wanted} → WantedPromise reading alone room r → WantedPromise reading alone room r′ → r ≡ r′
+pub wanted-only :
+    {reading : Reading} {alone : Bool} {room : ℕ} {r r′ : Wanted} → WantedPromise reading alone room r → WantedPromise reading alone room r′ → r ≡ r′
 wanted-only a b = a .reply ∙ sym (b .reply)
 
 -- ---- a place may be cut at the end of what is there
@@ -89,7 +95,9 @@ there-within start until bytes = go (decLt until start)
     go (no h) = let same : min start until ≡ start = omega arith in rw same
 
 -- ---- what has come of it, by what the code computes of its span and of what was wanted
-module _ {sp s : Span} {w : Wanted} (room count : ℕ) (same : sp ≡ s) (asks : w ≡ wanted-in s room) {start : ℕ} (begins : start ≡ min (sp .start) (w .from + count)) where
+module _
+    {sp s : Span} {w : Wanted} (room count : ℕ) (same : sp ≡ s) (asks : w ≡ wanted-in s room) {start : ℕ}
+    (begins : start ≡ min (sp .start) (w .from + count)) where
   pub some-got : w .from + count < w .to → w .from + count - start ≡ s .got + count
   some-got h =
       omega (arith, begins, ap (λ (s : Span). s .start) same, ap (λ (w : Wanted). w .from) asks, ap (λ (w : Wanted). w .to) asks)
@@ -142,3 +150,32 @@ module _ {reading : Reading} {alone : Bool} {count : ℕ} {bytes : List ℕ} {l 
   came-only (all h _) (too-many f _ _) = absurd (omega (arith, f, h .0))
   came-only (all h _) (some f _ _) = absurd (omega (arith, f .1, h .1 (f .0)))
   came-only (all _ a) (all _ b) = handed-only reading _ l r r₂ l′ l₂ a b
+
+-- ---- and each count has its answer, on any reading, bytes and lists
+any-turn : (t : Tally) (p : List ℕ) (l : Lent) → (r : Step) × (l′ : Lent) × TurnPromise t p l r l′
+any-turn t p l = go (decLt (t .records) 1) (decLt (t .records) before-units) (decLt (t .records) (units-end t))
+  where
+    go : Dec (t .records < 1) → Dec (t .records < before-units) → Dec (t .records < units-end t) → (r : Step) × (l′ : Lent) × TurnPromise t p l r l′
+    go (yes a) _ _ = (_, l, TurnPromise.as-settings a (record { reply = refl }) refl)
+    go (no a) (yes b) _ = (_, _, TurnPromise.as-frequency (omega arith) b (any-frequency t p l .2))
+    go (no a) (no b) (yes c) = (_, _, TurnPromise.as-unit (omega arith) c (any-unit t p l .2))
+    go (no a) (no b) (no c) = (_, l, TurnPromise.as-requirement (omega arith) (record { reply = refl }) refl)
+
+any-handed : (reading : Reading) (p : List ℕ) (l : Lent) → (r : Came) × (l′ : Lent) × HandedOn reading p l r l′
+any-handed (Contents got) p l = (_, l, (record { opened = opened (contents p); promise = record { reply = refl }; reply = refl }, refl))
+any-handed (Record t got) p l = let turn = any-turn t p l in (_, turn .1, record { step = turn .0; turn = turn .2; reply = refl })
+
+pub any-came :
+    (reading : Reading) (alone : Bool) (count : ℕ) (bytes : List ℕ) (l : Lent) → (r : Came) × (l′ : Lent) × CamePromise reading alone count bytes l r l′
+any-came reading alone count bytes l = go (decLt (w .to - w .from) count) (decLt 0 count) (decLt (w .from + count) (w .to))
+  where
+    w : Wanted
+    w = wanted-part reading alone (length bytes)
+
+    go :
+        Dec (w .to - w .from < count) → Dec (0 < count) → Dec (w .from + count < w .to) →
+        (r : Came) × (l′ : Lent) × CamePromise reading alone count bytes l r l′
+    go (yes a) _ _ = (_, l, too-many a refl refl)
+    go (no a) (yes b) (yes c) = (_, l, some (omega arith, c) refl refl)
+    go (no a) (yes b) (no c) = let h = any-handed reading _ l in (h .0, h .1, all (omega arith, λ f. omega arith) (h .2))
+    go (no a) (no b) _ = let h = any-handed reading _ l in (h .0, h .1, all (omega arith, λ f. absurd (omega arith)) (h .2))

@@ -1,19 +1,17 @@
 -- A book among others: where it does not stand alone, no byte behind its last requirement is asked for, so that a walk is one over the book's own bytes.
 use mathlib.Core.Path.{_≡_, refl, sym, _∙_, ap, subst}
-use mathlib.Core.Bool.{Bool, true, false}
+use mathlib.Core.Bool.{false}
 use mathlib.Core.List.{List}
-use Prim.Native.Nat.{ℕ, zero, suc, _+_, _*_, _-_, _≤_, _<_, min}
+use Prim.Native.Nat.{ℕ, zero, suc, _+_, _-_, _≤_, _<_, min}
 use native.Mathlib.Decide.{decLt}
 use native.Mathlib.Omega.{arith}
-use lib.ListN.{length, getD, take, drop, length-take}
+use lib.ListN.{length, getD, take, length-take}
 use lib.Seq.{getD-take, take-take}
 use Rattle.integers.proofs.Fills.{getD-past}
 use Rattle.rules.specs.Refusals.{taken}
 use Rattle.rules.specs.Contents.{Counts, contents, contents-size}
-use Rattle.interval.specs.declared.Tally.{Tally}
 use Rattle.interval.specs.Lent.{Lent}
 use Rattle.interval.specs.Calls.{opened}
-use Rattle.interval.specs.Promises.{ContentsPromise}
 use Rattle.chain.specs.Taken.{counts-in}
 use Rattle.chain.specs.Chain.{Chain, begun}
 use Rattle.chain.proofs.ChainTheorem.{chain}
@@ -30,7 +28,7 @@ use Rattle.reader.specs.declared.Came.{Came}
 use Rattle.reader.specs.Reading.{asked, wanted-part}
 use Rattle.reader.specs.Arrives.{Arrives, ReadOutcome, Reads, arrives, book-size, starts}
 use Rattle.reader.proofs.ReadingLaws.{asked-of-many}
-use Rattle.reader.proofs.Arrives.{AtContents, AtRecord, Stands, part-alike}
+use Rattle.reader.proofs.Arrives.{Stands, part-alike}
 use Rattle.reader.proofs.ReadsStep.{means, same-end, wanted-from, wanted-to}
 use Rattle.reader.proofs.ReadsBook.{reads-fair, reads-size, walked}
 

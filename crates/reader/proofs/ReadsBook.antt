@@ -1,24 +1,23 @@
--- THE READING: for every way in which a book's bytes arrive, in pieces of any size, with an end at any place, a walk ends in the taken book or in the refusal that
--- the format gives, and it ends.
-use mathlib.Core.Path.{_≡_, refl, sym, _∙_, ap, subst}
+-- THE READING: for every way in which a book's bytes arrive, in pieces of any size, with an end at any place, a walk ends in the taken book or in the refusal
+-- that the format gives, and it ends.
+use mathlib.Core.Path.{_≡_, refl, _∙_, ap}
 use mathlib.Core.Bool.{Bool, true, false}
 use mathlib.Core.List.{List}
-use Prim.Native.Nat.{ℕ, zero, suc, _+_, _*_, _-_, _≤_, _<_, min}
+use Prim.Native.Nat.{ℕ, suc, _+_, _-_, _≤_, _<_}
 use native.Mathlib.Omega.{arith}
-use lib.ListN.{length, getD, take, drop}
+use lib.ListN.{length, getD}
 use Rattle.rules.specs.Refusals.{taken, refused}
-use Rattle.rules.specs.Book.{Requirement, Book}
-use Rattle.rules.specs.Contents.{Counts, contents, contents-size, requirement-size}
+use Rattle.rules.specs.Contents.{contents, requirement-size}
 use Rattle.rules.specs.RequirementRecord.{requirement-record}
 use Rattle.rules.specs.WholeBook.{book}
 use Rattle.interval.specs.declared.Tally.{Tally}
-use Rattle.interval.specs.Tally.{before-units, units-end}
+use Rattle.interval.specs.Tally.{before-units}
 use Rattle.interval.specs.Lent.{Lent}
 use Rattle.chain.specs.Taken.{counts-in}
 use Rattle.chain.proofs.Taken.{contents-is}
 use Rattle.chain.proofs.ChainTheorem.{chain}
 use Rattle.chain.specs.Long.{Long}
-use Rattle.chain.specs.BookRecords.{part-of, record-start}
+use Rattle.chain.specs.BookRecords.{part-of}
 use Rattle.chain.proofs.BookChain.{requirements-many}
 use Rattle.chain.proofs.Alike.{requirement-same}
 use Rattle.chain.proofs.BookWay.{hands-whole}
@@ -28,9 +27,8 @@ use Rattle.reader.specs.declared.Reading.{Reading}
 use Rattle.reader.specs.declared.Reading.the-variants.{Contents, Record}
 use Rattle.reader.specs.declared.Came.{Came}
 use Rattle.reader.specs.declared.Came.the-variants.{Wants, Taken, Refused}
-use Rattle.reader.specs.Reading.{wanted-part}
-use Rattle.reader.specs.Arrives.{GoesOn, ReadOutcome, Reads, Seen, TakenBook, arrives, starts}
-use Rattle.reader.proofs.Arrives.{AtContents, AtRecord, Stands}
+use Rattle.reader.specs.Arrives.{GoesOn, ReadOutcome, Reads, TakenBook, arrives, starts}
+use Rattle.reader.proofs.Arrives.{Stands}
 use Rattle.reader.proofs.ReadsStep.{After, AtEnd, Fair, stands-next, wanted-from, wanted-to}
 
 -- a walk of n arrivals, by what was said last

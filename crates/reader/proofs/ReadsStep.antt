@@ -1,20 +1,17 @@
 -- One arrival: from where a walk stands it leads to such a place again, to the book's end, or to the format's refusal.
 use mathlib.Core.Path.{_≡_, refl, sym, _∙_, ap, ap₂, subst}
-use mathlib.Core.Bool.{Bool, true, false, cond, _&&_}
+use mathlib.Core.Bool.{Bool, true, false, cond}
 use mathlib.Core.Logic.{_⊎_, inl, inr}
 use mathlib.Core.List.{List}
-use Prim.Native.Nat.{ℕ, zero, suc, _+_, _*_, _-_, _≤_, _<_, min}
+use Prim.Native.Nat.{ℕ, suc, _+_, _*_, _-_, _≤_, _<_}
 use native.Mathlib.Decide.{decLt}
 use native.Mathlib.Omega.{arith}
-use lib.Dec.{eqb}
 use lib.ListN.{length, getD, take, drop, length-drop}
 use lib.Seq.{take-all}
 use borrow.Author.Tests.{eq-eqb, ne-eqb, eqb-true, eqb-false}
-use Rattle.integers.proofs.Sums.{none-below}
 use Rattle.rules.specs.declared.Located.{Located}
-use Rattle.rules.specs.Quantities.{most-requirements}
 use Rattle.rules.specs.Refusals.{taken, refused}
-use Rattle.rules.specs.Contents.{Counts, contents, contents-size, requirement-size}
+use Rattle.rules.specs.Contents.{contents, contents-size, requirement-size}
 use Rattle.rules.specs.WholeBook.{book}
 use Rattle.interval.specs.declared.Tally.{Tally}
 use Rattle.interval.specs.declared.Opened as o
@@ -34,7 +31,7 @@ use Rattle.chain.specs.BookRecords.{part-of, record-size, record-start}
 use Rattle.chain.proofs.BookRecords.{requirement-sized}
 use Rattle.chain.specs.Alike.{Alike}
 use Rattle.chain.proofs.Alike.{whole, cut-behind, contents-alike}
-use Rattle.chain.specs.Way.{records-of, reads, Call}
+use Rattle.chain.specs.Way.{reads, Call}
 use Rattle.chain.proofs.Way.{call-alike, chain-takes}
 use Rattle.chain.specs.BookWay.{records-in, at-contents}
 use Rattle.chain.proofs.BookWay.{hands-whole}
@@ -69,6 +66,7 @@ use Rattle.reader.proofs.OneMore.{OneMore, chain-calls, one-more}
 use Rattle.reader.proofs.Arrives.{
   AtContents,
   AtRecord,
+  Keeps,
   Stands,
   asked-before-last,
   asked-last,
@@ -90,7 +88,7 @@ pub record Fair (alone : Bool) (bs : List ℕ) (l₀ : Lent) : Type 0 where
 pub record AtEnd (bs : List ℕ) (l₀ : Lent) (t : Tally) (place : List ℕ) (l : Lent) : Type 0 where
   pub chain : Chain bs (part-of bs) l₀ (records-in bs) t l
   pub kept :
-      (i : ℕ) → units-end t + i < records-in bs → take requirement-size (drop (requirement-size * i) place) ≡ take requirement-size (part-of bs (units-end t + i))
+      (i : ℕ) → units-end t + i < records-in bs → Keeps bs t place i
 
 abbrev pub After : (alone : Bool) (bs : List ℕ) (l₀ : Lent) (count p : ℕ) → Came → List ℕ → Lent → Type 0
 After alone bs l₀ count p (Wants reading) place l = (1 ≤ count) × Stands alone bs l₀ p reading place l
@@ -150,10 +148,11 @@ module _
       unfolding part-of
       have =
           more-come old new bs start (record-start units n) got count before-them
-          (ap (λ (k : ℕ). take count (drop k new)) (sym (wanted-from (length old) room)) ∙ a .bytes ∙ ap (λ (k : ℕ). take count (drop k bs)) (s .come)) (s .here)
+          (ap (λ (k : ℕ). take count (drop k new)) (sym (wanted-from (length old) room)) ∙ a .bytes ∙ ap (λ (k : ℕ). take count (drop k bs)) (s .come))
+          (s .here)
 
       kept-them :
-          (i : ℕ) → units-end t + i < t .records → take requirement-size (drop (requirement-size * i) new) ≡ take requirement-size (part-of bs (units-end t + i))
+          (i : ℕ) → units-end t + i < t .records → Keeps bs t new i
       kept-them i h = part-alike new old (start + got) (requirement-size * i) requirement-size before-them (omega arith) ∙ s .kept i h
 
       new-room : 769 ≤ length new
@@ -260,11 +259,11 @@ module _
 
               kept-all :
                   (i : ℕ) → units-end t + i < n + 1 →
-                  take requirement-size (drop (requirement-size * i) new) ≡ take requirement-size (part-of bs (units-end t + i))
+                  Keeps bs t new i
               kept-all i b = go (decLt (units-end t + i) n)
                 where
                   go : Dec (units-end t + i < n) →
-                      take requirement-size (drop (requirement-size * i) new) ≡ take requirement-size (part-of bs (units-end t + i))
+                      Keeps bs t new i
                   go (yes c) = kept-them i c
                   go (no c) =
                       let here : n ≡ units-end t + i = omega arith in
@@ -281,7 +280,8 @@ module _
                 let looks = looks-before-last b in
                 let size = asked-before-last t alone b in
                 let come = record-come looks in
-                let many : come-now ≡ record-size (t .units) n = omega (arith, size, whole-come .0, come, wanted-from (length new) new-room, wanted-to (length new) new-room) in
+                let from = wanted-from (length new) new-room in
+                let many : come-now ≡ record-size (t .units) n = omega (arith, size, whole-come .0, come, from, wanted-to (length new) new-room) in
                 let o = more in
                 let next : suc n ≡ step .tally .records = omega (arith, o .records) in (
                   omega (arith, many, size, s .few),
@@ -342,7 +342,8 @@ module _
                 ends true f = at-end (w .turn) e (omega (arith, eqb-true (tally .records) (book-end tally) f, o .records, o .units, o .requirements))
                 ends false f =
                     let on = eqb-false (tally .records) (book-end tally) f in
-                    going-on (w .turn) e (not-last {n = t .records} {end = book-end t} (s .inside) (λ z. on (omega (arith, z, o .records, o .units, o .requirements))))
+                    going-on (w .turn) e
+                    (not-last {n = t .records} {end = book-end t} (s .inside) (λ z. on (omega (arith, z, o .records, o .units, o .requirements))))
 
 -- ---- of the table of contents
 module _
@@ -391,7 +392,8 @@ module _
         go : Dec (0 < count) → Alike contents-size (take (got + count) bs) bs
         go (yes c) = cut-behind contents-size (got + count) bs (omega (arith, table-come (omega arith)))
         go (no c) =
-            subst (λ (q : List ℕ). Alike contents-size q bs) (sym (take-all (got + count) bs (omega (arith, table-ended (omega arith))))) (whole contents-size bs)
+            let same = take-all (got + count) bs (omega (arith, table-ended (omega arith))) in
+            subst (λ (q : List ℕ). Alike contents-size q bs) (sym same) (whole contents-size bs)
 
     table-promise :
         {x : Opened} → ContentsPromise (there-of (span-of (Contents got) alone) (wanted-part (Contents got) alone (length new)) count new) x →

@@ -1,5 +1,5 @@
--- A book's bytes that arrive, in pieces of any size, with an end at any place. What comes is the world's; what is asked for, and what follows, is what `wanted` and
--- `came` promise.
+-- A book's bytes that arrive, in pieces of any size, with an end at any place. What comes is the world's; what is asked for, and what follows, is what `wanted`
+-- and `came` promise.
 use mathlib.Core.Path.{_≡_}
 use mathlib.Core.Bool.{Bool, true, false}
 use mathlib.Core.List.{List}
@@ -34,7 +34,8 @@ pub record Arrives (bs : List ℕ) (p : ℕ) (w : Wanted) (count : ℕ) (old new
   pub before : take (w .from) new ≡ take (w .from) old
   pub size : length new ≡ length old
 
--- ---- the walk: n arrivals, after which p bytes of the input have come, each followed by `came`, which said r last; the place and the lists are as they are then
+-- ---- the walk: n arrivals, after which p bytes of the input have come, each followed by `came`, which said r last; the place and the lists are as it left
+-- them
 pub data Reads (alone : Bool) (bs place₀ : List ℕ) (l₀ : Lent) : ℕ → ℕ → Came → List ℕ → Lent → Type 0 where
   starts : Reads alone bs place₀ l₀ 0 0 (Wants (Contents 0)) place₀ l₀
   arrives :
@@ -75,7 +76,7 @@ ReadOutcome bs l₀ (Wants reading) place l = Unit {0}
 ReadOutcome bs l₀ (Taken t) place l = TakenBook bs l₀ t place l
 ReadOutcome bs l₀ (Refused why) place l = book bs ≡ refused why
 
--- ---- what came is an input, of bytes, and the reading of it a walk, whatever would have come behind it
+-- ---- what came is an input of its own, of bytes, and the reading of it a walk to its end; of what would have come behind it nothing is said
 pub record ReadFrom (alone : Bool) (place₀ : List ℕ) (l₀ : Lent) (r : Came) (place : List ℕ) (l : Lent) : Type 0 where
   pub input : List ℕ
   pub arrivals : ℕ

@@ -6,7 +6,6 @@ use Prim.Native.Nat.{ℕ, _+_, _*_, _-_, _≤_, _<_, min}
 use lib.Dec.{eqb}
 use lib.ListN.{length, take, drop}
 use Rattle.rules.specs.declared.Refusal.the-variants.{WrongState}
-use Rattle.rules.specs.declared.Located.{Located}
 use Rattle.rules.specs.Refusals.{located}
 use Rattle.rules.specs.Contents.{contents-size, requirement-size}
 use Rattle.interval.specs.declared.Tally.{Tally}

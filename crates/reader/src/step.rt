@@ -1,5 +1,5 @@
-// What is being read of a book, as a value: where the next bytes go, and what follows once so many have come. Any reading gets an answer: one that no book leads
-// to is refused by the call whose turn it would be.
+// What is being read of a book, as a value: where the next bytes go, and what follows once so many have come. Any reading gets an answer: one that no book
+// leads to is refused by the call whose turn it would be.
 ghost use mathlib.Core.Path.{_≡_};
 ghost use Prim.Native.Nat.{_*_, _-_, _≤_, min};
 ghost use Rattle.rules.specs.Contents.{requirement-size};

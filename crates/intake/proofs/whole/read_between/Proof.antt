@@ -5,10 +5,6 @@ use borrow.Rule.Slice.PartMut.{take-put}
 use borrow.Author.Needs.{needs}
 use Rattle.intake.proofs.whole.read_between.Statement.{statement}
 use Rattle.intake.proofs.whole.read_between.Tie as tie
-use Rattle.intake.proofs.whole.read_between.Reads as reads
-use Rattle.intake.proofs.whole.read_between.Lts as lts
-use Rattle.io.proofs.count.Reads as count-reads
-use Rattle.libc.proofs.read.Reads as read-reads
 
 sub-read : tie.Need-sub-read
 sub-read c = search needs

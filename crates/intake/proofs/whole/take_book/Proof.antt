@@ -18,11 +18,6 @@ use Rattle.intake.specs.declared.whole.Next as n
 use Rattle.intake.proofs.Came.{read-took, room-for}
 use Rattle.intake.proofs.whole.take_book.Statement.{statement}
 use Rattle.intake.proofs.whole.take_book.Tie as tie
-use Rattle.intake.proofs.whole.take_book.Reads as reads
-use Rattle.intake.proofs.whole.take_book.Lts as lts
-use Rattle.intake.proofs.whole.read_between.Reads as read-between-reads
-use Rattle.reader.proofs.step.came.Reads as came-reads
-use Rattle.reader.proofs.step.wanted.Reads as wanted-reads
 
 abbrev Inv-loop : tie.InvT-loop
 Inv-loop file alone bytes₀ measures₀ sums₀ figures₀ numbers₀ homes₀ rows₀ groups₀ deviations₀ reading₀ begun₀ bytes measures sums figures numbers homes rows
@@ -92,7 +87,9 @@ before c = subst (λ (w : Wanted). take (w .from) (place c) ≡ take (w .from) (
 size : (c : tie.After-came Inv-loop μ-loop) → length (place c) ≡ length (loop-in c .loop .bytes)
 size c = new-long c ∙ sym (old-long c)
 
-further : (c : tie.After-came Inv-loop μ-loop) → ReadFrom (start-in c .args .alone) (start-in c .args .bytes .now) (lent c) (c .came .result) (place c) (lists c)
+further :
+    (c : tie.After-came Inv-loop μ-loop) →
+    ReadFrom (start-in c .args .alone) (start-in c .args .bytes .now) (lent c) (c .came .result) (place c) (lists c)
 further c = read-further (loop-in c .loop .inv .0) (long c) (inside c) (before c) (size c) (c .came .ensures) (read-in c .read-between .ensures .bytes)
 
 loop-holds : tie.Need-loop-holds Inv-loop μ-loop

@@ -7,10 +7,6 @@ use Rattle.reader.proofs.ReadingLaws.{asked-of-many, asked-alone, more-
 use borrow.Author.Needs.{needs}
 use Rattle.reader.proofs.step.asked.Statement.{statement}
 use Rattle.reader.proofs.step.asked.Tie as tie
-use Rattle.reader.proofs.step.asked.Reads as reads
-use Rattle.reader.proofs.step.asked.Lts as lts
-use Rattle.reader.proofs.step.is_end.Reads as is-end-reads
-use Rattle.reader.proofs.turn.size.Reads as size-reads
 
 size-requires : tie.Need-size-requires
 size-requires c κs = search needs
@@ -31,10 +27,18 @@ add-result : tie.Need-add-result
 add-result c = search needs
 
 returns-2 : tie.Need-returns-2
-returns-2 c = let e = c .before in let s = e .before .before .before in (ap (λ (n : ℕ). n + 1) (s .size .ensures .0) ∙ asked-alone _ _ true (e .before .before .if1 .left) (sym (c .if2 .taken) ∙ e .is-end .ensures), omega (arith, s .size .ensures .1))
+returns-2 c =
+    let e = c .before in
+    let s = e .before .before .before in
+    let last = asked-alone _ _ true (e .before .before .if1 .left) (sym (c .if2 .taken) ∙ e .is-end .ensures) in
+    (ap (λ (n : ℕ). n + 1) (s .size .ensures .0) ∙ last, omega (arith, s .size .ensures .1))
 
 returns-3 : tie.Need-returns-3
-returns-3 c = let e = c .before in let s = e .before .before .before in let none = more-none _ in (s .size .ensures .0 ∙ none ∙ asked-alone _ _ false (e .before .before .if1 .left) (sym (c .if2 .left) ∙ e .is-end .ensures), omega (arith, s .size .ensures .1))
+returns-3 c =
+    let e = c .before in
+    let s = e .before .before .before in
+    let before-last = asked-alone _ _ false (e .before .before .if1 .left) (sym (c .if2 .left) ∙ e .is-end .ensures) in
+    (s .size .ensures .0 ∙ more-none _ ∙ before-last, omega (arith, s .size .ensures .1))
 
 pub asked-spec : {M : Type 1} → statement M
 asked-spec =

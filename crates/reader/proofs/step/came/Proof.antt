@@ -1,5 +1,5 @@
 -- What came is held against what was wanted; what is there goes to its call.
-use mathlib.Core.Path.{_≡_, refl, sym, _∙_, ap, subst}
+use mathlib.Core.Path.{_≡_, refl, _∙_, ap, subst}
 use mathlib.Core.Logic.{⊎-elim}
 use mathlib.Core.List.{List}
 use Prim.Native.Nat.{ℕ, _+_, _-_}
@@ -8,31 +8,11 @@ use lib.ListN.{length, take, drop}
 use Rattle.interval.specs.Lent.{Lent, lent-unit}
 use Rattle.reader.specs.declared.Wanted.{Wanted}
 use Rattle.reader.specs.declared.Came as n
-use Rattle.reader.specs.Reading.{
-  All,
-  Some,
-  TooMany,
-  all,
-  some,
-  span-of,
-  there-of,
-  too-many,
-  wanted-part,
-  with-got,
-}
+use Rattle.reader.specs.Reading.{All, Some, TooMany, all, some, span-of, there-of, too-many, wanted-part, with-got}
 use Rattle.reader.proofs.ReadingLaws.{handed-contents, handed-record, some-got, there-is}
 use borrow.Author.Needs.{needs}
 use Rattle.reader.proofs.step.came.Statement.{statement}
 use Rattle.reader.proofs.step.came.Tie as tie
-use Rattle.reader.proofs.step.came.Reads as reads
-use Rattle.reader.proofs.step.came.Lts as lts
-use Rattle.reader.proofs.step.open.Reads as open-reads
-use Rattle.reader.proofs.step.span.Reads as span-reads
-use Rattle.reader.proofs.step.take_record.Reads as take-record-reads
-use Rattle.reader.proofs.step.wanted.Reads as wanted-reads
-use Rattle.reader.proofs.step.with_got.Reads as with-got-reads
-use Rattle.reader.proofs.step.within.Reads as within-reads
-use Rattle.rules.proofs.locate.Reads as locate-reads
 
 abbrev start-in : tie.After-wanted → tie.Start
 start-in c = c .before .before .before .before .before .before
@@ -86,7 +66,8 @@ returns : tie.Need-returns
 returns c =
     let w = c .before .before .before in
     let a = start-in w .args in
-    too-many (subst (λ (w : Wanted). TooMany w (a .count)) (w .wanted .ensures .reply) (c .before .if1 .taken)) (ap n.the-variants.Refused (c .locate .ensures)) (refl {a = lent w})
+    let more = subst (λ (w : Wanted). TooMany w (a .count)) (w .wanted .ensures .reply) (c .before .if1 .taken) in
+    too-many more (ap n.the-variants.Refused (c .locate .ensures)) (refl {a = lent w})
 
 add-until : tie.Need-add-until
 add-until c = search needs

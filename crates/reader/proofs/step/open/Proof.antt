@@ -5,10 +5,6 @@ use Rattle.reader.specs.Reading.{after-contents}
 use borrow.Author.Needs.{needs}
 use Rattle.reader.proofs.step.open.Statement.{statement}
 use Rattle.reader.proofs.step.open.Tie as tie
-use Rattle.reader.proofs.step.open.Reads as reads
-use Rattle.reader.proofs.step.open.Lts as lts
-use Rattle.interval.proofs.contents.contents.Reads as contents-reads
-use Rattle.rules.proofs.locate.Reads as locate-reads
 
 contents-requires : tie.Need-contents-requires
 contents-requires c κs = search needs
@@ -23,10 +19,17 @@ locate-requires : tie.Need-locate-requires
 locate-requires c κs = search needs
 
 returns : tie.Need-returns
-returns c = let o = c .before in record { opened = o .before .before .contents .result; promise = o .before .before .contents .ensures; reply = ap after-contents (sym (o .opened .given .1)) }
+returns c =
+    let o = c .before in
+    let k = o .before .before in
+    record { opened = k .contents .result; promise = k .contents .ensures; reply = ap after-contents (sym (o .opened .given .1)) }
 
 returns-2 : tie.Need-returns-2
-returns-2 c = let o = c .before .before in record { opened = o .before .before .contents .result; promise = o .before .before .contents .ensures; reply = ap n.the-variants.Refused (c .locate .ensures) ∙ ap after-contents (sym (o .opened2 .given .1)) }
+returns-2 c =
+    let o = c .before .before in
+    let k = o .before .before in
+    let says = ap n.the-variants.Refused (c .locate .ensures) in
+    record { opened = k .contents .result; promise = k .contents .ensures; reply = says ∙ ap after-contents (sym (o .opened2 .given .1)) }
 
 pub open-spec : {M : Type 1} → statement M
 open-spec =

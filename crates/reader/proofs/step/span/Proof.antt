@@ -8,10 +8,6 @@ use Rattle.reader.specs.Reading.{span-of}
 use borrow.Author.Needs.{needs}
 use Rattle.reader.proofs.step.span.Statement.{statement}
 use Rattle.reader.proofs.step.span.Tie as tie
-use Rattle.reader.proofs.step.span.Reads as reads
-use Rattle.reader.proofs.step.span.Lts as lts
-use Rattle.reader.proofs.step.asked.Reads as asked-reads
-use Rattle.reader.proofs.step.start_of.Reads as start-of-reads
 
 enum-known-reading : tie.Need-enum-known-reading
 enum-known-reading c = search needs

@@ -7,10 +7,6 @@ use Rattle.reader.proofs.ReadingLaws.{after-taken}
 use borrow.Author.Needs.{needs}
 use Rattle.reader.proofs.step.take_record.Statement.{statement}
 use Rattle.reader.proofs.step.take_record.Tie as tie
-use Rattle.reader.proofs.step.take_record.Reads as reads
-use Rattle.reader.proofs.step.take_record.Lts as lts
-use Rattle.reader.proofs.step.is_end.Reads as is-end-reads
-use Rattle.reader.proofs.turn.take.Reads as take-reads
 
 -- the call, seen from where its lists are back
 abbrev taken-in : tie.After-deviations → tie.After-take

@@ -3,10 +3,6 @@ use Rattle.reader.proofs.ReadingLaws.{from-end, from-start, wanted-says
 use borrow.Author.Needs.{needs}
 use Rattle.reader.proofs.step.wanted.Statement.{statement}
 use Rattle.reader.proofs.step.wanted.Tie as tie
-use Rattle.reader.proofs.step.wanted.Reads as reads
-use Rattle.reader.proofs.step.wanted.Lts as lts
-use Rattle.reader.proofs.step.span.Reads as span-reads
-use Rattle.reader.proofs.step.within.Reads as within-reads
 
 span-requires : tie.Need-span-requires
 span-requires c κs = search needs
@@ -26,7 +22,8 @@ returns c =
     let s = b .before .before in
     let a = s .before .args in
     let to = b .before .within .ensures in
-    wanted-says (a .reading) (a .alone) (a .room) (s .span .ensures .0) to (from-end (s .span .result) (a .room) to (b .within2 .ensures) (c .if1 .taken))
+    wanted-says (a .reading) (a .alone) (a .room) (s .span .ensures .0) to
+    (from-end (s .span .result) (a .room) to (b .within2 .ensures) (c .if1 .taken))
 
 add-t7 : tie.Need-add-t7
 add-t7 c = search needs
@@ -37,7 +34,8 @@ returns-2 c =
     let s = b .before .before in
     let a = s .before .args in
     let to = b .before .within .ensures in
-    wanted-says (a .reading) (a .alone) (a .room) (s .span .ensures .0) to (from-start (s .span .result) (a .room) to (b .within2 .ensures) (c .before .if1 .left))
+    wanted-says (a .reading) (a .alone) (a .room) (s .span .ensures .0) to
+    (from-start (s .span .result) (a .room) to (b .within2 .ensures) (c .before .if1 .left))
 
 pub wanted-spec : {M : Type 1} → statement M
 wanted-spec =

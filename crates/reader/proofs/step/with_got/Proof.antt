@@ -1,11 +1,9 @@
 -- By what is being read.
-use mathlib.Core.Path.{sym, _∙_, ap}
+use mathlib.Core.Path.{sym, ap}
 use Rattle.reader.specs.Reading.{with-got}
 use borrow.Author.Needs.{needs}
 use Rattle.reader.proofs.step.with_got.Statement.{statement}
 use Rattle.reader.proofs.step.with_got.Tie as tie
-use Rattle.reader.proofs.step.with_got.Reads as reads
-use Rattle.reader.proofs.step.with_got.Lts as lts
 
 enum-told : tie.Need-enum-told
 enum-told c = search needs
