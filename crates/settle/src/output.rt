@@ -25,6 +25,9 @@ use rules::Located;
 use rules::Refusal;
 use rules::locate;
 
+// So many bytes of the listing are written at a time, at most.
+const TEXT: usize = 1_200;
+
 // Whether all of it was written.
 fn write(file: i32, text: &[u8]) -> bool {
     let mut done: usize = 0;
@@ -66,7 +69,7 @@ fn broken_off(refusal: Refusal) -> bool
 }
 
 // The listing, piece by piece, until nothing is left; whether all of it was written.
-pub(crate) fn print_listing(
+fn print_listing(
     tally: Tally,
     bytes: &[u8; RECORDS],
     measures: &[i32; SERIES_LENGTH],
@@ -117,6 +120,46 @@ pub(crate) fn print_listing(
             Listed::Refused(refusal) => return broken_off(refusal),
         }
     }
+}
+
+// The listing of a taken book, many lines at a time.
+pub(crate) fn print_book(
+    tally: Tally,
+    bytes: &[u8; RECORDS],
+    measures: &[i32; SERIES_LENGTH],
+    sums: &[i64; SUMS_LENGTH],
+    figures: &[i64; FIGURES_LENGTH],
+    numbers: &[u16; UNITS],
+    homes: &[u8; UNITS],
+    rows: &[i64; ROWS_LENGTH],
+    performances: &mut [i64; MEMBERS],
+    factors: &mut [i64; MEMBERS],
+    payments: &mut [i64; MEMBERS],
+    used: &mut [i64; MEMBERS],
+    unused: &mut [i64; MEMBERS],
+) -> bool
+    ensures { λ r. ⌜ (r ≡ true → (rest : Lent) → ListingPrinted tally (now (bytes .entry))
+        (lent-listing rest (now (measures .entry)) (now (sums .entry)) (now (figures .entry)) (now (numbers .entry)) (now (homes .entry)) (now (rows .entry)))
+        (columns (now (performances .entry)) (now (factors .entry)) (now (payments .entry)) (now (used .entry)) (now (unused .entry)))
+        (columns (now (performances .exit)) (now (factors .exit)) (now (payments .exit)) (now (used .exit)) (now (unused .exit)))) ⌝ }
+{
+    let mut text = [0u8; TEXT];
+    print_listing(
+        tally,
+        bytes,
+        measures,
+        sums,
+        figures,
+        numbers,
+        homes,
+        rows,
+        performances,
+        factors,
+        payments,
+        used,
+        unused,
+        &mut text,
+    )
 }
 
 pub(crate) fn say_reading_failed() {
