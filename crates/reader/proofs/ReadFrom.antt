@@ -158,7 +158,7 @@ read-falls {alone} {place₀} {l₀} {reading} {next} {old} {l} s room {count} {
     omega (arith, after .0, at .0, at .1, then .0)
 
 -- ---- and where the reading has ended is said of what came
-enough : {l₀ : Lent} → Long l₀ most-units → (bs : List ℕ) → contents bs ≡ taken (counts-in bs) → Long l₀ (counts-in bs .units)
+pub enough : {l₀ : Lent} → Long l₀ most-units → (bs : List ℕ) → contents bs ≡ taken (counts-in bs) → Long l₀ (counts-in bs .units)
 enough long bs table = shorter (contents-is bs (counts-in bs) table .1 .units) long
 
 module _ {place₀ : List ℕ} {l₀ : Lent} {r : Came} {place : List ℕ} {l : Lent} (room : 769 ≤ length place₀) (long : Long l₀ most-units) where
