@@ -1,0 +1,3 @@
+-- The cursor in words, and what the listing's call for C promises
+pub mod Cursor
+pub mod Called
