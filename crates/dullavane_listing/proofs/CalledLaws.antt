@@ -14,15 +14,17 @@ use Rattle.lister.proofs.Promises.{list-only}
 use Rattle.dullavane.specs.Words.{held, Held, reply-number}
 use Rattle.dullavane.specs.Asked.{asked-tally, held-or-none}
 use Rattle.dullavane.proofs.Called.{called-only}
-use Rattle.dullavane_listing.specs.Cursor.{cursor-of, cursor-held, Held as HeldCursor}
+use Rattle.dullavane_listing.specs.Cursor.{cursor-held}
 use Rattle.dullavane_listing.specs.Called.{listed-number, listed-after, beside, listing-tally, ListingCalled}
 
-pub dullavane-listing-only : {ts ws bytes : List ℕ} {l : Lent} {c : Columns} {old : List ℕ} {r r₂ : ℕ} {ws′ ws₂ : List ℕ} {c′ c₂ : Columns} {new new₂ : List ℕ} →
+pub dullavane-listing-only :
+    {ts ws bytes : List ℕ} {l : Lent} {c : Columns} {old : List ℕ} {r r₂ : ℕ} {ws′ ws₂ : List ℕ} {c′ c₂ : Columns} {new new₂ : List ℕ} →
     ListingCalled ts ws bytes l c old r ws′ c′ new → ListingCalled ts ws bytes l c old r₂ ws₂ c₂ new₂ → (r ≡ r₂) × (ws′ ≡ ws₂) × (c′ ≡ c₂) × (new ≡ new₂)
 dullavane-listing-only {ws = ws} {c = c} {old = old} {c′ = c′} {c₂ = c₂} {new = new} {new₂ = new₂} a b =
     let same =
     called-only listed-number listed-after _ _ ((c′ ≡ c) × (new ≡ old)) ((c₂ ≡ c) × (new₂ ≡ old)) ((c′ ≡ c₂) × (new ≡ new₂))
-    (λ t s s₂ x y. let o = list-only (x .0) (y .0) in (o .0, (o .1, o .2))) (λ x y. (x .0 ∙ sym (y .0), x .1 ∙ sym (y .1))) ws _ _ _ _ _ (a .answer) (b .answer) in
+    (λ t s s₂ x y. let o = list-only (x .0) (y .0) in (o .0, (o .1, o .2))) (λ x y. (x .0 ∙ sym (y .0), x .1 ∙ sym (y .1))) ws
+    _ _ _ _ _ (a .answer) (b .answer) in
     (same .0, same .1, same .2 .0, same .2 .1)
 
 -- ---- the tally that is asked, by what the words hold
@@ -50,10 +52,7 @@ module _ (ts ws : List ℕ) {t : Tally} (asked : asked-tally ts true true ≡ ta
   unfolding listing-tally
   asked-of e = rw (asked, e)
 
--- the words hold one cursor
-pub held-at : (ws : List ℕ) {at : Cursor} → HeldCursor ws → cursor-held ws ≡ taken at → at ≡ cursor-of ws
-held-at ws {at} h e = let f : _≡_ {A = Reply Cursor} (taken at) (taken (cursor-of ws)) = sym e ∙ h .cursor in cc
-
+-- a piece from the cursor that the words say
 pub listed-as :
     {at at₂ : Cursor} {t : Tally} {bytes : List ℕ} {l : Lent} {c c′ : Columns} {old new : List ℕ} {r : Listed} → at ≡ at₂ →
     ListPromise at t bytes l c old r c′ new → ListPromise at₂ t bytes l c old r c′ new

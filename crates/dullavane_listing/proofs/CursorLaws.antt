@@ -99,6 +99,15 @@ held-means ws e none =
     go true false l n e = absurd (omega arith)
     go false y l n e = absurd (omega arith)
 
+-- words that hold a cursor hold the one that they say
+pub held-at-once : (ws : List ℕ) {at : Cursor} → cursor-held ws ≡ taken at → at ≡ cursor-of ws
+held-at-once ws {at} e = go (leb cursor-words (length ws)) (words-fit ws) (sym (held-by ws refl refl) ∙ e)
+  where
+    go : (x y : Bool) → unless x TooShort (unless y WrongState (taken (cursor-of ws))) ≡ taken at → at ≡ cursor-of ws
+    go true true f = cc
+    go true false f = let z : _≡_ {A = ℕ} 0 1 = cc in absurd (omega arith)
+    go false y f = let z : _≡_ {A = ℕ} 0 1 = cc in absurd (omega arith)
+
 -- ---- the numbers past those that are named
 pub last-standing : (n : ℕ) → (n ≡ 0 → ⊥) → (n ≡ 1 → ⊥) → (n ≡ 2 → ⊥) → Default NoGoodUnit ≡ standing-in n
 last-standing zero a b c = absurd (a refl)

@@ -7,8 +7,8 @@ use Rattle.dullavane.specs.Asked.{asked-tally}
 use Rattle.dullavane.proofs.Called.{was-called, was-refused}
 use Rattle.dullavane.proofs.AskedLaws.{AskedTally, asked-means}
 use Rattle.dullavane_listing.specs.Cursor.{Held}
-use Rattle.dullavane_listing.proofs.CursorLaws.{held-means}
-use Rattle.dullavane_listing.proofs.CalledLaws.{tally-read, unasked, unheld, asked-of, held-at, listed-as}
+use Rattle.dullavane_listing.proofs.CursorLaws.{held-means, held-at-once}
+use Rattle.dullavane_listing.proofs.CalledLaws.{tally-read, unasked, unheld, asked-of, listed-as}
 use Rattle.dullavane_listing.proofs.dullavane_listing.Statement.{statement}
 use Rattle.dullavane_listing.proofs.dullavane_listing.Tie as tie
 
@@ -98,7 +98,7 @@ returns-3 c =
       answer =
           was-called _ _ _ _ _
           (asked-of _ _ (m .as-held ∙ tally-read _ (m .in-words) (h .tally-held .ensures)) (i .cursor-in .ensures))
-          (listed-as (held-at _ (holds e) (i .cursor-in .ensures)) (l .list .ensures rest), t .2) (t .0, t .1);
+          (listed-as (held-at-once _ (i .cursor-in .ensures)) (l .list .ensures rest), t .2) (t .0, t .1);
     }
 
 pub dullavane-listing-spec : {M : Type 1} → statement M
