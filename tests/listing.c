@@ -95,8 +95,8 @@ static uint32_t call(const uint32_t *of, lengths n) {
     columns_before = lent;
     memset(text, BEFORE, n.room + BEHIND);
     calls++;
-    uint32_t no = dullavane_listing(cursor, n.words, of, n.tally, requirements, n.bytes, measures, n.measures, sums, n.sums, figures, n.figures, numbers, n.numbers,
-                                    homes, n.homes, rows, n.rows, lent.performances, n.column[0], lent.factors, n.column[1], lent.payments, n.column[2],
+    uint32_t no = dullavane_listing(cursor, n.words, of, n.tally, requirements, n.bytes, measures, n.measures, sums, n.sums, figures, n.figures, numbers,
+                                    n.numbers, homes, n.homes, rows, n.rows, lent.performances, n.column[0], lent.factors, n.column[1], lent.payments, n.column[2],
                                     lent.used, n.column[3], lent.unused, n.column[4], text, n.room);
     uint64_t written = no ? 0 : cursor[DULLAVANE_WRITTEN];
     hold(written <= n.room, "more bytes than have room");
