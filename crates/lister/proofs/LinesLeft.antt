@@ -405,7 +405,8 @@ module _ {b : Book} {t : Tally} {bytes : List ℕ} {l : Lent} (h : Taken b t byt
 
 -- where a requirement is yet to be answered something is left
 pub some-left :
-    (b : Book) (t : Tally) (bytes : List ℕ) (l : Lent) (k : ℕ) {c : Columns} {rest : List ℕ} → LeftRequirement b t bytes l k c rest → k < length (b .requirements) →
+    (b : Book) (t : Tally) (bytes : List ℕ) (l : Lent) (k : ℕ) {c : Columns} {rest : List ℕ} → LeftRequirement b t bytes l k c rest → k < length (b
+    .requirements) →
     0 < length rest
 unfolding joined answer-lines
 some-left b t bytes l k w inside =

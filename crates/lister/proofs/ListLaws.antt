@@ -1,12 +1,12 @@
 -- Laws of the tests before a listing and of what is told behind it.
 use mathlib.Core.Path.{_≡_, refl, sym, _∙_, ap, subst}
-use mathlib.Core.Bool.{Bool, true, false, _&&_, _||_, true≢false}
+use mathlib.Core.Bool.{Bool, true, false, _&&_, true≢false}
 use mathlib.Core.List.{List, [], _∷_, _++_}
-use Prim.Native.Nat.{ℕ, _+_, _-_, _*_, _≤_, _<_}
+use Prim.Native.Nat.{ℕ, _+_, _-_, _*_, _≤_}
 use native.Mathlib.Omega.{arith}
-use lib.Dec.{eqb, leb, ltb}
-use lib.ListN.{length, take, drop}
-use borrow.Author.Tests.{le-leb, lt-leb, leb-true, leb-false, lt-ltb, le-ltb, ne-eqb}
+use lib.Dec.{eqb, leb}
+use lib.ListN.{length, drop}
+use borrow.Author.Tests.{le-leb, leb-true, leb-false, lt-ltb, ne-eqb}
 use Rattle.integers.specs.Sums.{both}
 use Rattle.rules.specs.declared.Refusal.{Refusal}
 use Rattle.rules.specs.declared.Refusal.the-variants.{WrongState, EndsEarly, TooShort}
@@ -24,18 +24,7 @@ use Rattle.lister.specs.declared.Step.{Step}
 use Rattle.lister.specs.declared.Listed.{Listed}
 use Rattle.lister.specs.declared.Listed.the-variants as told
 use Rattle.lister.specs.Move.{Move, moves, ends, refuses, move}
-use Rattle.lister.specs.Promises.{
-  longest-line,
-  room-for-any,
-  list-tests,
-  Stops,
-  Piece,
-  piece-told,
-  ListedPiece,
-  Unlisted,
-  by-tests,
-  ListPromise,
-}
+use Rattle.lister.specs.Promises.{longest-line, room-for-any, list-tests, Stops, piece-told, by-tests, ListPromise}
 use Rattle.lister.specs.Steps.{Halted, Runs, Turns, halt-of, is-on, untold, told-as}
 use Rattle.lister.proofs.StepsLaws.{run-then, run-halts, run-size}
 

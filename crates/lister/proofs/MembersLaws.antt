@@ -1,6 +1,6 @@
 -- Laws of the members' rows: what one row says, and a row behind others.
-use mathlib.Core.Path.{_≡_, refl, sym, _∙_, ap, subst}
-use mathlib.Core.Bool.{Bool, true, false}
+use mathlib.Core.Path.{_≡_, refl, sym, _∙_, subst}
+use mathlib.Core.Bool.{true}
 use mathlib.Core.List.{List, [], _∷_}
 use Prim.Native.Nat.{ℕ, suc, _+_, _-_, _≤_, _<_}
 use native.Mathlib.Omega.{arith}
@@ -16,20 +16,20 @@ use Rattle.answer.specs.declared.Answer.{Answer}
 use Rattle.answer.specs.declared.Row.{Row}
 use Rattle.answer.specs.declared.Row.the-variants as who
 use Rattle.answer.specs.Promises.{Columns, columns-long}
-use Rattle.answer.specs.Roster.{member-reply, row-answer, MemberPromise}
-use Rattle.listing.specs.Lines.{unit-of, residual-of}
+use Rattle.answer.specs.Roster.{MemberPromise}
+use Rattle.listing.specs.Lines.{unit-of}
 use Rattle.lister.specs.declared.Cursor.{Cursor}
 use Rattle.lister.specs.declared.Cursor.the-variants as at
 use Rattle.lister.specs.declared.Halt.{Halt}
 use Rattle.lister.specs.declared.Halt.the-variants as halt
 use Rattle.lister.specs.declared.Step.{Step}
 use Rattle.lister.specs.declared.Walked.{Walked}
-use Rattle.lister.specs.Move.{Move, moves, refuses, move, among, amounts-at, row-move}
+use Rattle.lister.specs.Move.{moves, move, among, amounts-at, row-move}
 use Rattle.lister.specs.Said.{Said}
 use Rattle.lister.specs.Steps.{WhereOn, Runs, RowListed, UnitsListed}
 use Rattle.lister.proofs.Halt.{the-type}
-use Rattle.lister.proofs.MoveLaws.{Among, among-means, among-is, move-row}
-use Rattle.lister.proofs.StepsLaws.{run-then, run-said, run-silent, run-halts, run-full, said-some, said-within, run-size}
+use Rattle.lister.proofs.MoveLaws.{Among, among-means, move-row}
+use Rattle.lister.proofs.StepsLaws.{run-said, run-silent, run-halts, run-full, said-some}
 
 -- the next number
 pub next-is : (n : ℕ) → suc n ≡ n + 1
@@ -58,13 +58,27 @@ module _ (t : Tally) (bytes : List ℕ) (l : Lent) (k : ℕ) (a : Answer) (c : C
           RowListed t bytes l k a c row place done old x new
       row-said some same =
           subst (λ (x : Walked). RowListed t bytes l k a c row place done old x new) (sym same)
-          (record { runs = run-said as-unit w (said-some w some); next = refl; few = omega (arith, among-means t k row place here .few); inside = omega (arith, inside) })
+          (record {
+            runs = run-said as-unit w (said-some w some);
+            next = refl;
+            few = omega (arith, among-means t k row place here .few);
+            inside = omega (
+              arith,
+              inside,
+            );
+          })
 
     pub row-other : r ≡ who.Other → {x : Walked} → x ≡ record { row = row + 1; place = place; done = done; halt = halt.On } →
         RowListed t bytes l k a c row place done old x old
     row-other e same =
         subst (λ (x : Walked). RowListed t bytes l k a c row place done old x old) (sym same)
-        (record { runs = run-silent (as-row e ∙ rw (next-is row)) fits; next = refl; few = omega (arith, among-means t k row place here .few); inside = omega (arith, inside) })
+        (record {
+          runs = run-silent (as-row e ∙ rw (next-is row)) fits;
+          next = refl;
+          few = omega (arith, among-means t k row place here .few);
+          inside = omega
+              (arith, inside);
+        })
 
     pub row-refused : (why : Refusal) → r ≡ who.Refused why → {x : Walked} → x ≡ record { row = row; place = place; done = done; halt = halt.Refused why } →
         RowListed t bytes l k a c row place done old x old

@@ -1,10 +1,9 @@
 -- Laws of the moves: what each cursor's is, by the tests that it stands behind.
-use mathlib.Core.Path.{_≡_, refl, sym, _∙_, ap}
-use mathlib.Core.Bool.{Bool, true, false, cond, _&&_}
-use mathlib.Core.List.{List, []}
+use mathlib.Core.Path.{_≡_, refl}
+use mathlib.Core.Bool.{Bool, true, false, cond}
+use mathlib.Core.List.{List}
 use Prim.Native.Nat.{ℕ, suc, _*_, _≤_, _<_}
 use native.Mathlib.Omega.{arith}
-use native.Mathlib.Decide.{decLt}
 use lib.Dec.{leb, ltb}
 use lib.ListN.{length, drop}
 use borrow.Author.Tests.{lt-ltb, le-ltb, le-leb, ltb-true, leb-true}
@@ -21,7 +20,7 @@ use Rattle.answer.specs.Roster.{member-reply, row-answer}
 use Rattle.listing.specs.Lines.{answer-of, residual-of}
 use Rattle.lister.specs.declared.Cursor.the-variants as at
 use Rattle.lister.specs.declared.Halt.the-variants as halt
-use Rattle.lister.specs.Move.{Move, moves, ends, refuses, move, among, amounts-at, line-of, answering, row-move}
+use Rattle.lister.specs.Move.{moves, ends, refuses, move, among, amounts-at, line-of, answering, row-move}
 use Rattle.lister.specs.Steps.{Halted, halt-behind}
 
 -- a place among the members of a requirement

@@ -1,13 +1,13 @@
 -- A listing comes to its end, whatever is lent to it: each move leaves fewer moves, and so does each piece, since it has a line.
 use mathlib.Core.Path.{_≡_, refl, sym, _∙_, ap, subst}
 use mathlib.Core.Bool.{Bool, true, false, cond, true≢false}
-use mathlib.Core.List.{List, [], _∷_, _++_}
-use Prim.Native.Nat.{ℕ, zero, suc, _+_, _-_, _*_, _≤_, _<_}
+use mathlib.Core.List.{List, [], _∷_}
+use Prim.Native.Nat.{ℕ, suc, _+_, _-_, _*_, _≤_, _<_}
 use native.Mathlib.Omega.{arith}
 use native.Mathlib.Nat.{suc-mul}
-use lib.Dec.{ltb, leb}
+use lib.Dec.{ltb}
 use lib.ListN.{length, drop}
-use borrow.Author.Tests.{ltb-true, ltb-false}
+use borrow.Author.Tests.{ltb-true}
 use Rattle.rules.specs.declared.Refusal.{Refusal}
 use Rattle.rules.specs.declared.Refusal.the-variants.{WrongState, TooShort}
 use Rattle.rules.specs.Contents.{requirement-size}
@@ -24,8 +24,7 @@ use Rattle.answer.specs.Roster.{member-reply, row-answer}
 use Rattle.listing.specs.Lines.{answer-of}
 use Rattle.lister.specs.declared.Cursor.{Cursor}
 use Rattle.lister.specs.declared.Cursor.the-variants as at
-use Rattle.lister.specs.declared.Listed.{Listed}
-use Rattle.lister.specs.declared.Listed.the-variants.{Written, Nothing, Refused}
+use Rattle.lister.specs.declared.Listed.the-variants.{Written, Refused}
 use Rattle.lister.specs.Move.{Move, moves, ends, refuses, move, among, line-of, answering, row-move, member-move}
 use Rattle.lister.specs.Promises.{Goes, stays, and-then, piece-told, ListedPiece, Unlisted, by-tests, ListPromise}
 use Rattle.lister.proofs.MoveLaws.{among-means}
@@ -44,7 +43,8 @@ Falls t n ends = Unit {0}
 Falls t n (refuses r) = Unit {0}
 
 -- a requirement's moves
-one-requirement : (t : Tally) (k : ℕ) → k < t .requirements → (t .requirements - k) * (t .units + 4) ≡ (t .requirements - suc k) * (t .units + 4) + (t .units + 4)
+one-requirement : (t : Tally) (k : ℕ) → k < t .requirements → (t .requirements - k) * (t .units + 4) ≡ (t .requirements - suc k) * (t .units + 4) + (t .units +
+    4)
 one-requirement t k h =
     let next : t .requirements - k ≡ suc (t .requirements - suc k) = omega arith in
     ap (λ (m : ℕ). m * (t .units + 4)) next ∙ suc-mul (t .requirements - suc k) (t .units + 4)

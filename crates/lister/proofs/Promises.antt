@@ -75,7 +75,8 @@ member-most x = go (x .name)
   where
     go :
         (n : Name) →
-        length (words (name-words n ++ (standing-word (x .standing) ∷ integer (x .performance) ∷ integer (x .factor) ∷ integer (x .payment) ∷ integer (x .used) ∷
+        length (words (name-words n ++ (standing-word (x .standing) ∷ integer (x .performance) ∷ integer (x .factor) ∷ integer (x .payment) ∷ integer (x .used)
+        ∷
         integer (x .unused) ∷ []))) ≤ longest-line
     go (unit n) =
         simp length-append
@@ -150,7 +151,8 @@ module _ (t : Tally) (bytes : List ℕ) (l : Lent) where
 
 -- A CALL HAS ONE ANSWER
 pub list-only :
-    {at : Cursor} {t : Tally} {bytes : List ℕ} {l : Lent} {c c′ c₂ : Columns} {old new new₂ : List ℕ} {r r₂ : Listed} → ListPromise at t bytes l c old r c′ new →
+    {at : Cursor} {t : Tally} {bytes : List ℕ} {l : Lent} {c c′ c₂ : Columns} {old new new₂ : List ℕ} {r r₂ : Listed} → ListPromise at t bytes l c old r c′ new
+    →
     ListPromise at t bytes l c old r₂ c₂ new₂ → (r ≡ r₂) × (c′ ≡ c₂) × (new ≡ new₂)
 list-only {at} {t} {bytes} {l} {c} {old = old} a b = only-by t bytes l (list-tests t (length bytes) at (length old)) c old (a .kept) (b .kept)
 

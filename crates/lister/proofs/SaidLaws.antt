@@ -6,7 +6,7 @@ use native.Mathlib.Omega.{arith}
 use lib.ListN.{length, take, drop, length-append, length-drop, length-take, take-append-drop}
 use lib.Seq.{take-at, drop-at, drop-drop, take-length, length-take-le}
 use Rattle.rules.specs.Text.{text, words}
-use Rattle.listing.specs.Pieces.{Put, PutWhereRoom}
+use Rattle.listing.specs.Pieces.{PutWhereRoom}
 use Rattle.listing.specs.Lines.{LineWritten}
 use Rattle.listing.proofs.PiecesLaws.{put-there}
 use Rattle.lister.specs.Said.{Said}

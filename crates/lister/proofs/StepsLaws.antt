@@ -1,7 +1,7 @@
 -- Laws of how far a listing has come: a run behind a run, a line, a move that says none, and a halt.
-use mathlib.Core.Path.{_≡_, refl, sym, _∙_, ap, subst}
-use mathlib.Core.List.{List, [], _∷_, _++_, append-assoc, append-nil}
-use Prim.Native.Nat.{ℕ, zero, suc, _+_, _-_, _≤_, _<_}
+use mathlib.Core.Path.{_≡_, sym, _∙_, ap, subst}
+use mathlib.Core.List.{List, [], _++_, append-assoc, append-nil}
+use Prim.Native.Nat.{ℕ, _+_, _-_, _≤_, _<_}
 use native.Mathlib.Decide.{decLe}
 use native.Mathlib.Omega.{arith}
 use lib.ListN.{length, take, drop, length-append, take-append-drop}
@@ -12,10 +12,10 @@ use Rattle.lister.specs.declared.Cursor.{Cursor}
 use Rattle.lister.specs.declared.Halt.{Halt}
 use Rattle.lister.specs.declared.Halt.the-variants as halt
 use Rattle.lister.specs.declared.Step.{Step}
-use Rattle.lister.specs.Move.{Move, moves, move}
+use Rattle.lister.specs.Move.{moves, move}
 use Rattle.lister.specs.Promises.{Goes, stays, and-then}
 use Rattle.lister.specs.Said.{Said}
-use Rattle.lister.specs.Steps.{Halted, NoRoom, Runs}
+use Rattle.lister.specs.Steps.{Halted, Runs}
 use Rattle.lister.proofs.SaidLaws.{with-lines-at, same-size, lines-behind}
 
 nothing-written : (done : ℕ) (old : List ℕ) → old ≡ with-lines-at done [] old

@@ -2,7 +2,7 @@
 use mathlib.Core.Path.{_≡_, refl, sym, _∙_, ap, subst}
 use mathlib.Core.Bool.{Bool, true, false, cond, true≢false}
 use mathlib.Core.List.{List, [], _∷_}
-use Prim.Native.Nat.{ℕ, suc, _+_, _-_, _*_, _≤_, _<_}
+use Prim.Native.Nat.{ℕ, _+_, _-_, _*_, _≤_, _<_}
 use native.Mathlib.Omega.{arith}
 use lib.Dec.{ltb}
 use lib.ListN.{length, take, drop, length-drop}
@@ -10,7 +10,7 @@ use lib.Seq.{take-length}
 use types.Run.{OneOf, miss}
 use denote.Enum.Declared.{tagOf}
 use Rattle.rules.specs.declared.Refusal.{Refusal}
-use Rattle.rules.specs.declared.Refusal.the-variants.{WrongState, TooShort}
+use Rattle.rules.specs.declared.Refusal.the-variants.{WrongState}
 use Rattle.rules.specs.Refusals.{Reply, taken, refused}
 use Rattle.rules.specs.Book.{Requirement}
 use Rattle.rules.specs.Listing.{requirement-line, member-line}
@@ -29,22 +29,11 @@ use Rattle.lister.specs.declared.Halt.{Halt}
 use Rattle.lister.specs.declared.Halt.the-variants as halt
 use Rattle.lister.specs.declared.Step.{Step}
 use Rattle.lister.specs.declared.Walked.{Walked}
-use Rattle.lister.specs.Move.{Move, moves, refuses, move, among, amounts-at, line-of, answering}
+use Rattle.lister.specs.Move.{moves, refuses, move, amounts-at, line-of, answering}
 use Rattle.lister.specs.Said.{Said}
-use Rattle.lister.specs.Steps.{WhereOn, Halted, Runs, UnitsListed, Turns, turns-left, cursor-left, halt-behind}
+use Rattle.lister.specs.Steps.{WhereOn, Runs, UnitsListed, Turns, turns-left, cursor-left, halt-behind}
 use Rattle.lister.proofs.Halt.{the-type}
-use Rattle.lister.proofs.MoveLaws.{
-  Among,
-  among-means,
-  among-is,
-  move-requirement,
-  move-behind,
-  move-answered,
-  move-past,
-  move-nowhere,
-  move-short,
-  move-residual,
-}
+use Rattle.lister.proofs.MoveLaws.{among-is, move-requirement, move-behind, move-answered, move-residual}
 use Rattle.lister.proofs.StepsLaws.{run-then, run-said, run-silent, run-halts, run-full, said-some}
 use Rattle.lister.proofs.MembersLaws.{next-is}
 
@@ -69,7 +58,8 @@ module _ (t : Tally) (bytes : List ℕ) (l : Lent) (c : Columns) (k : ℕ) where
   -- ---- the residual's line
   module _ (a : Answer) (place done : ℕ) (old : List ℕ) (one : k < t .requirements) (few : place ≤ t .units) (long : columns-long (t .units) c ≡ true)
       (fits : done ≤ length old) {said : ℕ} {new : List ℕ} (w : Said (member-line (residual-of (a .residual) (amounts-at c place))) done old said new) where
-    last-move : move t bytes l (at.Members k a (t .units) place) c ≡ moves (member-line (residual-of (a .residual) (amounts-at c place))) (at.Requirement (k + 1)) c
+    last-move : move t bytes l (at.Members k a (t .units) place) c ≡ moves (member-line (residual-of (a .residual) (amounts-at c place))) (at.Requirement (k +
+        1)) c
     last-move =
         move-residual t bytes l c k a place (among-is t k (t .units) place (record { requirement = one; row-there = omega arith; few = few })) long
         ∙ rw (next-is k)
@@ -121,7 +111,11 @@ module _ (t : Tally) (bytes : List ℕ) (l : Lent) (c : Columns) (k : ℕ) where
       s ≡ record { at = at.Requirement k; done = done; halt = halt-behind (t .requirements) k } → Turns t bytes l (at.Requirement k) c done old s c old
   turn-behind done old past fits same =
       subst (λ (s : Step). Turns t bytes l (at.Requirement k) c done old s c old) (sym same)
-      (record { runs = run-halts (halt-behind (t .requirements) k) fits (move-behind t bytes l c k (length old - done) past); less = none (ltb (t .requirements) k) })
+      (record {
+        runs = run-halts (halt-behind (t .requirements) k) fits (move-behind t bytes l c k (length old - done) past);
+        less = none (ltb (t
+            .requirements) k);
+      })
     where
       none :
           (b : Bool) → turns-left (t .requirements) (at.Requirement k) (cond b (halt.Refused WrongState) halt.Ended)

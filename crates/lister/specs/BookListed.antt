@@ -14,7 +14,7 @@ use Rattle.rules.specs.Listing.{listing}
 use Rattle.interval.specs.declared.Tally.{Tally}
 use Rattle.interval.specs.Tally.{in-range, book-end}
 use Rattle.interval.specs.Lent.{Lent}
-use Rattle.answer.specs.Promises.{Columns, columns-long}
+use Rattle.answer.specs.Promises.{Columns}
 use Rattle.answer.specs.BookAnswered.{RulesAnswers}
 use Rattle.lister.specs.declared.Cursor.{Cursor}
 use Rattle.lister.specs.declared.Cursor.the-variants.{Interval}

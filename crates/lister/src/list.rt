@@ -2,7 +2,6 @@
 ghost use mathlib.Core.Path.{_≡_};
 ghost use mathlib.Core.Bool.{_&&_};
 ghost use lib.Dec.{eqb};
-ghost use lib.ListN.{length};
 ghost use Rattle.interval.specs.Tally.{in-range, book-end};
 ghost use Rattle.interval.specs.Lent.{Lent};
 ghost use Rattle.answer.specs.Promises.{columns};
@@ -105,7 +104,8 @@ pub fn list(
     unused: &mut [i64],
     text: &mut [u8],
 ) -> Listed
-    ensures { λ r. ⌜ ((rest : Lent) → ListPromise cursor tally (now (bytes .entry)) (lent-listing rest (now (measures .entry)) (now (sums .entry)) (now (figures .entry)) (now (numbers .entry)) (now (homes .entry)) (now (rows .entry)))
+    ensures { λ r. ⌜ ((rest : Lent) → ListPromise cursor tally (now (bytes .entry)) (lent-listing rest (now (measures .entry)) (now (sums .entry)) (now
+        (figures .entry)) (now (numbers .entry)) (now (homes .entry)) (now (rows .entry)))
         (columns (now (performances .entry)) (now (factors .entry)) (now (payments .entry)) (now (used .entry)) (now (unused .entry))) (now (text .entry)) r
         (columns (now (performances .exit)) (now (factors .exit)) (now (payments .exit)) (now (used .exit)) (now (unused .exit))) (now (text .exit))) ⌝ }
 {

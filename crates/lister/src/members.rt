@@ -28,7 +28,8 @@ pub(crate) fn amounts(
 ) -> Amounts
     requires { ⌜ (place < length (now performances)) × (place < length (now factors)) × (place < length (now payments)) × (place < length (now used))
         × (place < length (now unused)) ⌝ }
-    ensures { λ r. ⌜ r ≡ amounts-at (columns (now (performances .entry)) (now (factors .entry)) (now (payments .entry)) (now (used .entry)) (now (unused .entry))) place ⌝ }
+    ensures { λ r. ⌜ r ≡ amounts-at (columns (now (performances .entry)) (now (factors .entry)) (now (payments .entry)) (now (used .entry)) (now (unused
+        .entry))) place ⌝ }
 {
     Amounts {
         performance: performances[place],
@@ -70,7 +71,8 @@ fn list_row(
 ) -> Walked
     requires { ⌜ (among tally requirement row place ≡ true) × (row < tally .units) × (tally .units ≤ 512) × (done ≤ length (now text))
         × (columns-long (tally .units) (columns (now performances) (now factors) (now payments) (now used) (now unused)) ≡ true) ⌝ }
-    ensures { λ r. ⌜ ((bytes : List ℕ) (rest : Lent) → RowListed tally bytes (lent-member rest (now (figures .entry)) (now (numbers .entry)) (now (homes .entry)))
+    ensures { λ r. ⌜ ((bytes : List ℕ) (rest : Lent) → RowListed tally bytes (lent-member rest (now (figures .entry)) (now (numbers .entry)) (now (homes
+        .entry)))
         requirement given (columns (now (performances .entry)) (now (factors .entry)) (now (payments .entry)) (now (used .entry)) (now (unused .entry)))
         row place done (now (text .entry)) r (now (text .exit))) ⌝ }
 {
@@ -117,7 +119,8 @@ pub(crate) fn list_units(
 ) -> Walked
     requires { ⌜ (among tally requirement first members ≡ true) × (tally .units ≤ 512) × (start ≤ length (now text))
         × (columns-long (tally .units) (columns (now performances) (now factors) (now payments) (now used) (now unused)) ≡ true) ⌝ }
-    ensures { λ r. ⌜ ((bytes : List ℕ) (rest : Lent) → UnitsListed tally bytes (lent-member rest (now (figures .entry)) (now (numbers .entry)) (now (homes .entry)))
+    ensures { λ r. ⌜ ((bytes : List ℕ) (rest : Lent) → UnitsListed tally bytes (lent-member rest (now (figures .entry)) (now (numbers .entry)) (now (homes
+        .entry)))
         requirement given (columns (now (performances .entry)) (now (factors .entry)) (now (payments .entry)) (now (used .entry)) (now (unused .entry)))
         first members start (now (text .entry)) r (now (text .exit))) ⌝ }
 {

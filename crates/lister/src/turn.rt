@@ -1,9 +1,8 @@
 // A requirement's lines, from wherever the cursor stands to the next requirement, as far as they have room.
 ghost use mathlib.Core.Path.{_≡_};
-ghost use mathlib.Core.Bool.{true, _&&_};
+ghost use mathlib.Core.Bool.{true};
 ghost use mathlib.Core.List.{List};
 ghost use Prim.Native.Nat.{ℕ, _*_, _≤_, _<_};
-ghost use lib.Dec.{leb, ltb};
 ghost use lib.ListN.{length};
 ghost use Rattle.interval.specs.Lent.{Lent, lent-member};
 ghost use Rattle.answer.specs.Promises.{Columns, columns, columns-long};
@@ -63,7 +62,8 @@ fn from_residual(
     requires { ⌜ (requirement < tally .requirements) × (tally .requirements ≤ 32) × (tally .units ≤ 512) × (place ≤ tally .units) × (done ≤ length (now text))
         × (columns-long (tally .units) (columns (now performances) (now factors) (now payments) (now used) (now unused)) ≡ true) ⌝ }
     ensures { λ r. ⌜ ((bytes : List ℕ) (l : Lent) → Turns tally bytes l (c.Members requirement given (tally .units) place)
-        (columns (now (performances .entry)) (now (factors .entry)) (now (payments .entry)) (now (used .entry)) (now (unused .entry))) done (now (text .entry)) r
+        (columns (now (performances .entry)) (now (factors .entry)) (now (payments .entry)) (now (used .entry)) (now (unused .entry))) done (now (text .entry))
+        r
         (columns (now (performances .entry)) (now (factors .entry)) (now (payments .entry)) (now (used .entry)) (now (unused .entry))) (now (text .exit))) ⌝ }
 {
     let standing = given.residual;
@@ -111,8 +111,10 @@ fn from_row(
     requires { ⌜ (among tally requirement row place ≡ true) × (tally .requirements ≤ 32) × (tally .units ≤ 512) × (done ≤ length (now text))
         × (columns-long (tally .units) (columns (now performances) (now factors) (now payments) (now used) (now unused)) ≡ true) ⌝ }
     ensures { λ r. ⌜ ((bytes : List ℕ) (rest : Lent) → Turns tally bytes (lent-member rest (now (figures .entry)) (now (numbers .entry)) (now (homes .entry)))
-        (c.Members requirement given row place) (columns (now (performances .entry)) (now (factors .entry)) (now (payments .entry)) (now (used .entry)) (now (unused .entry))) done
-        (now (text .entry)) r (columns (now (performances .entry)) (now (factors .entry)) (now (payments .entry)) (now (used .entry)) (now (unused .entry))) (now (text .exit))) ⌝ }
+        (c.Members requirement given row place) (columns (now (performances .entry)) (now (factors .entry)) (now (payments .entry)) (now (used .entry)) (now
+        (unused .entry))) done
+        (now (text .entry)) r (columns (now (performances .entry)) (now (factors .entry)) (now (payments .entry)) (now (used .entry)) (now (unused .entry)))
+        (now (text .exit))) ⌝ }
 {
     let walked = list_units(
         tally,
@@ -187,8 +189,10 @@ fn from_members(
 ) -> Step
     requires { ⌜ (tally .requirements ≤ 32) × (tally .units ≤ 512) × (done ≤ length (now text)) ⌝ }
     ensures { λ r. ⌜ ((bytes : List ℕ) (rest : Lent) → Turns tally bytes (lent-member rest (now (figures .entry)) (now (numbers .entry)) (now (homes .entry)))
-        (c.Members requirement given row place) (columns (now (performances .entry)) (now (factors .entry)) (now (payments .entry)) (now (used .entry)) (now (unused .entry))) done
-        (now (text .entry)) r (columns (now (performances .entry)) (now (factors .entry)) (now (payments .entry)) (now (used .entry)) (now (unused .entry))) (now (text .exit))) ⌝ }
+        (c.Members requirement given row place) (columns (now (performances .entry)) (now (factors .entry)) (now (payments .entry)) (now (used .entry)) (now
+        (unused .entry))) done
+        (now (text .entry)) r (columns (now (performances .entry)) (now (factors .entry)) (now (payments .entry)) (now (used .entry)) (now (unused .entry)))
+        (now (text .exit))) ⌝ }
 {
     if !among(tally, requirement, row, place) {
         return Step {
@@ -248,8 +252,10 @@ fn from_answered(
 ) -> Step
     requires { ⌜ (tally .requirements ≤ 32) × (tally .units ≤ 512) × (done ≤ length (now text)) ⌝ }
     ensures { λ r. ⌜ ((bytes : List ℕ) (rest : Lent) → Turns tally bytes (lent-member rest (now (figures .entry)) (now (numbers .entry)) (now (homes .entry)))
-        (c.Answered requirement given) (columns (now (performances .entry)) (now (factors .entry)) (now (payments .entry)) (now (used .entry)) (now (unused .entry))) done
-        (now (text .entry)) r (columns (now (performances .entry)) (now (factors .entry)) (now (payments .entry)) (now (used .entry)) (now (unused .entry))) (now (text .exit))) ⌝ }
+        (c.Answered requirement given) (columns (now (performances .entry)) (now (factors .entry)) (now (payments .entry)) (now (used .entry)) (now (unused
+        .entry))) done
+        (now (text .entry)) r (columns (now (performances .entry)) (now (factors .entry)) (now (payments .entry)) (now (used .entry)) (now (unused .entry)))
+        (now (text .exit))) ⌝ }
 {
     if tally.requirements <= requirement {
         return Step {
@@ -324,9 +330,12 @@ fn from_requirement(
     text: &mut [u8],
 ) -> Step
     requires { ⌜ (tally .requirements ≤ 32) × (tally .units ≤ 512) × (24 * tally .requirements ≤ length (now bytes)) × (done ≤ length (now text)) ⌝ }
-    ensures { λ r. ⌜ ((rest : Lent) → Turns tally (now (bytes .entry)) (lent-listing rest (now (measures .entry)) (now (sums .entry)) (now (figures .entry)) (now (numbers .entry)) (now (homes .entry)) (now (rows .entry)))
-        (c.Requirement requirement) (columns (now (performances .entry)) (now (factors .entry)) (now (payments .entry)) (now (used .entry)) (now (unused .entry))) done
-        (now (text .entry)) r (columns (now (performances .exit)) (now (factors .exit)) (now (payments .exit)) (now (used .exit)) (now (unused .exit))) (now (text .exit))) ⌝ }
+    ensures { λ r. ⌜ ((rest : Lent) → Turns tally (now (bytes .entry)) (lent-listing rest (now (measures .entry)) (now (sums .entry)) (now (figures .entry))
+        (now (numbers .entry)) (now (homes .entry)) (now (rows .entry)))
+        (c.Requirement requirement) (columns (now (performances .entry)) (now (factors .entry)) (now (payments .entry)) (now (used .entry)) (now (unused
+        .entry))) done
+        (now (text .entry)) r (columns (now (performances .exit)) (now (factors .exit)) (now (payments .exit)) (now (used .exit)) (now (unused .exit))) (now
+        (text .exit))) ⌝ }
 {
     if tally.requirements <= requirement {
         return behind(tally, requirement, done);
@@ -389,9 +398,11 @@ pub(crate) fn turn(
     text: &mut [u8],
 ) -> Step
     requires { ⌜ (tally .requirements ≤ 32) × (tally .units ≤ 512) × (24 * tally .requirements ≤ length (now bytes)) × (done ≤ length (now text)) ⌝ }
-    ensures { λ r. ⌜ ((rest : Lent) → Turns tally (now (bytes .entry)) (lent-listing rest (now (measures .entry)) (now (sums .entry)) (now (figures .entry)) (now (numbers .entry)) (now (homes .entry)) (now (rows .entry)))
+    ensures { λ r. ⌜ ((rest : Lent) → Turns tally (now (bytes .entry)) (lent-listing rest (now (measures .entry)) (now (sums .entry)) (now (figures .entry))
+        (now (numbers .entry)) (now (homes .entry)) (now (rows .entry)))
         at (columns (now (performances .entry)) (now (factors .entry)) (now (payments .entry)) (now (used .entry)) (now (unused .entry))) done
-        (now (text .entry)) r (columns (now (performances .exit)) (now (factors .exit)) (now (payments .exit)) (now (used .exit)) (now (unused .exit))) (now (text .exit))) ⌝ }
+        (now (text .entry)) r (columns (now (performances .exit)) (now (factors .exit)) (now (payments .exit)) (now (used .exit)) (now (unused .exit))) (now
+        (text .exit))) ⌝ }
 {
     match at {
         Cursor::Interval => from_interval(tally, done, text),

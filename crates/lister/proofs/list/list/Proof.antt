@@ -1,13 +1,12 @@
 -- The turns left fall; the listing comes from the cursor on as far as lines have room, unless a test refuses it at once.
 use mathlib.Core.Path.{_≡_, refl, sym, _∙_, subst}
-use mathlib.Core.Bool.{true, false}
+use mathlib.Core.Bool.{true}
 use mathlib.Core.List.{List}
 use Prim.Native.Nat.{ℕ, _+_, _<_}
 use native.Mathlib.Omega.{arith}
 use lib.IntN.{ℤ}
 use lib.ListN.{length}
 use borrow.Author.Needs.{needs}
-use borrow.Author.Tests.{not-true, not-false}
 use Rattle.interval.specs.declared.Tally.{Tally}
 use Rattle.interval.specs.Lent.{Lent}
 use Rattle.answer.specs.Asked.{no-lists}
@@ -31,12 +30,14 @@ record Coming
   so-far : (rest : Lent) → SoFar t bytes (lent-listing rest measures sums figures numbers homes rows) first c old at done h c′ new
 
 abbrev Inv-loop : tie.InvT-loop
-Inv-loop tally bytes measures sums figures numbers homes rows performances₀ factors₀ payments₀ used₀ unused₀ text₀ at₀ done₀ halt₀ performances factors payments used unused text at done halt =
+Inv-loop tally bytes measures sums figures numbers homes rows performances₀ factors₀ payments₀ used₀ unused₀ text₀ at₀ done₀ halt₀ performances factors
+    payments used unused text at done halt =
     Coming tally bytes measures sums figures numbers homes rows at₀ (columns performances₀ factors₀ payments₀ used₀ unused₀) text₀ at done halt
     (columns performances factors payments used unused) text
 
 abbrev μ-loop : tie.MeasureT-loop
-μ-loop tally bytes measures sums figures numbers homes rows performances₀ factors₀ payments₀ used₀ unused₀ text₀ at₀ done₀ halt₀ performances factors payments used unused text at done halt =
+μ-loop tally bytes measures sums figures numbers homes rows performances₀ factors₀ payments₀ used₀ unused₀ text₀ at₀ done₀ halt₀ performances factors payments
+    used unused text at done halt =
     turns-left (tally .requirements) at halt
 
 abbrev start : tie.At-loop Inv-loop μ-loop → tie.Start Inv-loop μ-loop
@@ -109,7 +110,8 @@ loop-again c =
       payments = omega (arith, w .turn .kept, i .payments);
       used = omega (arith, w .turn .kept, i .used);
       unused = omega (arith, w .turn .kept, i .unused);
-      so-far = λ rest. so-far-turn (a .tally) (a .bytes .now) (lists s rest) (a .cursor) (cols s) (a .text .now) (i .so-far rest) (on (begun w)) (w .turn .ensures rest);
+      so-far = λ rest. so-far-turn (a .tally) (a .bytes .now) (lists s rest) (a .cursor) (cols s) (a .text .now) (i .so-far rest) (on (begun w)) (w .turn
+          .ensures rest);
     }
 
 told-requires : tie.Need-told-requires Inv-loop μ-loop

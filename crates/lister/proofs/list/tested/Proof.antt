@@ -35,12 +35,22 @@ room-for-any-requires c κs = search needs
 returns-3 : tie.Need-returns-3
 unfolding list-tests
 returns-3 c =
-    rw (ended-true (c .before .before .before .before), le-leb _ _ (c .before .before .if2 .left), sym (c .before .room-for-any .ensures) ∙ not-true _ (c .if3 .taken))
+    rw (
+      ended-true (c .before .before .before .before),
+      le-leb _ _ (c .before .before .if2 .left),
+      sym (c .before .room-for-any .ensures) ∙ not-true _ (c .if3
+          .taken),
+    )
 
 returns-4 : tie.Need-returns-4
 unfolding list-tests
 returns-4 c =
-    rw (ended-true (c .before .before .before .before), le-leb _ _ (c .before .before .if2 .left), sym (c .before .room-for-any .ensures) ∙ not-false _ (c .if3 .left))
+    rw (
+      ended-true (c .before .before .before .before),
+      le-leb _ _ (c .before .before .if2 .left),
+      sym (c .before .room-for-any .ensures) ∙ not-false _ (c .if3
+          .left),
+    )
 
 pub tested-spec : {M : Type 1} → statement M
 tested-spec =

@@ -1,12 +1,10 @@
 -- By who stands in the row.
-use mathlib.Core.Path.{sym, subst}
 use Prim.Native.Nat.{_+_, _≤_}
 use native.Mathlib.Omega.{arith}
 use lib.ListN.{length}
 use Rattle.rules.specs.Listing.{member-line}
 use Rattle.interval.specs.Lent.{Lent, lent-member}
 use Rattle.answer.specs.Promises.{Columns, columns}
-use Rattle.listing.specs.declared.Amounts.{Amounts}
 use Rattle.listing.specs.Lines.{unit-of}
 use Rattle.lister.specs.Move.{amounts-at}
 use Rattle.lister.specs.Said.{Said}
@@ -63,7 +61,8 @@ returns c =
     let s = m .before .before .before .before in
     let a = s .args in
     λ bytes rest.
-    row-full (a .tally) bytes (lists s rest) (a .requirement) (a .given) (cols s) (a .row) (a .place) (a .done) (a .text .now) (s .pre .0) (s .pre .1) (s .pre .4) (s .pre .3) (m .member .ensures rest) (w .who .given .0 .0) (w .who .given .0 .1 .0) (w .who .given .1)
+    row-full (a .tally) bytes (lists s rest) (a .requirement) (a .given) (cols s) (a .row) (a .place) (a .done) (a .text .now) (s .pre .0) (s .pre .1) (s .pre
+    .4) (s .pre .3) (m .member .ensures rest) (w .who .given .0 .0) (w .who .given .0 .1 .0) (w .who .given .1)
     (shares-said y) (i .if1 .taken) (c .halted .ensures)
 
 add-halted : tie.Need-add-halted
@@ -111,7 +110,8 @@ returns-2 c =
     let s = m .before .before .before .before in
     let a = s .args in
     λ bytes rest.
-    row-said (a .tally) bytes (lists s rest) (a .requirement) (a .given) (cols s) (a .row) (a .place) (a .done) (a .text .now) (s .pre .0) (s .pre .1) (s .pre .4) (s .pre .3) (m .member .ensures rest) (w .who .given .0 .0) (w .who .given .0 .1 .0) (w .who .given .1)
+    row-said (a .tally) bytes (lists s rest) (a .requirement) (a .given) (cols s) (a .row) (a .place) (a .done) (a .text .now) (s .pre .0) (s .pre .1) (s .pre
+    .4) (s .pre .3) (m .member .ensures rest) (w .who .given .0 .0) (w .who .given .0 .1 .0) (w .who .given .1)
     (shares-said y) (i .if1 .left) (c .halted2 .ensures)
 
 returns-3 : tie.Need-returns-3
@@ -121,7 +121,8 @@ returns-3 c =
     let s = m .before .before .before .before in
     let a = s .args in
     λ bytes rest.
-    row-other (a .tally) bytes (lists s rest) (a .requirement) (a .given) (cols s) (a .row) (a .place) (a .done) (a .text .now) (s .pre .0) (s .pre .1) (s .pre .4) (s .pre .3) (m .member .ensures rest) (e .enum-told .given .1) (c .halted3 .ensures)
+    row-other (a .tally) bytes (lists s rest) (a .requirement) (a .given) (cols s) (a .row) (a .place) (a .done) (a .text .now) (s .pre .0) (s .pre .1) (s .pre
+    .4) (s .pre .3) (m .member .ensures rest) (e .enum-told .given .1) (c .halted3 .ensures)
 
 returns-4 : tie.Need-returns-4
 returns-4 c =
@@ -130,7 +131,8 @@ returns-4 c =
     let s = m .before .before .before .before in
     let a = s .args in
     λ bytes rest.
-    row-refused (a .tally) bytes (lists s rest) (a .requirement) (a .given) (cols s) (a .row) (a .place) (a .done) (a .text .now) (s .pre .0) (s .pre .1) (s .pre .4) (s .pre .3) (m .member .ensures rest) (w .who2 .given .0 .0) (w .who2 .given .1)
+    row-refused (a .tally) bytes (lists s rest) (a .requirement) (a .given) (cols s) (a .row) (a .place) (a .done) (a .text .now) (s .pre .0) (s .pre .1) (s
+    .pre .4) (s .pre .3) (m .member .ensures rest) (w .who2 .given .0 .0) (w .who2 .given .1)
     (c .halted4 .ensures)
 
 pub list-row-spec : {M : Type 1} → statement M

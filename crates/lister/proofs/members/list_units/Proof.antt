@@ -1,7 +1,7 @@
 -- The rows left fall; what the rows before have said stands in the text.
-use mathlib.Core.Path.{_≡_, refl, sym, _∙_, subst}
+use mathlib.Core.Path.{_≡_, refl, subst}
 use mathlib.Core.List.{List, []}
-use Prim.Native.Nat.{ℕ, _+_, _-_, _≤_, _<_}
+use Prim.Native.Nat.{ℕ, _+_, _-_, _≤_}
 use native.Mathlib.Omega.{arith}
 use lib.IntN.{ℤ}
 use lib.ListN.{length}
@@ -14,7 +14,6 @@ use Rattle.answer.specs.Promises.{Columns, columns}
 use Rattle.lister.specs.declared.Cursor.the-variants as at
 use Rattle.lister.specs.declared.Halt.{Halt}
 use Rattle.lister.specs.declared.Halt.the-variants as halt
-use Rattle.lister.specs.declared.Walked.{Walked}
 use Rattle.lister.specs.Steps.{WhereOn, Runs, walked-step}
 use Rattle.lister.proofs.MoveLaws.{Among, among-means, among-is}
 use Rattle.lister.proofs.StepsLaws.{run-then, run-halts, run-size}
@@ -33,7 +32,8 @@ record Listed
   fits : done ≤ length text
 
 abbrev Inv-loop : tie.InvT-loop
-Inv-loop tally requirement given first members figures numbers homes performances factors payments used unused start text₀ row₀ place₀ done₀ text row place done =
+Inv-loop tally requirement given first members figures numbers homes performances factors payments used unused start text₀ row₀ place₀ done₀ text row place
+    done =
     Listed tally requirement given (columns performances factors payments used unused) figures numbers homes first members start text₀ row place done text
 
 abbrev μ-loop : tie.MeasureT-loop
@@ -49,7 +49,8 @@ turn r = r .before .before .before .before
 -- this row behind those before it
 listed :
     (r : tie.After-list-row Inv-loop μ-loop) (bytes : List ℕ) (rest : Lent) → let l = turn r in let a = start l .args in
-    Runs (a .tally) bytes (lent-member rest (a .figures .now) (a .numbers .now) (a .homes .now)) (at.Members (a .requirement) (a .given) (a .first) (a .members))
+    Runs (a .tally) bytes (lent-member rest (a .figures .now) (a .numbers .now) (a .homes .now)) (at.Members (a .requirement) (a .given) (a .first) (a
+    .members))
     (columns (a .performances .now) (a .factors .now) (a .payments .now) (a .used .now) (a .unused .now)) (a .start) (a .text .now)
     (walked-step (a .tally) bytes (lent-member rest (a .figures .now) (a .numbers .now) (a .homes .now)) (a .requirement) (a .given) (r .list-row .result))
     (columns (a .performances .now) (a .factors .now) (a .payments .now) (a .used .now) (a .unused .now))

@@ -1,5 +1,5 @@
 -- Behind the last requirement nothing is left; before it `answer` says what comes.
-use mathlib.Core.Path.{_≡_, sym, subst}
+use mathlib.Core.Path.{subst}
 use mathlib.Core.List.{List}
 use Prim.Native.Nat.{ℕ, _*_}
 use lib.ListN.{drop}
@@ -26,7 +26,8 @@ start w = begun w .before .before .before .before .before .before
 -- the columns as the answer leaves them
 abbrev after : tie.After-answer → Columns
 after w =
-    columns (w .answer .last .1 .1 .1 .1 .1 .1 .1 .0) (w .answer .last .1 .1 .1 .1 .1 .1 .1 .1 .0) (w .answer .last .1 .1 .1 .1 .1 .1 .1 .1 .1 .0) (w .answer .last .1 .1 .1 .1 .1 .1 .1 .1 .1 .1 .0) (w .answer .last .1 .1 .1 .1 .1 .1 .1 .1 .1 .1 .1 .0)
+    columns (w .answer .last .1 .1 .1 .1 .1 .1 .1 .0) (w .answer .last .1 .1 .1 .1 .1 .1 .1 .1 .0) (w .answer .last .1 .1 .1 .1 .1 .1 .1 .1 .1 .0) (w .answer
+    .last .1 .1 .1 .1 .1 .1 .1 .1 .1 .1 .0) (w .answer .last .1 .1 .1 .1 .1 .1 .1 .1 .1 .1 .1 .0)
 
 abbrev asked : tie.After-answered → tie.After-answer
 asked w = w .before .before .before .before .before .before .before

@@ -2,7 +2,7 @@
 use mathlib.Core.Path.{_≡_, refl, sym, _∙_, subst}
 use mathlib.Core.Bool.{true, false, true≢false}
 use mathlib.Core.List.{List, []}
-use Prim.Native.Nat.{ℕ, _≤_, _<_}
+use Prim.Native.Nat.{ℕ}
 use native.Mathlib.Omega.{arith}
 use lib.IntN.{ℤ}
 use lib.ListN.{length}
@@ -33,12 +33,14 @@ record Printing
   pieces : (rest : Lent) → Pieces t bytes (lent-listing rest measures sums figures numbers homes rows) c₀ at c
 
 abbrev Inv-loop : tie.InvT-loop
-Inv-loop tally bytes measures sums figures numbers homes rows performances₀ factors₀ payments₀ used₀ unused₀ text₀ cursor₀ performances factors payments used unused text cursor =
+Inv-loop tally bytes measures sums figures numbers homes rows performances₀ factors₀ payments₀ used₀ unused₀ text₀ cursor₀ performances factors payments used
+    unused text cursor =
     Printing tally bytes measures sums figures numbers homes rows (columns performances₀ factors₀ payments₀ used₀ unused₀) text₀ cursor
     (columns performances factors payments used unused) text
 
 abbrev μ-loop : tie.MeasureT-loop
-μ-loop tally bytes measures sums figures numbers homes rows performances₀ factors₀ payments₀ used₀ unused₀ text₀ cursor₀ performances factors payments used unused text cursor =
+μ-loop tally bytes measures sums figures numbers homes rows performances₀ factors₀ payments₀ used₀ unused₀ text₀ cursor₀ performances factors payments used
+    unused text cursor =
     moves-left tally cursor
 
 abbrev turn : tie.After-list Inv-loop μ-loop → tie.At-loop Inv-loop μ-loop
@@ -64,7 +66,8 @@ before l = columns (l .loop .performances) (l .loop .factors) (l .loop .payments
 
 abbrev after : tie.After-list Inv-loop μ-loop → Columns
 after w =
-    columns (w .list .last .1 .1 .1 .1 .1 .1 .1 .1 .1 .0) (w .list .last .1 .1 .1 .1 .1 .1 .1 .1 .1 .1 .0) (w .list .last .1 .1 .1 .1 .1 .1 .1 .1 .1 .1 .1 .0) (w .list .last .1 .1 .1 .1 .1 .1 .1 .1 .1 .1 .1 .1 .0) (w .list .last .1 .1 .1 .1 .1 .1 .1 .1 .1 .1 .1 .1 .1 .0)
+    columns (w .list .last .1 .1 .1 .1 .1 .1 .1 .1 .1 .0) (w .list .last .1 .1 .1 .1 .1 .1 .1 .1 .1 .1 .0) (w .list .last .1 .1 .1 .1 .1 .1 .1 .1 .1 .1 .1 .0)
+    (w .list .last .1 .1 .1 .1 .1 .1 .1 .1 .1 .1 .1 .1 .0) (w .list .last .1 .1 .1 .1 .1 .1 .1 .1 .1 .1 .1 .1 .1 .0)
 
 -- what the call gave
 gave :
@@ -122,7 +125,11 @@ loop-again c =
     let i = turn w .loop .inv in
     record {
       long = omega (arith, w .list .kept, i .long);
-      pieces = λ rest. let p = i .pieces rest in record { said = _; reached = Reached.piece (p .reached) (gave w rest (Written (x .listed .given .0 .0) (x .listed .given .0 .1 .0)) (x .listed .given .1)) };
+      pieces = λ rest. let p = i .pieces rest in record {
+        said = _;
+        reached = Reached.piece (p .reached) (gave w rest (Written (x .listed .given .0 .0) (x
+            .listed .given .0 .1 .0)) (x .listed .given .1));
+      };
     }
 
 enum-told : tie.Need-enum-told Inv-loop μ-loop
