@@ -43,8 +43,8 @@ pub(crate) fn lists_long(
     ROW_EACH * many <= rows.len()
 }
 
-// One number more than units in each of the five columns, by their lengths.
-pub(crate) fn columns_long(
+// One number more than units in each of the five columns, by their lengths; for the callers of `answer` too.
+pub fn columns_long(
     units: u16,
     performances: usize,
     factors: usize,

@@ -12,7 +12,7 @@ mod charges;
 mod counts;
 mod figures;
 mod homes;
-mod lent;
+pub mod lent;
 mod made;
 mod points;
 mod pools;

@@ -18,3 +18,4 @@ pub mod WordsCalls
 pub mod WordsRuns
 pub mod WordsLaws
 pub mod WordsTheorem
+pub mod Settled

@@ -20,3 +20,5 @@ pub mod TrendStrip
 pub mod PerformanceReport
 pub mod Panel
 pub mod PanelWords
+-- what settle writes of what it read
+pub mod Settled

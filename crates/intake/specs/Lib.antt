@@ -1,4 +1,3 @@
--- The record whose turn it is, what taking it promises, what a book is that came, and a part of one that is held
-pub mod Turns
+-- What a book is that came, and a part of one that is held
 pub mod Came
 pub mod Held

@@ -4,8 +4,6 @@ ghost use Prim.Native.Nat.{min};
 ghost use Rattle.intake.specs.Held.{from-place};
 use super::UNITS;
 use super::input::fill;
-use super::turn::size;
-use super::turn::take;
 use book::CONTENTS;
 use book::POINTS;
 use interval::FIGURES_LENGTH;
@@ -17,6 +15,8 @@ use interval::Taking;
 use interval::Tally;
 use interval::contents::contents;
 use interval::turns::BEFORE_UNITS;
+use reader::turn::size;
+use reader::turn::take;
 use rules::Located;
 use rules::locate;
 

@@ -1,8 +1,7 @@
-// intake: what every reader of books does alike. Standard input fills the place of a record, however few bytes each reading brings; then the call whose turn
-// it is takes the record. A whole book goes so to its end, from a file or held in memory.
+// intake: what every program that reads books does alike. A book comes from a file, however few bytes each reading brings, to where they are wanted; or it is
+// held whole in memory, and each record goes from there to the call whose turn it is.
 pub mod held;
 pub mod input;
-pub mod turn;
 pub mod whole;
 
 pub const UNITS: usize = 512;

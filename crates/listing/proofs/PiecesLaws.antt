@@ -2,10 +2,11 @@
 use mathlib.Core.Path.{_≡_, refl, sym, _∙_, ap}
 use mathlib.Core.Bool.{Bool, true, false, _&&_, true≢false}
 use mathlib.Core.List.{List, [], _∷_, _++_, append-assoc}
-use Prim.Native.Nat.{ℕ, zero, suc, _+_, _-_, _/_, _%_, _≤_, _<_, _^_}
+use Prim.Native.Nat.{ℕ, zero, suc, _+_, _-_, _*_, _/_, _%_, _≤_, _<_, _^_}
 use native.Mathlib.Omega.{arith}
 use native.Mathlib.Nat.{pow-suc, div-lt-iff-lt-mul}
 use borrow.Author.Tests.{lt-ltb, le-ltb, le-leb, lt-leb}
+use lib.Arith.{mod-mul}
 use lib.Dec.{leb, ltb, lit≤}
 use lib.IntN.{ℤ, pos, negsuc, natAbs}
 use lib.ListN.{length, take, drop, set, length-append, length-drop, length-set, take-append-drop}
@@ -197,6 +198,34 @@ module _ {n at rest to : ℕ} {old line : List ℕ} (m : Room 20 at old) (s : Sp
         before = take-set-le (to - 1) line (to - 1) b (omega arith) ∙ alike-less (to - 1) to line old (omega arith) (s .before);
         size = length-set line (to - 1) b ∙ s .size;
       }
+
+-- two digits have room
+pub spelt-room : {n at rest to : ℕ} {old line : List ℕ} → Room 20 at old → Spelt n at old rest to line → 10 ≤ rest → 2 ≤ to
+spelt-room {at = at} {rest = rest} {to = to} m s ten = go (s .most) (s .place) (s .small)
+  where
+    go : (most : ℕ) → to + 19 ≡ at + most → rest < 10 ^ suc most → 2 ≤ to
+    go zero place small = absurd (omega (arith, small, ten))
+    go (suc k) place small = omega (arith, place, m .free)
+
+-- two digits more
+pub spelt-two :
+    {n at rest to : ℕ} {old line : List ℕ} → Room 20 at old → Spelt n at old rest to line → 100 ≤ rest →
+    Spelt n at old (rest / 100) (to - 2) (set (set line (to - 1) (48 + rest % 100 % 10)) (to - 2) (48 + rest % 100 / 10))
+spelt-two {rest = rest} {to = to} m s hundred =
+    let two : rest % 100 ≡ rest / 10 % 10 * 10 + rest % 10 = mod-mul rest {m = 10} {c = 10} (omega arith) (omega arith) in
+    let last : rest % 10 ≡ rest % 100 % 10 = omega (arith, two) in
+    let first : rest / 10 % 10 ≡ rest % 100 / 10 = omega (arith, two) in
+    let left : rest / 10 / 10 ≡ rest / 100 = omega (arith, two) in
+    let place : to - 1 - 1 ≡ to - 2 = omega arith in
+    rw (last, first, left, place) at (spelt-more m (spelt-more m s (omega arith)) (omega arith))
+
+-- the first two digits
+pub spelt-both :
+    {n at rest to : ℕ} {old line : List ℕ} → Room 20 at old → Spelt n at old rest to line → 10 ≤ rest → rest < 100 →
+    Put (natural n) at old (to - 2) (set (set line (to - 1) (48 + rest % 10)) (to - 2) (48 + rest / 10))
+spelt-both {to = to} m s ten hundred =
+    let place : to - 1 - 1 ≡ to - 2 = omega arith in
+    rw place at (spelt-all m (spelt-more m s ten) (omega arith))
 
 -- what the longest numbers take, with the space before them
 pub natural-most : (n : ℕ) → length (after-space (natural n)) ≤ 21

@@ -46,21 +46,27 @@ pub fn put_word(word: &[u8], at: usize, line: &mut [u8]) -> usize
     put(word, at, line)
 }
 
-// A number's digits, the last one first.
+// A number's digits, the last two first: a division for two.
 fn put_digits(n: u64, at: usize, line: &mut [u8]) -> usize
     requires { ⌜ Room 20 at (now line) ⌝ }
     ensures { λ r. ⌜ Put (natural n) at (now (line .entry)) r (now (line .exit)) ⌝ }
 {
     let mut rest = n;
     let mut to = at;
-    while 10 <= rest {
-        to -= 1;
-        line[to] = (48 + rest % 10) as u8;
-        rest /= 10;
+    while 100 <= rest {
+        let two = rest % 100;
+        line[to - 1] = (48 + two % 10) as u8;
+        line[to - 2] = (48 + two / 10) as u8;
+        to -= 2;
+        rest /= 100;
     }
-    to -= 1;
-    line[to] = (48 + rest) as u8;
-    to
+    if rest < 10 {
+        line[to - 1] = (48 + rest) as u8;
+        return to - 1;
+    }
+    line[to - 1] = (48 + rest % 10) as u8;
+    line[to - 2] = (48 + rest / 10) as u8;
+    to - 2
 }
 
 // The same for the lines of other crates: where twenty digits have no room, nothing is put.

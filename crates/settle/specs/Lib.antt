@@ -1,0 +1,2 @@
+-- What the printing of a listing promises
+pub mod Printed
