@@ -48,7 +48,8 @@ fn read_book(
 //   bytes 769
 //   columns: performances, factors, payments, used, unused 4,104 each; the first holds the deviations of a group while the book is read
 // Beside these 63,493, while the book is read: groups 1,024, and five of a unit's readings 20 (`units`); while its listing is printed: a text of 1,200, and a
-// share's counters 512 (`share`) or a line that is put together 165 (`lister`). At most 65,205 at a time, within 65,536.
+// share's counters 512 (`share`) or a line that is put together 165 (`lister`). At most 65,205 are in use at a time; the compiler keeps both sets side by side,
+// 66,414 in all (docs/DECISIONS.md, 170).
 fn main() {
     let mut measures = [0i32; SERIES_LENGTH];
     let mut sums = [0i64; SUMS_LENGTH];
