@@ -241,7 +241,7 @@ static void wrong_tallies(void) {
     for (int i = 0; i < DULLAVANE_TALLY_WORDS; i++) {
         memcpy(of, tally, sizeof of);
         of[i] = UINT32_MAX;
-        if (i != 7) refused(of, all(ROOM), WRONG_STATE, "a word of the tally over its width or its limit");
+        if (i != 7) refused(of, all(ROOM), WRONG_STATE, "a word of the tally that is too large for its field or over its limit");
     }
 }
 
@@ -256,7 +256,7 @@ static void made_up_cursors(int count) {
                 start();
                 cursor[DULLAVANE_STAGE] = (uint64_t)stage;
                 cursor[word] = large == 0 ? over[word] : large == 1 ? UINT64_MAX : large == 2 ? (uint64_t)1 << 32 : over[word] + any(over[word]);
-                refused(tally, all(ROOM), WRONG_STATE, "a word of the cursor over its width");
+                refused(tally, all(ROOM), WRONG_STATE, "a word of the cursor that is too large for its field");
             }
         }
     }

@@ -32,6 +32,7 @@ pub mod report_read;
 pub mod report_text;
 pub mod panel;
 pub mod watch;
+pub mod web;
 
 pub mod invariants;
 pub mod rules;

@@ -102,7 +102,7 @@ fn in_full(statement: &str, abbreviations: &[(String, String)]) -> String {
 /// The book that a theorem of this name speaks of, as it is written there.
 fn term_of(name: &str) -> &str {
     match name {
-        "listing" => "( paper-book 7 )",
+        "listing" => "( paper_book 7 )",
         "ungrouped" => "( ungrouped groups )",
         _ => name,
     }
@@ -110,7 +110,7 @@ fn term_of(name: &str) -> &str {
 
 /// The listing, and that the statement is of the book.
 fn listing_of(name: &str, statement: &str) -> String {
-    let settled = format!("settle ( book-bytes {} ) ≡ ", term_of(name));
+    let settled = format!("settle ( book_bytes {} ) ≡ ", term_of(name));
     assert!(words(statement).join(" ").starts_with(&settled), "{name}");
     String::from_utf8(kept(name, "listing")).unwrap()
 }
@@ -138,7 +138,7 @@ fn listings_are_those_of_the_second_program() {
         let abbreviations = abbreviations(&text, "List ℕ");
         let mut lines = String::new();
         for (name, statement) in declarations(&text) {
-            let Some(book) = name.strip_suffix("-listing") else {
+            let Some(book) = name.strip_suffix("_listing") else {
                 lines += &quoted(&statement);
                 continue;
             };
@@ -158,16 +158,15 @@ fn listings_are_those_of_the_second_program() {
 #[test]
 fn lines_of_requirements_are_those_of_the_second_program() {
     for (module, book) in
-        [("GroupListing", "groups"), ("UngroupedListing", "ungrouped"), ("BadGroups", "bad-groups")]
+        [("GroupListing", "groups"), ("UngroupedListing", "ungrouped"), ("BadGroups", "bad_groups")]
     {
         let text = theorems("worked", module);
         let listing = String::from_utf8(kept(book, "listing")).unwrap();
         let wanted: Vec<(usize, String)> = by_requirement(&listing).into_iter().enumerate().collect();
         assert_eq!(lines_of_requirements(&text, &abbreviations(&text, "List ℕ")), wanted, "{module}");
-        let lines = format!(
-            "answer-lines ( answer {0} ( getD ( {0} .requirements ) i requirement ) )",
-            term_of(book)
-        );
+        let term = term_of(book);
+        let field = if term.ends_with(')') { " .requirements" } else { ".requirements" };
+        let lines = format!("answer_lines ( answer {term} ( get_or {term}{field} i requirement ) )");
         assert!(words(&text).join(" ").contains(&format!("lines i = {lines}")), "{module}");
     }
 }
@@ -176,15 +175,15 @@ fn lines_of_requirements_are_those_of_the_second_program() {
 #[test]
 fn listings_of_the_paper_are_those_of_the_second_program() {
     let paper = abbreviations(&theorems("paper", "PaperListing"), "List ℕ");
-    let listing = "text \"interval 7\\n\" ++ paper-lines";
+    let listing = "text \"interval 7\\n\" ++ paper_lines";
     let lines = quoted(&in_full(listing, &paper));
     let of = |module: &str| words(&theorems("paper", module)).join(" ");
-    for (module, name) in [("PaperListing", "listing"), ("GroupsOfOne", "groups-of-one")] {
-        let stated = format!("pub in-full : settle ( book-bytes {} ) ≡ {listing} ", term_of(name));
+    for (module, name) in [("PaperListing", "listing"), ("GroupsOfOne", "groups_of_one")] {
+        let stated = format!("pub in_full : settle ( book_bytes {} ) ≡ {listing} ", term_of(name));
         assert!(of(module).contains(&stated), "{module}");
         assert_eq!(lines.as_bytes(), kept(name, "listing"), "{module}");
     }
-    let same = "as-without : settle ( book-bytes groups-of-one ) ≡ settle ( book-bytes ( paper-book 7 ) ) ";
+    let same = "as_without : settle ( book_bytes groups_of_one ) ≡ settle ( book_bytes ( paper_book 7 ) ) ";
     assert!(of("GroupsOfOne").contains(same));
 }
 
@@ -210,7 +209,7 @@ fn sum_of(bytes: &[u8]) -> i128 {
 fn bytes_are_those_that_the_second_program_is_given() {
     let mut seen = 0;
     for (name, statement) in declarations(&theorems("worked", "BookBytes")) {
-        let Some(book) = name.strip_suffix("-bytes") else { continue };
+        let Some(book) = name.strip_suffix("_bytes") else { continue };
         let all = words(&statement);
         let says = all.iter().position(|word| word == "unfolding").expect("a theorem by computing");
         let bytes = kept(book, "book");
@@ -230,10 +229,10 @@ fn worked_book(name: &str) -> Book {
     worked.unwrap_or_else(|| panic!("no worked book {name}")).book
 }
 
-/// The numbers of a list such as `pos 3 ∷ negℤ (pos 4) ∷ []`, or of a plain one, at the end of a statement.
+/// The numbers of a list such as `pos 3 ∷ neg_ℤ (pos 4) ∷ []`, or of a plain one, at the end of a statement.
 fn list_at_the_end(statement: &str) -> Vec<i128> {
     let list = statement.rsplit("≡").next().expect("an equation").split("[]").next().expect("a list");
-    let of = |part: &str| match part.trim().strip_prefix("negℤ (pos ") {
+    let of = |part: &str| match part.trim().strip_prefix("neg_ℤ (pos ") {
         Some(digits) => -number(digits.trim_end_matches(')')),
         None => number(part.trim().trim_start_matches("pos ")),
     };
@@ -244,7 +243,7 @@ fn list_at_the_end(statement: &str) -> Vec<i128> {
 fn dropped_points_are_those_of_the_second_program() {
     let text = theorems("books", "DroppedPoints");
     let mut seen = 0;
-    for part in text.split("dropped-of ").skip(2).filter(|part| part.contains(" ≡ ")) {
+    for part in text.split("dropped_of ").skip(2).filter(|part| part.contains(" ≡ ")) {
         let (term, list) = part.split_once(" ≡ ").expect("an equation");
         let (name, region) = term.split_once(' ').expect("a book and a region");
         if name == "b" {
@@ -432,7 +431,7 @@ fn books_that_end_early_or_late_are_refused_so() {
     let text = theorems("refused", "Places");
     let all: Vec<_> = declarations(&text);
     let statement = |name: &str| words(&all.iter().find(|(found, _)| found == name).expect("a theorem").1);
-    let early = statement("ends-early");
+    let early = statement("ends_early");
     let at = early.iter().position(|word| word == "base").expect("the book");
     let (sizes, rest) = list(&early[at + 3..]);
     let expected = refusals(&rest[1..]);
@@ -440,7 +439,7 @@ fn books_that_end_early_or_late_are_refused_so() {
     for (size, expected) in sizes.into_iter().zip(expected) {
         assert_eq!(told(&changed(size as usize, &[])), expected, "{size}");
     }
-    let late = statement("bytes-follow");
+    let late = statement("bytes_follow");
     let same = late.iter().position(|word| word == "≡").expect("what it is");
     let mut bytes = kept("every_field", "book");
     bytes.push(0);
@@ -479,7 +478,7 @@ fn shares_are_refused_so() {
     let mut seen = 0;
     for at in 0..all.len() {
         let [call, total, open, rest @ ..] = &all[at..] else { continue };
-        if call != "share-reply" || open != "(" {
+        if call != "share_reply" || open != "(" {
             continue;
         }
         let end = rest.iter().position(|word| word == "[]").expect("the end of the weights");
@@ -543,7 +542,7 @@ fn pools_over_given_payments_are_so() {
     let mut seen = 0;
     for at in 0..all.len() {
         let [call, _direction, open, rest @ ..] = &all[at..] else { continue };
-        if call != "pool-over" || open != "(" {
+        if call != "pool_over" || open != "(" {
             continue;
         }
         let end = rest.iter().position(|word| word == "[]").expect("the end of the payments");
@@ -552,7 +551,7 @@ fn pools_over_given_payments_are_so() {
             .filter(|term| !term.is_empty())
             .map(|term| match term {
                 [pos, size] if pos == "pos" => number(size),
-                [minus, _, pos, size, _] if minus == "negℤ" && pos == "pos" => -number(size),
+                [minus, _, pos, size, _] if minus == "neg_ℤ" && pos == "pos" => -number(size),
                 _ => panic!("no payment: {term:?}"),
             })
             .collect();
@@ -570,9 +569,9 @@ fn third_numbers_are_refused_so() {
     for at in 0..all.len() {
         let [body, _count, _place, _least, rest @ ..] = &all[at..] else { continue };
         // The units before, of which there is none.
-        let rest = if body == "unit-body" && rest[0] == "[]" { &rest[1..] } else { rest };
+        let rest = if body == "unit_body" && rest[0] == "[]" { &rest[1..] } else { rest };
         let [_, of, rest @ ..] = rest else { continue };
-        if ![("unit-body", "units"), ("requirement-body", "requirements")]
+        if ![("unit_body", "units"), ("requirement_body", "requirements")]
             .contains(&(body.as_str(), of.as_str()))
         {
             continue;
@@ -580,7 +579,7 @@ fn third_numbers_are_refused_so() {
         let end = rest.iter().position(|word| word == "[]").expect("the end of the numbers");
         let numbers = rest[1..end].iter().filter(|word| *word != "∷").map(|word| number(word));
         let mut book = base_book();
-        if body == "unit-body" {
+        if body == "unit_body" {
             book.units = numbers.map(|number| base_unit(number, 0)).collect();
             book.requirements = vec![base_requirement(1, 1, Direction::Raise)];
         } else {
@@ -597,7 +596,7 @@ fn third_numbers_are_refused_so() {
 fn unit_of(all: &[String]) -> (Unit, &[String]) {
     let (defaults, rest) = match all {
         [of, rest @ ..] if of == "of" => ([0; 6], rest),
-        [with, open, rest @ ..] if with == "with-defaults" && open == "(" => (minus(rest), &rest[8..]),
+        [with, open, rest @ ..] if with == "with_defaults" && open == "(" => (minus(rest), &rest[8..]),
         _ => panic!("no unit: {:?}", all.first()),
     };
     let [number, region, group] = [0, 1, 2].map(|place| number(&rest[place]));
@@ -650,7 +649,7 @@ fn a_group_of_512_is_that_of_the_second_program() {
     let readings = [POWER_LIMIT; POINTS];
     let farthest = Unit { group: 7, start: -POWER_LIMIT, end: -POWER_LIMIT, readings, ..base_unit(0, 0) };
     let members = grouped(&[1; 512].map(|_| farthest.clone()));
-    let statement = figures("a-group-of-512");
+    let statement = figures("a_group_of_512");
     let (sizes, deviations) = statement.split_once('×').expect("two equations");
     assert_eq!(list_at_the_end(sizes), members.iter().map(|member| member.units as i128).collect::<Vec<_>>());
     assert_eq!(
@@ -661,7 +660,7 @@ fn a_group_of_512_is_that_of_the_second_program() {
 
 #[test]
 fn defaults_of_a_group_are_those_of_the_second_program() {
-    let all = words(&figures("primary-defaults"));
+    let all = words(&figures("primary_defaults"));
     let defaults: Vec<_> =
         (0..all.len()).filter(|&at| all[at] == "minus").map(|at| minus(&all[at..])).collect();
     let [first, second, told] = defaults[..] else { panic!("two units and what is told of them") };
@@ -728,10 +727,10 @@ fn told_by_the_writer(given: &Given) -> Told {
 fn put_in<'a>(given: &mut Given, all: &'a [String]) -> &'a [String] {
     const KINDS: [(&str, usize); 7] = [
         ("region", writer::REGION_ROW),
-        ("region-byte", writer::QUALITY_BYTES),
+        ("region_byte", writer::QUALITY_BYTES),
         ("frequency", POINTS),
         ("unit", writer::UNIT_ROW),
-        ("unit-byte", writer::QUALITY_BYTES),
+        ("unit_byte", writer::QUALITY_BYTES),
         ("reading", POINTS),
         ("requirement", writer::REQUIREMENT_ROW),
     ];

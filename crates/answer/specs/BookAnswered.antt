@@ -7,7 +7,7 @@ use Rattle.rules.specs.Book.{Requirement, covers, Book}
 use Rattle.rules.specs.RequirementRecord.{requirement_record}
 use Rattle.rules.specs.WholeBook.{book}
 use Rattle.rules.specs.Members.{unit, residual}
-use Rattle.rules.specs.Answer.{Line, answered, answer, Answer as Full}
+use Rattle.rules.specs.Answer.{Line, answer, Answer as Full}
 use Rattle.rules.specs.Report.{report_rows}
 use Rattle.interval.specs.declared.Tally.{Tally}
 use Rattle.interval.specs.Tally.{before_units}

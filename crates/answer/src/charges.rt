@@ -10,14 +10,14 @@ use book::RequirementFields;
 use share::Shared;
 
 // A pool, and what its share replied.
-#[derive(Drop)]
+#[derive(Clone, Copy)]
 pub(crate) struct Pooled {
     pub(crate) pool: u64,
     pub(crate) reply: Shared,
 }
 
 // What is charged of a requirement's cost.
-#[derive(Drop)]
+#[derive(Clone, Copy)]
 pub(crate) struct Charges {
     pub(crate) used: Pooled,
     pub(crate) unused: Pooled,

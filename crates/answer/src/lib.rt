@@ -2,6 +2,8 @@
 // be asked for again, in any order, once every unit is in; nothing but the five lent columns is written. Three doors: `call::answer`,
 // `roster::member`, which says who stands in a row, and `report::report`, which gives a row of the performance report (document 02, R-11). Each tests what is
 // lent to it, once; past it the functions ask for what was tested.
+#![tactic(auto)]
+
 use rules::{Direction, Refusal, ReportRow, Standing};
 
 pub mod call;
@@ -36,7 +38,7 @@ const LOWER_RELIABLE: usize = 3;
 const DEFAULTS: usize = 4;
 
 // Which number of a member a share goes by.
-#[derive(Drop)]
+#[derive(Clone, Copy)]
 pub(crate) enum Field {
     Payment,
     Used,
@@ -44,7 +46,7 @@ pub(crate) enum Field {
 }
 
 // A member: its standing, its performance or the default that stands in, for payment and for use, and its unused default.
-#[derive(Drop)]
+#[derive(Clone, Copy)]
 pub(crate) struct Member {
     pub(crate) standing: Standing,
     pub(crate) payment: i64,
@@ -53,7 +55,7 @@ pub(crate) struct Member {
 }
 
 // Who stands in a row: a member's number and standing; no member, as in a row that is passed over or of another region; or the refusal.
-#[derive(Drop)]
+#[derive(Clone, Copy)]
 pub enum Row {
     Unit(u16, Standing),
     Other,
@@ -61,21 +63,21 @@ pub enum Row {
 }
 
 // A row of the performance report, or the refusal.
-#[derive(Drop)]
+#[derive(Clone, Copy)]
 pub enum ReportFound {
     Found(ReportRow),
     Refused(Refusal),
 }
 
 // A pool that is charged, and how much of it is unplaced.
-#[derive(Drop)]
+#[derive(Clone, Copy)]
 pub struct Charge {
     pub pool: u64,
     pub unplaced: u64,
 }
 
 // A requirement's figures, with how many members it has and how its residual stands. The members' numbers are in the columns.
-#[derive(Drop)]
+#[derive(Clone, Copy)]
 pub struct Answer {
     pub number: u16,
     pub direction: Direction,
@@ -88,7 +90,7 @@ pub struct Answer {
     pub unused: Charge,
 }
 
-#[derive(Drop)]
+#[derive(Clone, Copy)]
 pub enum Answered {
     Given(Answer),
     Refused(Refusal),

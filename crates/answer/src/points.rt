@@ -15,7 +15,7 @@ use interval::{FIGURES_EACH, SUMS_EACH};
 use rules::Direction;
 
 // Over the set's regions, at one point: generation times FM, of dropped points too, and the sums of positive and of negative deviations.
-#[derive(Drop)]
+#[derive(Clone, Copy)]
 pub(crate) struct Sums {
     pub weighed: i64,
     pub positive: i64,

@@ -10,7 +10,7 @@ use super::units::few_bad;
 use rules::Direction;
 
 // RCR in 75ths of a cMW, and whether every region of the set is reliable in the direction.
-#[derive(Drop)]
+#[derive(Clone, Copy)]
 pub(crate) struct Found {
     pub(crate) rcr: u64,
     pub(crate) reliable: bool,

@@ -23,7 +23,7 @@ use interval::{FIGURES_LENGTH, PASSED_OVER, ROW_EACH, Tally};
 use rules::{Direction, Figure, FigureType, Refusal, RegionName, ReportRow, Reported, Standing};
 
 // Whose a row of the report is: that of a row of the roster, of a region, or nobody's, past the last.
-#[derive(Drop)]
+#[derive(Clone, Copy)]
 enum Place {
     Member(usize),
     Residual(usize),
@@ -68,7 +68,7 @@ fn region_place(past: u32) -> Place
 const TOGETHER: usize = 64;
 
 // Rows that are before the one that is asked for, and how many members stand in them.
-#[derive(Drop)]
+#[derive(Clone, Copy)]
 struct Before {
     at: usize,
     members: u32,

@@ -12,7 +12,7 @@ use interval::{FIGURES_EACH, ROW_EACH};
 use rules::{Direction, Reason, Standing};
 
 // What the rows of a region hold: how many they are, how many of them good, and the performances of the good ones together.
-#[derive(Drop)]
+#[derive(Clone, Copy)]
 struct Held {
     units: u32,
     good: u32,

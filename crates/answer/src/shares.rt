@@ -56,14 +56,14 @@ pub(crate) fn charge_members(
 }
 
 // What is paid: the pool, and how many share in it.
-#[derive(Drop)]
+#[derive(Clone, Copy)]
 pub(crate) struct Paid {
     pub(crate) members: u16,
     pub(crate) pool: u64,
 }
 
 // The same, or the share's refusal.
-#[derive(Drop)]
+#[derive(Clone, Copy)]
 pub(crate) enum Paying {
     Made(Paid),
     Refused(Refusal),

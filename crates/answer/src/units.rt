@@ -8,7 +8,7 @@ use super::counts::counted;
 use super::homes::{in_set, is_good};
 
 // How many members of the set's regions there are, and how many of them are bad.
-#[derive(Drop)]
+#[derive(Clone, Copy)]
 pub(crate) struct Units {
     pub all: u32,
     pub bad: u32,

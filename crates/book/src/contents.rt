@@ -9,7 +9,7 @@ use rules::Refusal;
 // Bytes 46 43 46 31.
 pub const MARK: u32 = 0x3146_4346;
 
-#[derive(Drop)]
+#[derive(Clone, Copy)]
 enum Checked {
     Fine,
     Wrong(Refusal),

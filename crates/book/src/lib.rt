@@ -1,5 +1,7 @@
 // book: records from bytes, or a numbered refusal (document 01, The book). One reader a record: it is handed the part of the
 // book that starts at its record, relies on no test of its caller's, and on a refusal writes nothing.
+#![tactic(auto)]
+
 use rules::{Direction, Kind, Refusal};
 
 pub mod contents;
@@ -42,19 +44,19 @@ pub const DEFAULTS: usize = 6;
 pub const SET: usize = 2;
 
 // What the table of contents leaves open.
-#[derive(Drop)]
+#[derive(Clone, Copy)]
 pub struct Counts {
     pub units: u16,
     pub requirements: u16,
 }
 
-#[derive(Drop)]
+#[derive(Clone, Copy)]
 pub enum ContentsRead {
     Taken(Counts),
     Refused(Refusal),
 }
 
-#[derive(Drop)]
+#[derive(Clone, Copy)]
 pub struct SettingsFields {
     pub smoothing: u16,
     pub limit: u8,
@@ -62,14 +64,14 @@ pub struct SettingsFields {
     pub interval: u32,
 }
 
-#[derive(Drop)]
+#[derive(Clone, Copy)]
 pub enum SettingsRead {
     Taken(SettingsFields),
     Refused(Refusal),
 }
 
 // The three defaults of one direction.
-#[derive(Drop)]
+#[derive(Clone, Copy)]
 pub struct Three {
     pub payment: i64,
     pub used: i64,
@@ -77,7 +79,7 @@ pub struct Three {
 }
 
 // A frequency record without its points, which are read where they stand.
-#[derive(Drop)]
+#[derive(Clone, Copy)]
 pub struct FrequencyFields {
     pub separation: bool,
     pub before: i32,
@@ -86,14 +88,14 @@ pub struct FrequencyFields {
     pub lower: Three,
 }
 
-#[derive(Drop)]
+#[derive(Clone, Copy)]
 pub enum FrequencyRead {
     Taken(FrequencyFields),
     Refused(Refusal),
 }
 
 // A unit record without its readings; `good` says that none of them is bad.
-#[derive(Drop)]
+#[derive(Clone, Copy)]
 pub struct UnitFields {
     pub number: u16,
     pub region: u8,
@@ -106,13 +108,13 @@ pub struct UnitFields {
     pub good: bool,
 }
 
-#[derive(Drop)]
+#[derive(Clone, Copy)]
 pub enum UnitRead {
     Taken(UnitFields),
     Refused(Refusal),
 }
 
-#[derive(Drop)]
+#[derive(Clone, Copy)]
 pub struct RequirementFields {
     pub number: u16,
     pub set: u8,
@@ -123,7 +125,7 @@ pub struct RequirementFields {
     pub used: u32,
 }
 
-#[derive(Drop)]
+#[derive(Clone, Copy)]
 pub enum RequirementRead {
     Taken(RequirementFields),
     Refused(Refusal),

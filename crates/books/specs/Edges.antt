@@ -1,5 +1,5 @@
 -- Both sides of each edge (01): the cases marked (P), together in one table, proved by one theorem.
-use Rattle.std.specs.Prelude.{◌≡◌, refl, Bool, true, false, cond, not, List, [], ◌∷◌, ℕ, suc, ◌-◌, eqb, leb, ℤ, pos, negsuc, neg_ℤ, length}
+use Rattle.std.specs.Prelude.{◌≡◌, refl, true, false, cond, not, List, [], ◌∷◌, ℕ, ◌-◌, eqb, leb, pos, neg_ℤ, length}
 use Rattle.rules.specs.declared.Direction.TheVariants.{Raise}
 use Rattle.rules.specs.declared.Kind.{Kind}
 use Rattle.rules.specs.declared.Kind.TheVariants.{Generation, Load}

@@ -1,6 +1,6 @@
 -- Worked books with plants that are dispatched as a group (02, R-5). In most of their regions few points are good, so that they are computed in little time.
 -- Their figures (`worked`) were worked out from the text of documents 01 and 02 alone.
-use Rattle.std.specs.Prelude.{true, cond, List, [], ◌∷◌, map, ℕ, ◌+◌, ◌*◌, leb, ℤ, pos, neg_ℤ}
+use Rattle.std.specs.Prelude.{true, cond, [], ◌∷◌, map, ℕ, ◌+◌, ◌*◌, leb, pos, neg_ℤ}
 use Rattle.rules.specs.declared.Direction.TheVariants.{Raise, Lower}
 use Rattle.rules.specs.declared.Kind.TheVariants.{Generation, Load}
 use Rattle.rules.specs.Book.{Unit, Book}

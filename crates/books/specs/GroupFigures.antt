@@ -1,5 +1,5 @@
 -- Groups that no worked book from bytes has (02, R-5), straight from their units: one of 512, and one whose second unit holds defaults, which 16 refuses.
-use Rattle.std.specs.Prelude.{◌≡◌, refl, true, List, [], ◌∷◌, map, ℕ, ℤ, pos, neg_ℤ}
+use Rattle.std.specs.Prelude.{◌≡◌, refl, true, List, [], ◌∷◌, map, ℕ, pos, neg_ℤ}
 use Rattle.rules.specs.declared.Kind.TheVariants.{Generation, Load}
 use Rattle.rules.specs.Bytes.{listed}
 use Rattle.rules.specs.Book.{Unit}

@@ -2,7 +2,7 @@
 use mathlib.Core.Path.{◌≡◌, refl, sym, ◌∙◌, ap}
 use mathlib.Core.Bool.{Bool, true, false, cond, ◌&&◌, ◌||◌, false≢true}
 use mathlib.Core.List.{List, [], ◌∷◌}
-use Prim.Native.Nat.{ℕ, zero, suc, ◌+◌, ◌*◌, ◌-◌, ◌/◌, ◌%◌, ◌≤◌, ◌<◌}
+use Prim.Native.Nat.{ℕ, zero, suc, ◌+◌, ◌*◌, ◌-◌, ◌%◌, ◌≤◌, ◌<◌}
 use native.Mathlib.Nat.{add-zero, mul-le-mul_left}
 use native.Mathlib.Omega.{arith}
 use lib.Dec.{eqb, leb, ltb}
@@ -21,7 +21,7 @@ use Rattle.laws.proofs.BytesLaws.{number_below}
 use Rattle.rules.specs.declared.Refusal.TheVariants.{WrongGroup}
 use Rattle.rules.specs.Refusals.{Reply, taken, refused, unless, ◌>>=◌}
 use Rattle.rules.specs.Book.{Settings, Unit}
-use Rattle.rules.specs.SettingsRecord.{settings}
+use Rattle.rules.specs.SettingsRecord.{settings_fine, settings}
 use Rattle.rules.specs.FrequencyRecord.{frequency_record}
 use Rattle.rules.specs.UnitRecord.{unit_record}
 use Rattle.rules.specs.RequirementRecord.{requirement_record}
@@ -261,7 +261,7 @@ module _ {head : List ℕ} {part : ℕ → List ℕ} {l₀ : Lent} {n : ℕ} {t 
     settings_stay zero e = rw (eq-eqb t.records 0 (w.records ∙ sym e))
     settings_stay (suc m) e =
         let fine = (settings_is (part 0) (the_settings part) ((w.taken_each 0 (omega arith)).as_settings refl)).1 in
-        rw (w.kept (omega arith), fine) (or_true (eqb t.records 0))
+        ap (λ (b : Bool). eqb t.records 0 || b) (ap settings_fine (w.kept (omega arith)) ∙ fine) ∙ or_true (eqb t.records 0)
 
     pub chain_in_range : in_range t ≡ true
     unfolding in_range

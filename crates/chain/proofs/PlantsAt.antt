@@ -2,13 +2,12 @@
 -- the last of their plant; a total over them goes from each plant's value before a unit to its value with it.
 use mathlib.Core.Path.{◌≡◌, refl, sym, ◌∙◌, ap, ap₂}
 use mathlib.Core.Bool.{Bool, true, false, cond, not, ◌&&◌}
-use mathlib.Core.List.{List, [], ◌∷◌, map}
-use Prim.Native.Nat.{ℕ, zero, suc, ◌+◌, ◌*◌, ◌≤◌, ◌<◌}
+use mathlib.Core.List.{List, ◌∷◌, map}
+use Prim.Native.Nat.{ℕ, zero, suc, ◌+◌, ◌≤◌, ◌<◌}
 use native.Mathlib.Decide.{dec_lt}
 use native.Mathlib.Omega.{arith}
 use lib.Dec.{eqb, ltb}
 use lib.IntN.{ℤ, pos, ◌+ℤ◌, ◌-ℤ◌}
-use lib.ListN.{length}
 use borrow.Author.Tests.{lt-ltb, le-ltb, eqb-true}
 use Rattle.integers.proofs.Pairs.{ring, v, ◌⊕◌, ◌⊖◌}
 use Rattle.integers.specs.Sums.{sum, when, both}
@@ -16,7 +15,7 @@ use Rattle.integers.proofs.Sums.{sum_ext, sum_minus, sum_front}
 use Rattle.integers.specs.Totals.{total, those}
 use Rattle.integers.proofs.Totals.{total_map, total_those}
 use Rattle.rules.specs.Bytes.{listed}
-use Rattle.rules.specs.Book.{Unit, ByDirection, Defaults}
+use Rattle.rules.specs.Book.{Unit}
 use Rattle.rules.specs.Groups.{same_group}
 use Rattle.rules.specs.Deviation.{deviation, good}
 use Rattle.rules.specs.Plants.{Plant, alone, with_unit, behind, plants_from, plants}

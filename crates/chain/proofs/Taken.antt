@@ -1,15 +1,12 @@
 -- What a record or a call that was taken went through: the record is the one in its bytes, and every test of the call held.
-use mathlib.Core.Path.{◌≡◌, refl, ◌∙◌, ap, subst}
+use mathlib.Core.Path.{◌≡◌, ◌∙◌, subst}
 use mathlib.Core.Bool.{Bool, true, not, ◌&&◌, ◌||◌}
 use mathlib.Core.List.{List}
 use Prim.Native.Nat.{ℕ, ◌+◌, ◌*◌, ◌≤◌, ◌<◌}
-use native.Mathlib.Omega.{arith}
 use lib.Dec.{eqb, leb, ltb}
 use lib.ListN.{length}
 use borrow.Author.Tests.{leb-true, ltb-true, eqb-true}
 use Rattle.integers.specs.Sums.{both}
-use Rattle.rules.specs.declared.Refusal.{Refusal}
-use Rattle.rules.specs.declared.Located.{Located}
 use Rattle.rules.specs.declared.Refusal.TheVariants.{
   EndsEarly,
   WrongMark,
@@ -34,7 +31,7 @@ use Rattle.rules.specs.Quantities.{
   residual_default_limit,
 }
 use Rattle.rules.specs.Bytes.{number_at}
-use Rattle.rules.specs.Refusals.{Reply, taken, refused, located, at, ◌>>=◌}
+use Rattle.rules.specs.Refusals.{Reply, taken, ◌>>=◌}
 use Rattle.rules.specs.Groups.{group_fine, in_its_group}
 use Rattle.rules.specs.Book.{Settings, Region, Unit, Requirement}
 use Rattle.rules.specs.Contents.{Counts, contents, contents_size, mark, entry, items, settings_size, frequency_size, unit_size, requirement_size}
@@ -45,11 +42,9 @@ use Rattle.rules.specs.UnitRecord.{unit_in, readings_fine, unit_record}
 use Rattle.rules.specs.RequirementRecord.{requirement_in, requirement_fine, requirement_record}
 use Rattle.laws.proofs.LimitsLaws.{passed, took, went_on}
 use Rattle.interval.specs.declared.Tally.{Tally}
-use Rattle.interval.specs.declared.Taking as k
-use Rattle.interval.specs.declared.Step.{Step}
-use Rattle.interval.specs.Tally.{next_place, in_range, settings_turn, frequency_turn, unit_turn, requirement_turn, units_taken, before_units, units_end, book_end}
+use Rattle.interval.specs.Tally.{in_range, settings_turn, frequency_turn, unit_turn, requirement_turn, units_taken, before_units, units_end, book_end}
 use Rattle.interval.specs.Lent.{Lent, regions_long, of_interval, named_region, named_group, series_in_range, plant_in_range, group_fits}
-use Rattle.interval.specs.Calls.{left, stepped, settings_reply, frequency_reply, unit_long, in_lent_group, unit_reply, requirement_reply}
+use Rattle.interval.specs.Calls.{settings_reply, frequency_reply, unit_long, in_lent_group, unit_reply, requirement_reply}
 use Rattle.chain.proofs.Long.{passes_regions, passes_long}
 use Rattle.chain.specs.Taken.{CountsFit, FrequencyTaken, UnitTaken, counts_in}
 

@@ -13,7 +13,6 @@ use Rattle.rules.specs.declared.Located.{Located}
 use Rattle.rules.specs.Refusals.{Reply, located}
 use Rattle.rules.specs.Contents.{Counts, contents_size, requirement_size}
 use Rattle.interval.specs.declared.Tally.{Tally}
-use Rattle.interval.specs.declared.Opened as o
 use Rattle.interval.specs.declared.Taking.{Taking}
 use Rattle.interval.specs.declared.Step.{Step}
 use Rattle.interval.specs.Tally.{next_place, before_units, book_end}

@@ -95,13 +95,13 @@ module _ (turn : Turn) {t : Tally} {p : List ℕ} {l : Lent} {r : Step} {l' : Le
       go : (x : Taking) → r.taking ≡ x → Outcome t l r l'
       go k.TheVariants.Taken h = takes h
       go (k.TheVariants.Refused why) h =
-          let same = refused_leaves (due_call (is_due turn) c) h in
-          let named = refused_names (due_call (is_due turn) c) h in
+          let same = refused_leaves {c = two_records} (due_call (is_due turn) c) h in
+          let named = refused_names {c = two_records} (due_call (is_due turn) c) h in
           refuses named.0 (same.0 ∙ ap (stopped_step t) (sym named.1)) same.1
 
   one_of : OneAnswer turn t p l
   one_of =
-      record { reply = r; lists = l'; promised = c; only = λ d. call_only (due_call (is_due turn) d) (due_call (is_due turn) c); outcome = outcome_of }
+      record { reply = r; lists = l'; promised = c; only = λ d. call_only {c = two_records} (due_call (is_due turn) d) (due_call (is_due turn) c); outcome = outcome_of }
 
 pub every_call : (turn : Turn) (t : Tally) (p : List ℕ) (l : Lent) → OneAnswer turn t p l
 every_call of_settings t p l =

@@ -17,5 +17,6 @@ pub mod WordsBook
 pub mod WordsCalls
 pub mod WordsRuns
 pub mod WordsLaws
+pub mod Tallied
 pub mod WordsTheorem
 pub mod Settled

@@ -39,6 +39,7 @@ use Rattle.demands.specs.WordsChain.{Turn, WordsCall, WordsChain, begun, took, t
 use Rattle.dullavane.proofs.WordsLaws.{said_some}
 use Rattle.demands.proofs.WordsLaws.{told_taken, words_hold}
 use Rattle.demands.specs.WordsCalls.{StepCall, settings_step, frequency_step, unit_step, requirement_step}
+use Rattle.demands.proofs.Tallied.{Tallied}
 use Rattle.demands.proofs.WordsRuns.{run_steps}
 use Rattle.demands.proofs.WordsCalls.{refused_call, call_steps, step_calls, refused_stays}
 
@@ -98,17 +99,7 @@ contents_kept {p} {ws} {ws'} {r} c h = go (contents_reply p ws) c.reply c.tally
     go (taken c) e f = absurd (omega arith)
     go (refused why) e f = f
 
--- ---- THE THEOREM: the tally that a chain of C calls has come to, by a chain of the calls below
-module _ (head : List ℕ) (part : ℕ → List ℕ) (l₀ : Lent) (ws₀ : List ℕ) where
-  pub record Tallied (n : ℕ) (ws : List ℕ) (l : Lent) : Type 0 where
-    pub tally : Tally
-    pub chain : Chain head part l₀ n tally l
-    -- its words are the tally's, and those past the eighth are as they were lent
-    pub words : ws ≡ with_words tally ws₀
-    -- so no call finds it out of its words' widths
-    pub held : held ws ≡ taken tally
-    pub long : tally_words ≤ length ws₀
-
+-- ---- THE THEOREM: the tally that a chain of C calls has come to, by a chain of the calls below (Tallied)
 module _ {head : List ℕ} {part : ℕ → List ℕ} {l₀ : Lent} where
   one_more :
       {n : ℕ} {t : Tally} {l l' : Lent} {s : Step} {turn : Turn} →

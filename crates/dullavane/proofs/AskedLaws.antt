@@ -15,7 +15,6 @@ use Rattle.rules.specs.Refusals.{Reply, taken, refused, unless, ◌>>=◌}
 use Rattle.interval.specs.declared.Tally.{Tally}
 use Rattle.interval.specs.Tally.{in_range, answer_turn}
 use Rattle.interval.specs.Lent.{Lent}
-use Rattle.answer.specs.declared.Row.TheVariants as w
 use Rattle.answer.proofs.RosterLaws.{member_only}
 use Rattle.dullavane.specs.Words.{held, reply_number, Held}
 use Rattle.dullavane.proofs.WordsLaws.{held_means}

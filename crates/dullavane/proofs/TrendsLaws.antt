@@ -2,7 +2,7 @@
 use mathlib.Core.Path.{◌≡◌, refl, sym, ◌∙◌, ap}
 use mathlib.Core.Bool.{Bool, true, false, ◌&&◌}
 use mathlib.Core.List.{List, [], ◌∷◌}
-use Prim.Native.Nat.{ℕ, ◌≤◌, ◌<◌}
+use Prim.Native.Nat.{ℕ, ◌≤◌}
 use native.Mathlib.Omega.{arith}
 use lib.Dec.{leb}
 use lib.Ieee.{Float}
@@ -10,11 +10,8 @@ use lib.ListN.{length, set, drop}
 use borrow.Author.Tests.{leb-true}
 use Rattle.integers.specs.Sums.{both}
 use Rattle.rules.specs.declared.Trend.{Trend}
-use Rattle.rules.specs.Refusals.{Reply}
-use Rattle.rules.specs.Book.{Unit}
-use Rattle.rules.specs.Strip.{strip_reply, trend_of, points_after}
 use Rattle.strip.specs.Promise.{TrendPromise}
-use Rattle.dullavane.specs.Trends.{strip_numbers, drawn_numbers, trend_answer, trend_told, strip_after, drawn_after, TrendCalled}
+use Rattle.dullavane.specs.Trends.{strip_numbers, drawn_numbers, trend_told, strip_after, drawn_after, TrendCalled}
 
 pub dullavane_trend_only : {part : List ℕ} {xs ss : List Float} {ns : List ℕ} {r r₂ : ℕ} {xs' xs₂ ss' ss₂ : List Float} {ns' ns₂ : List ℕ} →
     TrendCalled part xs ss ns r xs' ss' ns' → TrendCalled part xs ss ns r₂ xs₂ ss₂ ns₂ → (r ≡ r₂) × (xs' ≡ xs₂) × (ss' ≡ ss₂) × (ns' ≡ ns₂)

@@ -19,9 +19,7 @@ use Rattle.rules.specs.RunningWeek.{add_reply, read_reply}
 use Rattle.rules.specs.WeekRoster.{whose_of}
 use Rattle.interval.specs.Calls.{left}
 use Rattle.weeks.specs.declared.Added.{Added}
-use Rattle.weeks.specs.declared.Added.TheVariants as added
 use Rattle.weeks.specs.declared.Told.{Told}
-use Rattle.weeks.specs.declared.Told.TheVariants as told
 use Rattle.weeks.specs.declared.Written.{Written}
 use Rattle.weeks.specs.declared.Written.TheVariants as written
 use Rattle.weeks.specs.Runs.{units_of}

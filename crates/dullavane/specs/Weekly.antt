@@ -12,7 +12,6 @@ use Rattle.weeks.specs.declared.Added.{Added}
 use Rattle.weeks.specs.declared.Added.TheVariants as added
 use Rattle.weeks.specs.declared.Told.{Told}
 use Rattle.weeks.specs.declared.Told.TheVariants as told
-use Rattle.weeks.specs.declared.Written.TheVariants as written
 use Rattle.weeks.specs.Promises.{where_taken, reply_to}
 use Rattle.dullavane.specs.Words.{reply_number}
 

@@ -1,5 +1,7 @@
 // dullavane: the calls as the firmware makes them from C. Only numbers and lists cross over; the tally stands in eight lent words. A call answers 0, or the
 // refusal, the calls that take a book with its place and t, and then nothing lent has changed but by the records that a run added before it.
+#![tactic(auto)]
+
 ghost use Rattle.interval.specs.Lent.{Lent, lent_frequency, lent_unit, lent_answer, lent_member};
 ghost use Rattle.answer.specs.Promises.{columns};
 ghost use Rattle.dullavane.specs.Answers.{AnswerCalled};
@@ -62,8 +64,7 @@ const ROW_NUMBERS: usize = 8;
 const REPLY_WORDS: usize = 8;
 
 // Starts a tally. Refuses 12 for fewer than eight words, then 1, 2, 3 and 5.
-#[unsafe(no_mangle)]
-pub extern "C" fn dullavane_contents(part: &[u8], tally: &mut [u32]) -> u64
+pub fn dullavane_contents(part: &[u8], tally: &mut [u32]) -> u64
     ensures { ContentsCalled part.now tally.old result tally.new }
 {
     if tally.len() < TALLY_WORDS {
@@ -80,8 +81,7 @@ pub extern "C" fn dullavane_contents(part: &[u8], tally: &mut [u32]) -> u64
 }
 
 // Takes the settings. Refuses 12 for the tally's words, 11, then 1 and 6.
-#[unsafe(no_mangle)]
-pub extern "C" fn dullavane_settings(tally: &mut [u32], part: &[u8]) -> u64
+pub fn dullavane_settings(tally: &mut [u32], part: &[u8]) -> u64
     ensures { SettingsCalled tally.old part.now result tally.new }
 {
     let refusal = words_refusal(tally);
@@ -92,8 +92,7 @@ pub extern "C" fn dullavane_settings(tally: &mut [u32], part: &[u8]) -> u64
 }
 
 // Takes the frequency record of the next region. Refuses 12 for the tally's words, 11, 12, then 1 and 71 to 74.
-#[unsafe(no_mangle)]
-pub extern "C" fn dullavane_frequency(
+pub fn dullavane_frequency(
     tally: &mut [u32],
     part: &[u8],
     measures: &mut [i32],
@@ -113,8 +112,7 @@ pub extern "C" fn dullavane_frequency(
 }
 
 // Takes a unit. Refuses 12 for the tally's words, 11, 12, 11 for lent numbers, then 1, 81 to 84 and 9.
-#[unsafe(no_mangle)]
-pub extern "C" fn dullavane_unit(
+pub fn dullavane_unit(
     tally: &mut [u32],
     part: &[u8],
     measures: &[i32],
@@ -154,8 +152,7 @@ pub extern "C" fn dullavane_unit(
 
 // Takes a run of units up to the first refused one, which is named by its place in the run; the records before it stay added. Refuses 1 for a run that is not
 // whole, before anything else, then record by record what the unit call refuses. An empty run changes nothing.
-#[unsafe(no_mangle)]
-pub extern "C" fn dullavane_units(
+pub fn dullavane_units(
     tally: &mut [u32],
     records: &[u8],
     measures: &[i32],
@@ -194,8 +191,7 @@ pub extern "C" fn dullavane_units(
 }
 
 // Takes a requirement. Refuses 12 for the tally's words, 11, then 1 and 10, then, with the last one, 4.
-#[unsafe(no_mangle)]
-pub extern "C" fn dullavane_requirement(tally: &mut [u32], part: &[u8]) -> u64
+pub fn dullavane_requirement(tally: &mut [u32], part: &[u8]) -> u64
     ensures { RequirementCalled tally.old part.now result tally.new }
 {
     let refusal = words_refusal(tally);
@@ -207,8 +203,7 @@ pub extern "C" fn dullavane_requirement(tally: &mut [u32], part: &[u8]) -> u64
 
 // Answers a requirement: its members' numbers in the columns, its figures in eight words. Refuses 12 for the tally's words, 11 before the last unit,
 // 12, 11 for lent numbers, then 1 and 10.
-#[unsafe(no_mangle)]
-pub extern "C" fn dullavane_answer(
+pub fn dullavane_answer(
     tally: &[u32],
     part: &[u8],
     measures: &[i32],
@@ -253,8 +248,7 @@ pub extern "C" fn dullavane_answer(
 
 // Who stands in a row, for a requirement of this direction and region set: three words. Refuses 12 for the tally's words, 11 out of turn or
 // for a number over its width, 12 for the three words, then as `member` does: 11 for row and set, 12 for lists, 11 for lent numbers.
-#[unsafe(no_mangle)]
-pub extern "C" fn dullavane_member(
+pub fn dullavane_member(
     tally: &[u32],
     row: u32,
     direction: u32,
@@ -281,13 +275,7 @@ pub extern "C" fn dullavane_member(
 }
 
 // Count and default of a member's week, in two numbers. Refuses 12, 5 for who the member is, 17, then 14.
-#[unsafe(no_mangle)]
-pub extern "C" fn dullavane_week(
-    whose: u16,
-    performances: &[i64],
-    live: &[u8],
-    reply: &mut [i64],
-) -> u32
+pub fn dullavane_week(whose: u16, performances: &[i64], live: &[u8], reply: &mut [i64]) -> u32
     ensures { WeekCalled whose performances.now live.now reply.old result reply.new }
 {
     if reply.len() < DEFAULT_NUMBERS {
@@ -297,8 +285,7 @@ pub extern "C" fn dullavane_week(
 }
 
 // The same for a whole roster, the members' weeks one after another. Refuses 12, then for all members 5, 17 and 14.
-#[unsafe(no_mangle)]
-pub extern "C" fn dullavane_weeks(
+pub fn dullavane_weeks(
     intervals: u32,
     whose: &[u16],
     performances: &[i64],
@@ -317,13 +304,7 @@ pub extern "C" fn dullavane_weeks(
 }
 
 // Adds an interval to a running week, live unless the flag is 0. Refuses 12 for the week's words, 11, 5, then 17.
-#[unsafe(no_mangle)]
-pub extern "C" fn dullavane_week_add(
-    whose: u16,
-    live: u8,
-    performance: i64,
-    week: &mut [u64],
-) -> u32
+pub fn dullavane_week_add(whose: u16, live: u8, performance: i64, week: &mut [u64]) -> u32
     ensures { WeekAddCalled whose live performance week.old result week.new }
 {
     let refusal = week_unheld(week);
@@ -335,8 +316,7 @@ pub extern "C" fn dullavane_week_add(
 }
 
 // Reads count and default off a running week. Refuses 12 for either list, 11, 5, then 14.
-#[unsafe(no_mangle)]
-pub extern "C" fn dullavane_week_read(whose: u16, week: &[u64], reply: &mut [i64]) -> u32
+pub fn dullavane_week_read(whose: u16, week: &[u64], reply: &mut [i64]) -> u32
     ensures { WeekReadCalled whose week.now reply.old result reply.new }
 {
     if reply.len() < DEFAULT_NUMBERS {
@@ -351,8 +331,7 @@ pub extern "C" fn dullavane_week_read(whose: u16, week: &[u64], reply: &mut [i64
 
 // Is a factor sheet possible? What is wrong and the member, from 1, in two words. Refuses 12 for fewer than two words, then 5 for more than 513 factors, 12
 // where factors and performances differ in number, and 5 where a side's absolute total passes the limit of W.
-#[unsafe(no_mangle)]
-pub extern "C" fn dullavane_sheet(performances: &[i64], factors: &[i64], verdict: &mut [u64]) -> u32
+pub fn dullavane_sheet(performances: &[i64], factors: &[i64], verdict: &mut [u64]) -> u32
     ensures { SheetCalled performances.now factors.now verdict.old result verdict.new }
 {
     if verdict.len() < VERDICT_WORDS {
@@ -364,8 +343,7 @@ pub extern "C" fn dullavane_sheet(performances: &[i64], factors: &[i64], verdict
 // Writes a book from its values: settings by value, a row of numbers a record and the long fields in lists of their own type. Its length, or the refusal with
 // place
 // and t. Refuses 12 by the counts as given, 5, then what the reader would refuse, in the order of the book.
-#[unsafe(no_mangle)]
-pub extern "C" fn dullavane_write(
+pub fn dullavane_write(
     smoothing: i64,
     limit: i64,
     percent: i64,
@@ -409,13 +387,7 @@ pub extern "C" fn dullavane_write(
 
 // Draws the trend strip of the unit whose record `part` starts with: 75 points in MW, lowest, highest and last, and how many points are drawn, 75 or 0 for a
 // bad unit. The refusal with its t; place 0. Refuses 12 for each of the three lists, then 1, 81, 82, 83 and 84.
-#[unsafe(no_mangle)]
-pub extern "C" fn dullavane_trend(
-    part: &[u8],
-    points: &mut [f32],
-    strip: &mut [f32],
-    drawn: &mut [u32],
-) -> u64
+pub fn dullavane_trend(part: &[u8], points: &mut [f32], strip: &mut [f32], drawn: &mut [u32]) -> u64
     ensures { TrendCalled part.now points.old strip.old drawn.old result
         points.new strip.new drawn.new }
 {
@@ -426,8 +398,7 @@ pub extern "C" fn dullavane_trend(
 }
 
 // Writes a row of the performance report from its numbers: its length, or the refusal. Refuses 11 for a number over its field, 15, then 12 for the text.
-#[unsafe(no_mangle)]
-pub extern "C" fn dullavane_report_row(
+pub fn dullavane_report_row(
     interval: u32,
     residual: u32,
     number: u32,
@@ -462,8 +433,7 @@ pub extern "C" fn dullavane_report_row(
 
 // Writes a row of a taken book's report, 0 the first: the members in roster order, then the five regions' residuals. Refuses 12 for the tally's words, 11 out
 // of turn or for a version over 16 bits, then as `report` does: 12 for lists, 11 for lent numbers and a row past the last; then 15, and 12 for the text.
-#[unsafe(no_mangle)]
-pub extern "C" fn dullavane_report(
+pub fn dullavane_report(
     tally: &[u32],
     row: u32,
     version: u32,
@@ -496,8 +466,7 @@ pub extern "C" fn dullavane_report(
 }
 
 // Reads a row of the report back into eight numbers. Refuses 12 for fewer, then 18 with the first wrong column as t.
-#[unsafe(no_mangle)]
-pub extern "C" fn dullavane_report_read(row: &[u8], numbers: &mut [i64]) -> u64
+pub fn dullavane_report_read(row: &[u8], numbers: &mut [i64]) -> u64
     ensures { ReadCalled row.now numbers.old result numbers.new }
 {
     if ROW_NUMBERS <= numbers.len() {

@@ -15,7 +15,7 @@ use Rattle.rules.specs.Book.{Book}
 use Rattle.rules.specs.Listing.{listing}
 use Rattle.laws.proofs.RefusalLaws.{refusal_numbered}
 use Rattle.interval.specs.declared.Tally.{Tally}
-use Rattle.interval.specs.Tally.{answer_turn, units_end}
+use Rattle.interval.specs.Tally.{units_end}
 use Rattle.interval.specs.Lent.{Lent}
 use Rattle.answer.specs.Promises.{Columns, columns_long}
 use Rattle.lister.specs.declared.Cursor.{Cursor}
@@ -24,8 +24,8 @@ use Rattle.lister.specs.declared.Listed.{Listed}
 use Rattle.lister.specs.declared.Listed.TheVariants.{Written, Nothing, Refused}
 use Rattle.lister.specs.Promises.{ListPromise}
 use Rattle.lister.specs.BookListed as one
-use Rattle.lister.proofs.Promises.{refused_writes_nothing, nothing_writes_nothing}
-use Rattle.lister.proofs.BookListed.{book_listed, listed_whole, whole_listed}
+use Rattle.lister.proofs.Promises.{nothing_writes_nothing}
+use Rattle.lister.proofs.BookListed.{book_listed, whole_listed}
 use Rattle.dullavane.specs.Words.{held}
 use Rattle.dullavane.specs.Asked.{asked_tally, in_turn}
 use Rattle.dullavane.specs.Called.{Called}

@@ -1,6 +1,8 @@
 // dullavane_listing: the listing of a taken book piece by piece, as the firmware asks for it from C, in a static library of its own beside that of
 // `dullavane`. Only numbers and lists cross over; the cursor stands in sixteen lent words. The call answers 0, or the refusal's number, and then nothing lent
 // has changed.
+#![tactic(auto)]
+
 ghost use Rattle.interval.specs.Lent.{Lent};
 ghost use Rattle.answer.specs.Promises.{columns};
 ghost use Rattle.lister.specs.Steps.{lent_listing};
@@ -14,8 +16,7 @@ mod words;
 
 // Writes as many whole lines of the listing as have room, from the cursor on. Refuses 12 and 11 for the tally's words, 11 before the last unit, 12 for fewer
 // than sixteen words of a cursor, 11 for one of them over its width, then as `list` does. Where nothing is left, word 0 is 0 and the others stay.
-#[unsafe(no_mangle)]
-pub extern "C" fn dullavane_listing(
+pub fn dullavane_listing(
     cursor: &mut [u64],
     tally: &[u32],
     bytes: &[u8],

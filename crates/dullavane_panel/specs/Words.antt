@@ -1,5 +1,5 @@
 -- Numbers and words as C hands them over, and what they say.
-use Rattle.std.specs.Prelude.{Bool, cond, ◌&&◌, List, [], ◌∷◌, ◌++◌, ℕ, zero, suc, ◌%◌, leb, ltb, length, get_or, drop}
+use Rattle.std.specs.Prelude.{Bool, cond, ◌&&◌, List, ◌∷◌, ℕ, zero, suc, ◌%◌, leb, ltb, get_or, drop}
 use Rattle.rules.specs.declared.Key.{Key}
 use Rattle.rules.specs.declared.Key.TheVariants.{Show, Next, Previous, Home}
 use Rattle.rules.specs.declared.Page.{Page}

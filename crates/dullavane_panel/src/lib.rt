@@ -1,5 +1,7 @@
 // dullavane_panel: the panel's calls as the firmware makes them from C (document 02, R-13), in a static library of their own beside that of `dullavane`. Only
 // numbers and lists cross over; the page record stands in three lent words. A call answers 0, or the refusal's number, and then nothing lent has changed.
+#![tactic(auto)]
+
 ghost use Rattle.interval.specs.Lent.{Lent, lent_member};
 ghost use Rattle.rules.specs.Panel.{first_page, member_page, refusal_page};
 ghost use Rattle.std.specs.Prelude.{true};
@@ -22,8 +24,7 @@ use words::{
 mod words;
 
 // A requirement's first page, from its numbers.
-#[unsafe(no_mangle)]
-pub extern "C" fn dullavane_panel_first(
+pub fn dullavane_panel_first(
     number: u32,
     direction: u32,
     rcr: i64,
@@ -48,8 +49,7 @@ pub extern "C" fn dullavane_panel_first(
 }
 
 // A member's page, from its numbers.
-#[unsafe(no_mangle)]
-pub extern "C" fn dullavane_panel_member(
+pub fn dullavane_panel_member(
     residual: u32,
     number: u32,
     standing: u32,
@@ -75,16 +75,14 @@ pub extern "C" fn dullavane_panel_member(
 }
 
 // A refusal's phrase.
-#[unsafe(no_mangle)]
-pub extern "C" fn dullavane_panel_phrase(refusal: u32, text: &mut [u8]) -> u32
+pub fn dullavane_panel_phrase(refusal: u32, text: &mut [u8]) -> u32
     ensures { PageCalled true (refusal_page refusal) text.old result text.new }
 {
     tell_drawn(refusal_page(refusal, text))
 }
 
 // A key, over the page's three words alone.
-#[unsafe(no_mangle)]
-pub extern "C" fn dullavane_panel_step(
+pub fn dullavane_panel_step(
     page: &mut [u32],
     key: u32,
     book: u32,
@@ -107,8 +105,7 @@ pub extern "C" fn dullavane_panel_step(
 }
 
 // A key press over a taken book: it moves the page and draws it.
-#[unsafe(no_mangle)]
-pub extern "C" fn dullavane_panel_press(
+pub fn dullavane_panel_press(
     page: &mut [u32],
     key: u32,
     book: u32,

@@ -10,12 +10,13 @@ use interval::turns::BEFORE_UNITS;
 use interval::{FIGURES_LENGTH, Opened, ROWS_LENGTH, SERIES_LENGTH, SUMS_LENGTH, Taking, Tally};
 use reader::turn::{size, take};
 use rules::{Located, locate};
+use std::io::Read;
 
 // The longest book, of 512 units and 32 requirements, and a byte more, so that bytes that follow are seen.
 pub const HELD: usize = 193_137;
 
 // The book was taken to its end; or why it was not: the refusal, or a reading that failed.
-#[derive(Drop)]
+#[derive(Clone, Copy)]
 pub enum Outcome {
     Taken(Tally),
     Refused(Located),
@@ -112,9 +113,9 @@ fn take_all(book: &[u8]) -> Outcome {
     }
 }
 
-// Standard input to its end, and the book that it is. Behind a book that was taken the place holds what it held.
-pub fn take_input(place: &mut [u8; HELD]) -> Outcome {
-    let got = fill(place);
+// What is read to its end, such as standard input, and the book that it is. Behind a book that was taken the place holds what it held.
+pub fn take_input<R: Read>(file: &mut R, place: &mut [u8; HELD]) -> Outcome {
+    let got = fill(file, place);
     if got.failed {
         return Outcome::Failed;
     }

@@ -1,5 +1,8 @@
 // intake: what every program that reads books does alike. A book comes from a file, however few bytes each reading brings, to where they are wanted; or it is
 // held whole in memory, and each record goes from there to the call whose turn it is.
+#![tactic(auto)]
+
+pub mod arguments;
 pub mod held;
 pub mod input;
 pub mod whole;
@@ -13,7 +16,7 @@ pub const MEMBERS: usize = 513;
 pub const RECORDS: usize = 769;
 
 // How many bytes came, fewer than asked for where the input has ended; or the reading failed.
-#[derive(Drop)]
+#[derive(Clone, Copy)]
 pub struct Filled {
     pub count: usize,
     pub failed: bool,

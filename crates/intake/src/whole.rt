@@ -9,9 +9,10 @@ use interval::{FIGURES_LENGTH, ROWS_LENGTH, SERIES_LENGTH, SUMS_LENGTH, Tally};
 use reader::step::{came, wanted};
 use reader::{Came, Reading};
 use rules::Located;
+use std::io::Read;
 
 // The tally so far; or why no more is read: no byte came where a book would start, the refusal, or a reading that failed.
-#[derive(Drop)]
+#[derive(Clone, Copy)]
 pub enum Next {
     Taken(Tally),
     Ended,
@@ -20,27 +21,26 @@ pub enum Next {
 }
 
 // One reading, to where bytes are wanted.
-fn read_between(file: i32, bytes: &mut [u8], from: usize, to: usize) -> Filled
+fn read_between<R: Read>(file: &mut R, bytes: &mut [u8], from: usize, to: usize) -> Filled
     requires { (from ≤ to) × (to ≤ length bytes.old) }
     ensures { ReadHere from to result.count bytes.old bytes.new }
 {
-    let got = libc::read(file, &mut bytes[from..to]);
-    if got < 0 {
-        return Filled {
+    match file.read(&mut bytes[from..to]) {
+        Ok(count) => Filled {
+            count,
+            failed: false,
+        },
+        Err(_) => Filled {
             count: 0,
             failed: true,
-        };
-    }
-    Filled {
-        count: io::count(got, &bytes[from..to]),
-        failed: false,
+        },
     }
 }
 
 // Takes a book to its end; its requirements stand one after the other in the bytes then. Where the book stands alone, a byte behind it is seen and refused
 // with 4; where it does not, the next one starts behind its last requirement, and no byte of it is read.
-pub fn take_book(
-    file: i32,
+pub fn take_book<R: Read>(
+    file: &mut R,
     alone: bool,
     bytes: &mut [u8; RECORDS],
     measures: &mut [i32; SERIES_LENGTH],

@@ -12,9 +12,6 @@ use Rattle.rules.specs.SettingsRecord.{settings}
 use Rattle.rules.specs.FrequencyRecord.{frequency_record}
 use Rattle.rules.specs.UnitRecord.{unit_record}
 use Rattle.rules.specs.RequirementRecord.{requirement_record}
-use Rattle.book.specs.declared.ContentsRead as b
-use Rattle.book.specs.declared.SettingsRead as bs
-use Rattle.book.specs.declared.RequirementRead as bq
 use Rattle.interval.specs.declared.Tally.{Tally}
 use Rattle.interval.specs.declared.Opened as o
 use Rattle.interval.specs.declared.Taking as k

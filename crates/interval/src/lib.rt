@@ -1,6 +1,8 @@
 // interval: the calculator step by step, as the firmware calls it. A book's records are handed in one by one, in its order:
 // contents, settings, five frequency records, the units, the requirements. Each call takes the tally, hands it on or back, and writes to
 // what is lent only where it refuses nothing. The calls that lend lists stand above, in `frequencies` and `units`; what they promise stands in specs/.
+#![tactic(auto)]
+
 use rules::{Located, Refusal};
 
 // What the lent lists hold: of a region 75 measures, 150 sums and ten figures, the interval number first; of a unit a row of eight.
@@ -44,7 +46,7 @@ pub mod turns;
 
 // How far the book is. `records` counts what was taken after the table of contents: the settings, five frequency records, the
 // units, the requirements. `least` is the least number that the next unit or requirement may have.
-#[derive(Drop)]
+#[derive(Clone, Copy)]
 pub struct Tally {
     pub units: u16,
     pub requirements: u16,
@@ -57,21 +59,21 @@ pub struct Tally {
 }
 
 // What the table of contents starts, or the refusal alone.
-#[derive(Drop)]
+#[derive(Clone, Copy)]
 pub enum Opened {
     Taken(Tally),
     Refused(Refusal),
 }
 
 // A record was taken, or the refusal with the record's place.
-#[derive(Drop)]
+#[derive(Clone, Copy)]
 pub enum Taking {
     Taken,
     Refused(Located),
 }
 
 // The tally after a call: one record further, or as it came.
-#[derive(Drop)]
+#[derive(Clone, Copy)]
 pub struct Step {
     pub tally: Tally,
     pub taking: Taking,

@@ -7,7 +7,7 @@ use native.Mathlib.Nat.{zero-add}
 use native.Mathlib.Omega.{arith}
 use lib.IntN.{pos}
 use lib.ListN.{length, get_or, take, drop}
-use Rattle.rules.specs.Quantities.{points, regions}
+use Rattle.rules.specs.Quantities.{points}
 use Rattle.rules.specs.Bytes.{number_at, integer_at}
 use Rattle.rules.specs.Book.{Region, Unit, Requirement, Book}
 use Rattle.rules.specs.FrequencyRecord.{region_in}

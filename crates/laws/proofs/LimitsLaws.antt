@@ -18,7 +18,6 @@ use Rattle.integers.proofs.Sums.{every_at, none_below}
 use Rattle.integers.specs.Totals.{All}
 use Rattle.rules.specs.declared.Direction.{Direction}
 use Rattle.rules.specs.declared.Direction.TheVariants.{Raise, Lower}
-use Rattle.rules.specs.declared.Refusal.{Refusal}
 use Rattle.rules.specs.declared.Refusal.TheVariants.{
   EndsEarly,
   WrongMark,

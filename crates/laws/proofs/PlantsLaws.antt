@@ -1,13 +1,13 @@
 -- Laws of the plants of a roster: every unit is of one plant; a plant's deviation stays within a unit's limit for each of its units; a region's deviations
 -- close; a roster without groups has its units as plants; a unit without a group parts a roster.
-use mathlib.Core.Path.{◌≡◌, refl, sym, ◌∙◌, ap, ap₂}
+use mathlib.Core.Path.{◌≡◌, refl, sym, ◌∙◌, ap}
 use mathlib.Core.Bool.{Bool, true, false, cond, not, ◌&&◌, ◌||◌}
 use mathlib.Core.List.{List, [], ◌∷◌, ◌++◌, map}
-use Prim.Native.Nat.{ℕ, suc, ◌+◌, ◌*◌, ◌≤◌, ◌<◌}
+use Prim.Native.Nat.{ℕ, suc, ◌+◌, ◌≤◌, ◌<◌}
 use native.Mathlib.Nat.{add-mul}
 use native.Mathlib.Omega.{arith}
 use lib.Dec.{eqb}
-use lib.IntN.{ℤ, pos, ◌+ℤ◌, +ℤ_invr}
+use lib.IntN.{pos, ◌+ℤ◌, +ℤ_invr}
 use lib.ListN.{length}
 use borrow.Author.Tests.{eq-eqb, ne_eqb, eqb-false}
 use Rattle.integers.specs.Bounds.{Within}
@@ -17,7 +17,7 @@ use Rattle.rules.specs.Quantities.{points, deviation_limit}
 use Rattle.rules.specs.Book.{Unit}
 use Rattle.rules.specs.Groups.{same_group, new_among, group_fine}
 use Rattle.rules.specs.Deviation.{deviation}
-use Rattle.rules.specs.Plants.{Plant, alone, with_unit, behind, plants_from, plants, good_plants, residual_deviation}
+use Rattle.rules.specs.Plants.{Plant, alone, with_unit, plants_from, plants, good_plants, residual_deviation}
 use Rattle.laws.proofs.DeviationLaws.{deviation_within}
 use Rattle.laws.proofs.Limits.{UnitFits, PlantFits}
 

@@ -128,7 +128,7 @@ module _ (w : ℕ → ℕ) where
 
 -- ---- the share
 module _ (T n : ℕ) (w : ℕ → ℕ) (h : 0 < weight_sum n w) where
-  -- T-as-W is what the whole parts take, and the remainders
+  -- T·W is what the whole parts take, and the remainders
   split : T * weight_sum n w ≡ sumℕ n (whole T n w) * weight_sum n w + sumℕ n (remainder T n w)
   split =
       sym (sumℕ_scale n T w)

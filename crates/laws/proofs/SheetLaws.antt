@@ -1,18 +1,17 @@
 -- Laws of a sheet's definitions: a right factor is the whole part of T·weight/W, with its side's sign, or one more where a remainder is left; its sign then
 -- agrees by itself.
 use mathlib.Core.Path.{◌≡◌, refl, sym, ◌∙◌, ap}
-use mathlib.Core.Bool.{Bool, true, false, cond, ◌&&◌, false≢true}
+use mathlib.Core.Bool.{Bool, true, false, ◌&&◌, false≢true}
 use Prim.Native.Nat.{ℕ, zero, suc, ◌+◌, ◌*◌, ◌<◌}
 use native.Mathlib.Omega.{arith}
 use native.Mathlib.Nat.{lt_of_mul-lt-mul_right}
-use lib.Dec.{ltb, eqb}
+use lib.Dec.{ltb}
 use lib.IntN.{ℤ, pos, negsuc, neg_ℤ, nat_abs, ◌-ℤ◌, ◌*ℤ◌}
-use borrow.Author.Tests.{ltb-true, lt-ltb, ltb-false, le-leb, eqb-true, eqb-false}
+use borrow.Author.Tests.{ltb-true, lt-ltb, ltb-false, le-leb}
 use Rattle.integers.specs.Pairs.{gain, loss}
 use Rattle.integers.proofs.Pairs.{v, neg, ◌⊖◌, ◌⊗◌, ring, eq?}
 use Rattle.integers.proofs.Bounds.{abs_neg}
-use Rattle.integers.specs.Sums.{one, every, both}
-use Rattle.integers.proofs.Sums.{every_fails}
+use Rattle.integers.specs.Sums.{one}
 use Rattle.integers.specs.Division.{Divided}
 use Rattle.rules.specs.declared.Side.{Side}
 use Rattle.rules.specs.declared.Side.TheVariants.{Positive, Negative}

@@ -12,7 +12,7 @@ use borrow.Author.Tests.{lt-ltb}
 use lib.Pow.{pow_pos, pow_mono}
 use lib.IntN.{ℤ, pos, negsuc, nat_abs}
 use lib.Signed.{non_neg, lt_z, ◌≤ℤ◌, ≤ℤ_refl}
-use lib.Ieee.{Float, fin, binary32, up, down, nearest, below, level, lt, le, is_nan}
+use lib.Ieee.{Float, nan, inf, fin, binary32, up, down, nearest, below, level, lt, le, is_nan}
 use lib.Ieee.Fits.{round_is, down_pos, and_i}
 use lib.Ieee.Digits.{size-le}
 use lib.Ieee.Exact.{HasValue, units_val}
@@ -106,6 +106,10 @@ scaled_below s t x y a b c k C K e f = go s t
 
 lt_is : (x y : Float) (s t : Bool) (a b c : ℕ) → 0 < c → HasValue x s a c → HasValue y t b c → lt x y ≡ below s a t b
 unfolding lt
+lt_is nan y s t a b c C v w = elim v [ ]
+lt_is (inf _) y s t a b c C v w = elim v [ ]
+lt_is (fin s' m e) nan s t a b c C v w = elim w [ ]
+lt_is (fin s' m e) (inf _) s t a b c C v w = elim w [ ]
 lt_is (fin s' m e) (fin t' n d) s t a b c C v w =
     rw (v.0, w.0)
     (scaled_below s t (m * up e * down d) (n * up d * down e) a b c (down e * down d) C (mul-pos (down_pos e) (down_pos d))
@@ -142,6 +146,8 @@ pub record Plain (x : Float) : Type 0 where
 
 plain_value : (x : Float) (s : Bool) (a c : ℕ) → HasValue x s a c → (s ≡ true → 0 < a) → Plain x
 unfolding is_nan
+plain_value nan s a c v h = elim v [ ]
+plain_value (inf _) s a c v h = elim v [ ]
 plain_value (fin t m e) s a c v h = record { is_finite = tt; no_nan = refl; no_minus_zero = never }
   where
     never : (e' : ℤ) → fin t m e ≡ fin true 0 e' → ⊥
@@ -174,6 +180,8 @@ point_below {d} h = rw zero_is at (points_in_order {b = pos 0} h (within_natural
 -- a finite value is no larger than itself
 le_self : (x : Float) → T (finite x) → T (le x x)
 unfolding le
+le_self nan t = elim t [ ]
+le_self (inf _) t = elim t [ ]
 le_self (fin s m e) t = go s (m * up e * down e)
   where
     or_right : (a b : Bool) → T b → T (a || b)

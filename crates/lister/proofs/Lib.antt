@@ -1,5 +1,6 @@
 -- Laws of the lines in a text, of how far a listing has come, and of the tests before it
 pub mod SaidLaws
+mod LeastLaws
 pub mod StepsLaws
 pub mod ListLaws
 -- of the moves, the members' rows and a requirement's turn

@@ -22,7 +22,6 @@ use Rattle.lister.specs.declared.Halt.{Halt}
 use Rattle.lister.specs.declared.Halt.TheVariants as halt
 use Rattle.lister.specs.declared.Step.{Step}
 use Rattle.lister.specs.declared.Listed.{Listed}
-use Rattle.lister.specs.declared.Listed.TheVariants as told
 use Rattle.lister.specs.Move.{Move, moves, ends, refuses, move}
 use Rattle.lister.specs.Promises.{longest_line, room_for_any, list_tests, Stops, piece_told, ByTests, ListPromise}
 use Rattle.lister.specs.Steps.{Halted, Runs, Turns, halt_of, is_on, untold, told_as}
@@ -56,25 +55,25 @@ unfolding list_tests
 tests_passed h = rw (h.ended, h.enough, h.room_any)
 
 -- or one of them refuses
-pub data ByTests (t : Tally) (bytes : ℕ) (c : Cursor) (room : ℕ) : Type 0 where
-  passes : Tested t bytes c room → ByTests t bytes c room
-  fails : (why : Refusal) → list_tests t bytes c room ≡ refused why → ByTests t bytes c room
+pub data EachTest (t : Tally) (bytes : ℕ) (c : Cursor) (room : ℕ) : Type 0 where
+  passes : Tested t bytes c room → EachTest t bytes c room
+  fails : (why : Refusal) → list_tests t bytes c room ≡ refused why → EachTest t bytes c room
 
-pub by_each_test : (t : Tally) (bytes : ℕ) (c : Cursor) (room : ℕ) → ByTests t bytes c room
+pub by_each_test : (t : Tally) (bytes : ℕ) (c : Cursor) (room : ℕ) → EachTest t bytes c room
 unfolding list_tests
 by_each_test t bytes c room = first (in_range t && eqb t.records (book_end t)) refl
   where
     third :
         (in_range t && eqb t.records (book_end t)) ≡ true → leb (24 * t.requirements) bytes ≡ true → (b : Bool) → room_for_any t c room ≡ b →
-        ByTests t bytes c room
+        EachTest t bytes c room
     third d e true f = passes (record { ended = d; enough = e; room_any = f })
     third d e false f = fails TooShort (rw (d, e, f))
 
-    second : (in_range t && eqb t.records (book_end t)) ≡ true → (b : Bool) → leb (24 * t.requirements) bytes ≡ b → ByTests t bytes c room
+    second : (in_range t && eqb t.records (book_end t)) ≡ true → (b : Bool) → leb (24 * t.requirements) bytes ≡ b → EachTest t bytes c room
     second d true e = third d e (room_for_any t c room) refl
     second d false e = fails EndsEarly (rw (d, e))
 
-    first : (b : Bool) → (in_range t && eqb t.records (book_end t)) ≡ b → ByTests t bytes c room
+    first : (b : Bool) → (in_range t && eqb t.records (book_end t)) ≡ b → EachTest t bytes c room
     first true d = second d (leb (24 * t.requirements) bytes) refl
     first false d = fails WrongState (rw d)
 
@@ -105,7 +104,7 @@ module _ (t : Tally) (bytes : List ℕ) (l : Lent) (first : Cursor) (c : Columns
   pub so_far_first : (h : Halt) → h ≡ halt_of (list_tests t (length bytes) first (length old)) → SoFar first 0 h c old
   so_far_first h e = go (by_each_test t (length bytes) first (length old))
     where
-      go : ByTests t (length bytes) first (length old) → SoFar first 0 h c old
+      go : EachTest t (length bytes) first (length old) → SoFar first 0 h c old
       go (passes d) =
           let on : h ≡ halt.On = e ∙ ap halt_of (tests_passed d) in
           subst (λ (x : Halt). SoFar first 0 x c old) (sym on) (came d (run_halts halt.On (omega arith) tt))

@@ -2,10 +2,10 @@
 use mathlib.Core.Path.{◌≡◌, refl, sym, ◌∙◌, subst}
 use mathlib.Core.Bool.{true}
 use mathlib.Core.List.{List, [], ◌∷◌}
-use Prim.Native.Nat.{ℕ, suc, ◌+◌, ◌-◌, ◌≤◌, ◌<◌}
+use Prim.Native.Nat.{ℕ, suc, ◌+◌, ◌≤◌, ◌<◌}
 use native.Mathlib.Omega.{arith}
 use lib.ListN.{length}
-use types.Run.{OneOf, miss}
+use types.Run.{OneOf, hit, miss}
 use denote.Enum.Declared.{tag_of}
 use Rattle.rules.specs.declared.Refusal.{Refusal}
 use Rattle.rules.specs.declared.Standing.{Standing}
@@ -90,6 +90,12 @@ module _ (t : Tally) (bytes : List ℕ) (l : Lent) (k : ℕ) (a : Answer) (c : C
 -- where a listing goes on it has not halted
 abbrev halts : List ℕ
 halts = 1 ∷ 2 ∷ 3 ∷ []
+
+pub other_halt : (h : Halt) → (h ≡ halt.On → ⊥) → OneOf halts (tag_of the_type h)
+other_halt halt.On n = absurd (n refl)
+other_halt halt.Full n = hit halts 1 tt
+other_halt halt.Ended n = hit halts 2 tt
+other_halt (halt.Refused r) n = hit halts 3 tt
 
 pub not_on : (h : Halt) (A : Type 0) → OneOf halts (tag_of the_type h) → WhereOn h A
 not_on halt.On A k = absurd (miss halts 0 tt k)

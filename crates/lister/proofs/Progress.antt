@@ -28,7 +28,7 @@ use Rattle.lister.specs.declared.Listed.TheVariants.{Written, Refused}
 use Rattle.lister.specs.Move.{Move, moves, ends, refuses, move, among, line_of, answering, row_move, member_move}
 use Rattle.lister.specs.Promises.{Goes, stays, and_then, piece_told, ListedPiece, Unlisted, ByTests, ListPromise}
 use Rattle.lister.proofs.MoveLaws.{among_means}
-use Rattle.lister.proofs.ListLaws.{ByTests, passes, fails, by_each_test, tests_passed}
+use Rattle.lister.proofs.ListLaws.{EachTest, passes, fails, by_each_test, tests_passed}
 
 -- how many moves may be left at a cursor: to each requirement its answer, its line and those of all rows and the residual
 abbrev pub moves_left : Tally → Cursor → ℕ
@@ -131,7 +131,7 @@ pub piece_written :
     ListPromise at t bytes l c old (Written n next) c' new → PieceWritten t at n next old
 piece_written {at} {next} {t} {bytes} {l} {c} {c'} {old} {new} {n} p = go (by_each_test t (length bytes) at (length old))
   where
-    go : ByTests t (length bytes) at (length old) → PieceWritten t at n next old
+    go : EachTest t (length bytes) at (length old) → PieceWritten t at n next old
     go (passes d) =
         let k : ListedPiece at t bytes l c old (Written n next) c' new =
         subst (λ (x : Reply Cursor). ByTests x t bytes l c old (Written n next) c' new) (tests_passed d) p.kept in

@@ -5,6 +5,7 @@ ghost use Rattle.listing.specs.Lines.{answer_of, unit_of, residual_of};
 ghost use Rattle.lister.specs.Said.{Said};
 ghost use Rattle.lister.specs.Move.{line_of};
 
+use super::least::has_no_room;
 use answer::Answer;
 use listing::lines::{interval_line, requirement_line, residual_line, unit_line};
 use listing::pieces::put_word;
@@ -72,6 +73,9 @@ pub(crate) fn say_unit(
     requires { done ≤ length text.old }
     ensures { Said (member_line (unit_of number standing amounts)) done text.old result text.new }
 {
+    if has_no_room(text.len() - done, amounts) {
+        return 0;
+    }
     let mut line = [0u8; LINE];
     let start = unit_line(number, standing, amounts, &mut line);
     append(&line[start..], done, text)

@@ -1,5 +1,5 @@
 -- Laws of the definitions in specs/Pieces.antt.
-use mathlib.Core.Path.{◌≡◌, refl, sym, ◌∙◌, ap}
+use mathlib.Core.Path.{◌≡◌, refl, sym, ◌∙◌, ap, subst}
 use mathlib.Core.Bool.{Bool, true, false, ◌&&◌, true≢false}
 use mathlib.Core.List.{List, [], ◌∷◌, ◌++◌, append_assoc}
 use Prim.Native.Nat.{ℕ, zero, suc, ◌+◌, ◌-◌, ◌*◌, ◌/◌, ◌%◌, ◌≤◌, ◌<◌, ◌^◌}
@@ -17,7 +17,7 @@ use Rattle.integers.proofs.Pairs.{lt_in}
 use Rattle.rules.specs.declared.Direction.{Direction}
 use Rattle.rules.specs.declared.Direction.TheVariants.{Raise, Lower}
 use Rattle.rules.specs.Text.{text, digits, natural, integer}
-use Rattle.listing.specs.Pieces.{Put, Room, has_room, PutWhereRoom, after_space, direction_piece}
+use Rattle.listing.specs.Pieces.{Put, Room, two_put, has_room, PutWhereRoom, after_space, direction_piece}
 
 pub room_less : {j k at : ℕ} {line : List ℕ} → j ≤ k → Room k at line → Room j at line
 room_less h r = record { free = omega (arith, r.free); inside = r.inside }
@@ -148,6 +148,28 @@ pub digits_more : (most n : ℕ) → 10 ≤ n → digits (suc most) n ≡ digits
 unfolding digits
 digits_more most n h = rw (digits, le-ltb n 10 h)
 
+-- every number has a digit, and no fewer than its size asks for
+pub digits_some : (most n : ℕ) → 0 < length (digits (suc most) n)
+unfolding digits
+digits_some most n = go (ltb n 10)
+  where
+    go : (t : Bool) → 0 < length {A = ℕ} (elim t [ true ↦ (48 + n) ∷ [] | false ↦ digits most (n / 10) ++ ((48 + n % 10) ∷ []) ])
+    go true = lit≤ tt
+    go false = omega (arith, length-append (digits most (n / 10)) ((48 + n % 10) ∷ []))
+
+ten_some : (k : ℕ) → 1 ≤ 10 ^ k
+ten_some zero = lit≤ tt
+ten_some (suc k) = omega (arith, pow-suc 10 k, ten_some k)
+
+pub digits_least : (most k n : ℕ) → k < most → 10 ^ k ≤ n → k < length (digits most n)
+digits_least zero k n h p = absurd (omega arith)
+digits_least (suc most) zero n h p = digits_some most n
+digits_least (suc most) (suc k) n h p =
+    let more : 10 ^ k * 10 ≤ n = rw (pow-suc 10 k) at p in
+    let ten : 10 ≤ n = omega (arith, more, ten_some k) in
+    let rest : k < length (digits most (n / 10)) = digits_least most k (n / 10) (omega arith) (omega (arith, more)) in
+    rw (digits_more most n ten) (omega (arith, rest, length-append (digits most (n / 10)) ((48 + n % 10) ∷ [])))
+
 -- what is spelt of a number: `rest` is to be spelt before `to`, in at most `most` digits and one
 pub record Spelt (n at : ℕ) (old : List ℕ) (rest to : ℕ) (line : List ℕ) : Type 0 where
   pub most : ℕ
@@ -210,7 +232,7 @@ spelt_room {at = at} {rest = rest} {to = to} m s ten = go s.most s.place s.small
 -- two digits more
 pub spelt_two :
     {n at rest to : ℕ} {old line : List ℕ} → Room 20 at old → Spelt n at old rest to line → 100 ≤ rest →
-    Spelt n at old (rest / 100) (to - 2) (set (set line (to - 1) (48 + rest % 100 % 10)) (to - 2) (48 + rest % 100 / 10))
+    Spelt n at old (rest / 100) (to - 2) (two_put (rest % 100) to line)
 spelt_two {rest = rest} {to = to} m s hundred =
     let two : rest % 100 ≡ rest / 10 % 10 * 10 + rest % 10 = mod-mul rest {m = 10} {c = 10} (omega arith) (omega arith) in
     let last : rest % 10 ≡ rest % 100 % 10 = omega (arith, two) in
@@ -219,10 +241,27 @@ spelt_two {rest = rest} {to = to} m s hundred =
     let place : to - 1 - 1 ≡ to - 2 = omega arith in
     rw (last, first, left, place) at (spelt_more m (spelt_more m s (omega arith)) (omega arith))
 
+-- four digits more
+pub spelt_four :
+    {n at rest to : ℕ} {old line : List ℕ} → Room 20 at old → Spelt n at old rest to line → 10000 ≤ rest →
+    Spelt n at old (rest / 10000) (to - 4) (two_put (rest % 10000 / 100) (to - 2) (two_put (rest % 10000 % 100) to line))
+spelt_four {n} {at} {rest} {to} {old} {line} m s many =
+    let four : rest % 10000 ≡ rest / 100 % 100 * 100 + rest % 100 = mod-mul rest {m = 100} {c = 100} (omega arith) (omega arith) in
+    let last : rest % 100 ≡ rest % 10000 % 100 = omega (arith, four) in
+    let first : rest / 100 % 100 ≡ rest % 10000 / 100 = omega (arith, four) in
+    let left : rest / 100 / 100 ≡ rest / 10000 = omega (arith, four) in
+    let put = two_put (rest % 10000 / 100) (to - 2) (two_put (rest % 10000 % 100) to line) in
+    subst (λ (i : ℕ). Spelt n at old (rest / 10000) i put) (omega arith)
+    (rw (last, first, left) at (spelt_two m (spelt_two m s (omega arith)) (omega arith)))
+
+-- four digits have room
+pub spelt_wide : {n at rest to : ℕ} {old line : List ℕ} → Room 20 at old → Spelt n at old rest to line → 10000 ≤ rest → 4 ≤ to
+spelt_wide m s many = omega (arith, spelt_room m (spelt_two m s (omega arith)) (omega arith))
+
 -- the first two digits
 pub spelt_both :
     {n at rest to : ℕ} {old line : List ℕ} → Room 20 at old → Spelt n at old rest to line → 10 ≤ rest → rest < 100 →
-    Put (natural n) at old (to - 2) (set (set line (to - 1) (48 + rest % 10)) (to - 2) (48 + rest / 10))
+    Put (natural n) at old (to - 2) (two_put rest to line)
 spelt_both {to = to} m s ten hundred =
     let place : to - 1 - 1 ≡ to - 2 = omega arith in
     rw place at (spelt_all m (spelt_more m s ten) (omega arith))

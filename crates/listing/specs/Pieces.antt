@@ -1,5 +1,5 @@
 -- A line is put together from its end: a piece goes before what stands.
-use Rattle.std.specs.Prelude.{◌≡◌, Bool, true, false, ◌&&◌, List, ◌++◌, ℕ, ◌+◌, ◌≤◌, leb, length, take, drop}
+use Rattle.std.specs.Prelude.{◌≡◌, Bool, true, false, ◌&&◌, List, ◌++◌, ℕ, ◌+◌, ◌-◌, ◌/◌, ◌%◌, ◌≤◌, leb, length, take, drop, set}
 use Rattle.rules.specs.declared.Direction.{Direction}
 use Rattle.rules.specs.Listing.{direction_word}
 use Rattle.rules.specs.Text.{text}
@@ -15,6 +15,10 @@ pub record Put (piece : List ℕ) (at : ℕ) (old : List ℕ) (r : ℕ) (new : L
   pub bytes : drop r new ≡ piece ++ drop at old
   pub before : take r new ≡ take r old
   pub size : length new ≡ length old
+
+-- the two digits of a number below 100, as the bytes before `to`
+abbrev pub two_put : ℕ → ℕ → List ℕ → List ℕ
+two_put two to line = set (set line (to - 1) (48 + two % 10)) (to - 2) (48 + two / 10)
 
 -- it is put where k bytes have room; else nothing is
 abbrev pub has_room : ℕ → ℕ → List ℕ → Bool

@@ -1,5 +1,7 @@
 // listing: the lines of the listing as text (01, One listing in full), each at the end of a text that is lent. A line is put together from its end, because a
 // number's last digit is known first.
+#![tactic(auto)]
+
 use rules::Direction;
 
 pub mod lines;
@@ -9,14 +11,14 @@ pub mod pieces;
 pub const LINE: usize = 165;
 
 // A pool in cents, and what of it nobody gets.
-#[derive(Drop)]
+#[derive(Clone, Copy)]
 pub struct Pool {
     pub cents: u64,
     pub unplaced: u64,
 }
 
 // What a requirement's line says.
-#[derive(Drop)]
+#[derive(Clone, Copy)]
 pub struct RequirementLine {
     pub number: u16,
     pub direction: Direction,
@@ -27,7 +29,7 @@ pub struct RequirementLine {
 }
 
 // What a member's line says after its name and standing.
-#[derive(Drop)]
+#[derive(Clone, Copy)]
 pub struct Amounts {
     pub performance: i64,
     pub factor: i64,

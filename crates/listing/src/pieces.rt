@@ -1,9 +1,9 @@
 // The pieces of a line, each put before what stands from `at` on; the answer is where the line now starts.
-ghost use Rattle.std.specs.Prelude.{◌≡◌, ◌+◌, ◌≤◌, nat_abs, length};
+ghost use Rattle.std.specs.Prelude.{◌≡◌, ◌+◌, ◌≤◌, ◌<◌, nat_abs, length};
 ghost use Rattle.std.proofs.Math.Seq.{paste};
 ghost use Rattle.rules.specs.Text.{text, natural, integer};
 ghost use Rattle.rules.specs.Listing.{standing_word};
-ghost use Rattle.listing.specs.Pieces.{Room, Put, PutWhereRoom, after_space, direction_piece};
+ghost use Rattle.listing.specs.Pieces.{Room, Put, PutWhereRoom, two_put, after_space, direction_piece};
 
 use rules::{Direction, Standing};
 
@@ -43,17 +43,33 @@ pub fn put_word(word: &[u8], at: usize, line: &mut [u8]) -> usize
     put(word, at, line)
 }
 
-// A number's digits, the last two first: a division for two.
+// The two digits of a number below 100, before what stands from `to` on. Both bytes of a word hold 48, the code of 0; the tens are added to the low byte and the
+// ones to the high one, so that a processor writes both at once.
+fn put_two(two: u64, to: usize, line: &mut [u8])
+    requires { (two < 100) × (2 ≤ to) × (to ≤ length line.old) }
+    ensures { line.new ≡ two_put two to line.old }
+{
+    let word = 12_336 + 256 * two - 2_559 * (two / 10);
+    line[to - 1] = (word / 256) as u8;
+    line[to - 2] = (word % 256) as u8;
+}
+
+// A number's digits, the last four first: a division of 64 bits for four, which is what costs on a core of 32.
 fn put_digits(n: u64, at: usize, line: &mut [u8]) -> usize
     requires { Room 20 at line.old }
     ensures { Put (natural n) at line.old result line.new }
 {
     let mut rest = n;
     let mut to = at;
-    while 100 <= rest {
-        let two = rest % 100;
-        line[to - 1] = (48 + two % 10) as u8;
-        line[to - 2] = (48 + two / 10) as u8;
+    while 10_000 <= rest {
+        let four = rest % 10_000;
+        put_two(four % 100, to, line);
+        put_two(four / 100, to - 2, line);
+        to -= 4;
+        rest /= 10_000;
+    }
+    if 100 <= rest {
+        put_two(rest % 100, to, line);
         to -= 2;
         rest /= 100;
     }
@@ -61,8 +77,7 @@ fn put_digits(n: u64, at: usize, line: &mut [u8]) -> usize
         line[to - 1] = (48 + rest) as u8;
         return to - 1;
     }
-    line[to - 1] = (48 + rest % 10) as u8;
-    line[to - 2] = (48 + rest / 10) as u8;
+    put_two(rest, to, line);
     to - 2
 }
 

@@ -1,5 +1,7 @@
 // little: numbers in bytes, the lowest byte first (document 01, The book). Every reader takes any slice and any place: a byte past
 // the end counts as 0. Where a record's length has been tested before, each compiles to one load.
+#![tactic(auto)]
+
 ghost use Rattle.little.specs.Numbers.{Unsigned, Turned};
 
 pub fn u8_at(bytes: &[u8], place: usize) -> u8

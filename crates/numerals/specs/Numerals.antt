@@ -1,5 +1,5 @@
 -- A word as a whole number within i64, a byte at a time: a word so far, the same with a byte more, and the number that it is.
-use Rattle.std.specs.Prelude.{Bool, true, false, cond, ℕ, ◌+◌, ◌*◌, ◌-◌, ◌^◌, eqb, ltb, leb, ℤ, pos, neg_ℤ}
+use Rattle.std.specs.Prelude.{true, false, cond, ℕ, ◌+◌, ◌*◌, ◌-◌, ◌^◌, eqb, ltb, leb, pos, neg_ℤ}
 use Rattle.numerals.specs.declared.Word.{Word}
 use Rattle.numerals.specs.declared.Value.{Value}
 use Rattle.numerals.specs.declared.Value.TheVariants.{Is, None}

@@ -1,4 +1,6 @@
 // numerals: a word of text as a whole number within i64, a byte at a time: digits, with a minus before them or none. Leading zeros are let in.
+#![tactic(auto)]
+
 ghost use Rattle.std.specs.Prelude.{◌≡◌, ◌≤◌};
 ghost use Rattle.numerals.specs.Numerals.{blank, minus_word, wrong_word, digit_added, byte_added, below_zero, number_of};
 
@@ -8,7 +10,7 @@ use little::signed_eight;
 const MOST: u64 = 0x8000_0000_0000_0000;
 
 // A word so far: whether it has begun, whether with a minus, whether a digit came, their number, and whether it can still be one within i64.
-#[derive(Drop)]
+#[derive(Clone, Copy)]
 pub struct Word {
     pub begun: bool,
     pub minus: bool,
@@ -17,7 +19,7 @@ pub struct Word {
     pub fine: bool,
 }
 
-#[derive(Drop)]
+#[derive(Clone, Copy)]
 pub enum Value {
     Is(i64),
     None,

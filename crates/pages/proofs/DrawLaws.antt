@@ -1,11 +1,9 @@
 -- Laws of lines and pages that are put together from their end.
 use mathlib.Core.Path.{◌≡◌, refl, sym, ◌∙◌, ap, subst}
-use mathlib.Core.Bool.{true}
 use mathlib.Core.List.{List, [], ◌∷◌, ◌++◌, append_assoc, append-nil}
 use Prim.Native.Nat.{ℕ, zero, suc, ◌+◌, ◌-◌, ◌≤◌, ◌<◌}
 use native.Mathlib.Omega.{arith}
 use borrow.Author.Tests.{le-leb, lt-leb}
-use lib.Dec.{leb}
 use lib.IntN.{ℤ}
 use lib.ListN.{length, take, drop, length-append}
 use lib.Seq.{take-length}
@@ -13,7 +11,6 @@ use Rattle.rules.specs.declared.Refusal.TheVariants.{TooShort}
 use Rattle.rules.specs.Panel.{repeated, spaces, at_left, at_ends, labelled, figure}
 use Rattle.listing.specs.Pieces.{Room, Put, PutWhereRoom}
 use Rattle.listing.proofs.PiecesLaws.{put_before, put_there, room_after}
-use Rattle.pages.specs.declared.Drawn.{Drawn}
 use Rattle.pages.specs.declared.Drawn.TheVariants.{Done, Refused}
 use Rattle.pages.specs.Promises.{Draws}
 use Rattle.pages.proofs.RepeatedLaws.{repeated_long, repeated_joined}

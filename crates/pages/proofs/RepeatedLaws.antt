@@ -1,14 +1,13 @@
 -- Laws of the same byte so many times, and of putting it.
-use mathlib.Core.Path.{◌≡◌, refl, sym, ◌∙◌, ap}
-use mathlib.Core.List.{List, [], ◌∷◌, ◌++◌, append_assoc}
+use mathlib.Core.Path.{◌≡◌, refl, ◌∙◌, ap}
+use mathlib.Core.List.{List, [], ◌∷◌, ◌++◌}
 use Prim.Native.Nat.{ℕ, zero, suc, ◌+◌, ◌-◌, ◌≤◌, ◌<◌}
 use native.Mathlib.Nat.{zero-add, suc-add}
 use native.Mathlib.Omega.{arith}
-use lib.ListN.{length, take, drop, set, length-set}
-use lib.Seq.{take-set-le}
+use lib.ListN.{length, set}
 use Rattle.rules.specs.Panel.{repeated}
-use Rattle.listing.specs.Pieces.{Room, Put}
-use Rattle.listing.proofs.PiecesLaws.{put_byte, put_before}
+use Rattle.listing.specs.Pieces.{Put}
+use Rattle.listing.proofs.PiecesLaws.{put_before}
 use Rattle.report_row.proofs.PutLaws.{put_one}
 
 pub repeated_long : (byte n : ℕ) → length (repeated byte n) ≡ n

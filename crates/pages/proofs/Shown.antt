@@ -1,13 +1,12 @@
 -- What the display shows (02, R-13), in the request's words: a page is exactly 80 bytes; a figure's 16 places read back as the number unless they are hashes,
 -- and they are hashes exactly for more than 16 characters; the phrase is `unknown` exactly for numbers that no refusal has.
-use mathlib.Core.Path.{◌≡◌, refl, sym, ◌∙◌, ap, subst}
-use mathlib.Core.Bool.{Bool, true, false, cond}
+use mathlib.Core.Path.{◌≡◌, refl, sym, ◌∙◌, ap}
+use mathlib.Core.Bool.{Bool, true, false}
 use mathlib.Core.List.{List, [], ◌∷◌, ◌++◌}
-use mathlib.Core.Logic.{◌⊎◌, inl, inr}
 use Prim.Native.Nat.{ℕ, zero, suc, ◌+◌, ◌-◌, ◌≤◌, ◌<◌, ◌^◌}
 use native.Mathlib.Omega.{arith}
 use borrow.Author.Tests.{leb-true, leb-false, ltb-true, ltb-false, ne_eqb}
-use lib.Dec.{eqb, leb, ltb, lit≤}
+use lib.Dec.{leb, ltb, lit≤}
 use lib.IntN.{ℤ, pos, negsuc, neg_ℤ, nat_abs}
 use lib.ListN.{length, get_or, length-append}
 use Rattle.rules.specs.declared.Direction.{Direction}
@@ -21,15 +20,15 @@ use Rattle.rules.specs.Answer.{Line}
 use Rattle.rules.specs.Text.{text, natural, integer}
 use Rattle.rules.specs.Listing.{standing_word}
 use Rattle.rules.specs.ReportRead.{said_from, said, signed_said}
-use Rattle.rules.specs.Panel.{repeated, spaces, hashes, at_left, at_right, at_ends, placed, figure, labelled, name_text, first_page, member_page, refusal_page}
+use Rattle.rules.specs.Panel.{repeated, spaces, hashes, at_left, at_ends, figure, labelled, name_text, first_page, member_page, refusal_page}
 use Rattle.rules.specs.Phrases.{phrase, unknown, between}
-use Rattle.report_row.proofs.PieceLaws.{both_first, both_second, all_digits, natural_digits, natural_some, natural_said, first_digit, digits_few}
+use Rattle.report_row.proofs.PieceLaws.{both_first, both_second, natural_digits, natural_some, natural_said, first_digit}
 use Rattle.pages.specs.Lines.{way_text, required_text}
 use Rattle.pages.specs.Reading.{behind_spaces, read_figure}
 use Rattle.pages.proofs.RepeatedLaws.{repeated_long}
-use Rattle.pages.proofs.FigureLaws.{placed_there, placed_hashes, placed_long}
+use Rattle.pages.proofs.FigureLaws.{placed_there, placed_hashes}
 use Rattle.pages.proofs.DrawLaws.{labelled_long, ends_long, required_short, unit_short}
-use Rattle.pages.proofs.PhraseLaws.{phrase_short, phrase_unknown, below_range, above_range}
+use Rattle.pages.proofs.PhraseLaws.{phrase_short, phrase_unknown}
 
 -- ---- EXACTLY 80 BYTES
 left_long : (places : ℕ) (left : List ℕ) → length left ≤ places → length (at_left places left) ≡ places

@@ -1,5 +1,5 @@
 -- A number by its sign and its size.
-use Rattle.std.specs.Prelude.{Bool, true, false, cond, ℕ, ℤ, pos, neg_ℤ, nat_abs}
+use Rattle.std.specs.Prelude.{Bool, cond, ℕ, ℤ, pos, neg_ℤ, nat_abs}
 use Rattle.std.specs.Int.Signed.{lt_z}
 use Rattle.pages.specs.declared.Amount.{Amount}
 

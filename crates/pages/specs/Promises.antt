@@ -1,6 +1,6 @@
 -- What is promised of every text that is drawn: so many bytes at the front of the lent text, and nothing else of it changed; 12 where it is shorter, with
 -- nothing written.
-use Rattle.std.specs.Prelude.{◌≡◌, Bool, cond, List, ◌++◌, ℕ, leb, length, drop, ℤ, pos}
+use Rattle.std.specs.Prelude.{◌≡◌, cond, List, ◌++◌, ℕ, leb, length, drop, ℤ, pos}
 use Rattle.rules.specs.declared.Refusal.TheVariants.{TooShort}
 use Rattle.rules.specs.declared.Standing.{Standing}
 use Rattle.rules.specs.Members.{Name, unit, residual}

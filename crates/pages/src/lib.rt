@@ -1,6 +1,8 @@
 // pages: what the four-line display shows (document 02, R-13), drawn from plain numbers into a lent text: four lines of 20, 80 bytes in all, filled with
 // spaces; bytes past the 80th stay. A figure in its 16 places, a refusal's phrase, and the pages: a requirement's first, a member's, a refusal's. Refuses 12
 // for a text that is too short, with nothing written.
+#![tactic(auto)]
+
 mod amounts;
 pub mod figures;
 mod lines;
@@ -18,21 +20,21 @@ pub const LINE: usize = 20;
 pub const FIGURE: usize = 16;
 
 // A number by its sign and its size.
-#[derive(Drop)]
+#[derive(Clone, Copy)]
 pub(crate) struct Amount {
     pub(crate) below: bool,
     pub(crate) size: u64,
 }
 
 // Whose a page is: a member's, by its unit number (a group's by its primary's), or the residual's.
-#[derive(Drop)]
+#[derive(Clone, Copy)]
 pub enum Who {
     Unit(u16),
     Residual,
 }
 
 // The text is drawn, or the refusal.
-#[derive(Drop)]
+#[derive(Clone, Copy)]
 pub enum Drawn {
     Done,
     Refused(Refusal),

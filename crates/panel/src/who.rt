@@ -15,7 +15,7 @@ use interval::Tally;
 use pages::Who;
 use rules::Standing;
 
-#[derive(Drop)]
+#[derive(Clone, Copy)]
 pub(crate) struct Named {
     pub(crate) who: Who,
     pub(crate) standing: Standing,

@@ -1,12 +1,16 @@
 // printing: what every program that prints words and numbers does alike. A line of text is put together in a lent place and written whole to standard output.
 // Past the place's end nothing is put: no line is that long.
+#![tactic(auto)]
+
 ghost use Rattle.std.specs.Prelude.{◌≡◌, ◌≤◌};
 ghost use Rattle.printing.specs.Lines.{line, with_byte, with_bytes, with_word, with_number, with_below};
 
-use libc::STDOUT_FILENO;
 use listing::LINE;
 use listing::lines::refused_line;
 use rules::Located;
+
+// Standard output.
+const STDOUT_FILENO: i32 = 1;
 
 // The longest lines are those of 75 words of up to 8 signs, each after a blank: no more than 675 bytes.
 pub const TEXT: usize = 1024;

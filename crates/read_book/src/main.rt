@@ -1,10 +1,14 @@
 // read_book: a book on standard input, as text on standard output (document 02, R-4): what `write_book` makes the same book of. A book that `settle` refuses is
 // refused alike, with the one line `refused` and number, place and t. What goes wrong with reading or writing is told on standard error.
+#![tactic(auto)]
+
 mod lines;
 
 use intake::held::{HELD, Outcome, take_input};
-use libc::STDERR_FILENO;
 use printing::print_refused;
+
+// Standard error.
+const STDERR_FILENO: i32 = 2;
 
 fn reading_failed() {
     io::write_all(STDERR_FILENO, b"read_book: standard input cannot be read\n");
@@ -18,9 +22,10 @@ fn end(written: bool) {
 }
 
 // The buffers, in bytes: the book 193,137, a line of text 1,024, and what the calls are lent while the book is taken, 43,828.
-fn main() {
+fn main(rt: HostRuntime) {
+    let mut input = rt.stdin();
     let mut book = [0u8; HELD];
-    let outcome = take_input(&mut book);
+    let outcome = take_input(&mut input, &mut book);
     match outcome {
         Outcome::Taken(tally) => end(lines::print_book(tally.units, tally.requirements, &book)),
         Outcome::Refused(said) => end(print_refused(said)),

@@ -13,7 +13,6 @@ use borrow.Author.Tests.{leb-true, eq-eqb, ne_eqb}
 use Rattle.rules.specs.declared.Refusal.TheVariants.{EndsEarly}
 use Rattle.rules.specs.Refusals.{taken}
 use Rattle.rules.specs.Contents.{Counts, contents, contents_size, requirement_size}
-use Rattle.rules.specs.WholeBook.{book}
 use Rattle.laws.proofs.LimitsLaws.{passed}
 use Rattle.interval.specs.declared.Tally.{Tally}
 use Rattle.interval.specs.Tally.{before_units, units_end, book_end}

@@ -25,7 +25,7 @@ use Rattle.reader.specs.declared.Reading.{Reading}
 use Rattle.reader.specs.declared.Reading.TheVariants.{Contents, Record}
 use Rattle.reader.specs.declared.Wanted.{Wanted}
 use Rattle.reader.specs.declared.Came.{Came}
-use Rattle.reader.specs.Reading.{asked, wanted_part}
+use Rattle.reader.specs.Reading.{wanted_part}
 use Rattle.reader.specs.Arrives.{Arrives, ReadOutcome, Reads, arrives, book_size, starts}
 use Rattle.reader.proofs.ReadingLaws.{asked_of_many}
 use Rattle.reader.proofs.Arrives.{Stands, part_alike}

@@ -3,7 +3,7 @@ use super::{read, say};
 
 // How far a line has come: 0 in the kind, 1 in the context, 2 in the bytes, of which `count` are there and perhaps the upper half
 // of one more.
-#[derive(Drop)]
+#[derive(Clone, Copy)]
 struct Line {
     part: u8,
     kind: u8,
@@ -13,7 +13,7 @@ struct Line {
     upper: u8,
 }
 
-#[derive(Drop)]
+#[derive(Clone, Copy)]
 struct Passed {
     line: Line,
     more: bool,

@@ -1,8 +1,10 @@
 // Words and numbers of an answer.
 ghost use Rattle.std.specs.Prelude.{pos, negsuc, ◌<ℤ◌, ◌≤ℤ◌};
 
-use libc::STDOUT_FILENO;
 use rules::Refusal;
+
+// Standard output.
+const STDOUT_FILENO: i32 = 1;
 
 pub(crate) fn taken() {
     io::write_all(STDOUT_FILENO, &[b't', b'a', b'k', b'e', b'n']);

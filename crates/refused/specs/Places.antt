@@ -1,7 +1,7 @@
 -- Where a refusal is (02, R-1): each number of a record at a place behind the first, with a t behind the first; books that end early; two faults in one record,
 -- in both orders; and faults in two records, of which the earlier is told. The book has regions at 64, 432, 800, 1168 and 1536, units at 1904 and 2276,
 -- requirements at 2648 and 2672; what stands before the units is computed once.
-use Rattle.std.specs.Prelude.{◌≡◌, refl, List, [], ◌∷◌, ◌++◌, map, ℕ, take}
+use Rattle.std.specs.Prelude.{◌≡◌, refl, [], ◌∷◌, ◌++◌, map, take}
 use Rattle.integers.specs.Totals.{all}
 use Rattle.books.specs.Computing.{computing}
 use Rattle.books.specs.Told.{no}

@@ -1,6 +1,6 @@
 -- What the book writer refuses (02, R-4), with number, place and t: by the counts, in the settings and in the regions, each also for a number that does not fit
 -- its field, and two faults in both orders. WriterUnits has units and requirements.
-use Rattle.std.specs.Prelude.{◌≡◌, refl, List, [], ◌∷◌, map, ℕ, ◌*◌, pos, replicate, take}
+use Rattle.std.specs.Prelude.{◌≡◌, refl, [], ◌∷◌, map, ℕ, ◌*◌, pos, replicate, take}
 use Rattle.rules.specs.Given.{Given}
 use Rattle.rules.specs.Written.{written}
 use Rattle.books.specs.Computing.{computing}

@@ -1,6 +1,8 @@
 // report: a book on standard input, and its performance report on standard output, a row a line (document 02, R-11); the one argument there may be is the
 // report's version. Nothing is printed before the book has ended. A book that `settle` refuses is refused alike, with the one line `refused` and number, place
 // and t, and so is an interval that ends past the year 9999. What goes wrong with arguments, reading or writing is told on standard error.
+#![tactic(auto)]
+
 mod rows;
 mod version;
 
@@ -8,11 +10,14 @@ use book::POINTS;
 use intake::whole::{Next, take_book};
 use intake::{RECORDS, UNITS};
 use interval::{FIGURES_LENGTH, ROWS_LENGTH, SERIES_LENGTH, SUMS_LENGTH};
-use libc::{STDERR_FILENO, STDIN_FILENO};
 use printing::print_refused;
 use rows::print_rows;
 use rules::{Refusal, locate};
+use std::io::Stdin;
 use version::{Asked, what_is_asked};
+
+// Standard error.
+const STDERR_FILENO: i32 = 2;
 
 fn reading_failed() {
     io::write_all(STDERR_FILENO, b"report: standard input cannot be read\n");
@@ -39,7 +44,7 @@ fn usage() {
 //   rows of text 4,096, the line of a refusal 165 (`printing`)
 //   the argument 20, five of a unit's readings 20 (`units`)
 // Together 48,898.
-fn tell(version: u16) {
+fn tell(version: u16, input: &mut Stdin) {
     let mut measures = [0i32; SERIES_LENGTH];
     let mut sums = [0i64; SUMS_LENGTH];
     let mut figures = [0i64; FIGURES_LENGTH];
@@ -50,7 +55,7 @@ fn tell(version: u16) {
     let mut deviations = [0i64; POINTS];
     let mut bytes = [0u8; RECORDS];
     let next = take_book(
-        STDIN_FILENO,
+        input,
         true,
         &mut bytes,
         &mut measures,
@@ -70,9 +75,10 @@ fn tell(version: u16) {
     }
 }
 
-fn main() {
-    match what_is_asked() {
-        Asked::Version(version) => tell(version),
+fn main(rt: HostRuntime) {
+    let mut input = rt.stdin();
+    match what_is_asked(&rt) {
+        Asked::Version(version) => tell(version, &mut input),
         Asked::Nothing => usage(),
     }
 }

@@ -5,17 +5,19 @@ use answer::ReportFound;
 use answer::report::report;
 use intake::UNITS;
 use interval::{FIGURES_LENGTH, ROWS_LENGTH, Tally};
-use libc::STDOUT_FILENO;
 use printing::print_refused;
 use report_row::write::write_row;
 use report_row::{ROW_MOST, RowWritten};
 use rules::{Refusal, ReportRow, locate};
 
+// Standard output.
+const STDOUT_FILENO: i32 = 1;
+
 // So many bytes of rows are gathered at most.
 const GATHERED: usize = 4_096;
 
 // The rows that are gathered end there, or the report is over, and it was written or not.
-#[derive(Drop)]
+#[derive(Clone, Copy)]
 enum Turn {
     On(usize),
     Over(bool),

@@ -3,6 +3,7 @@ ghost use Rattle.std.specs.Prelude.{◌≡◌};
 ghost use Rattle.numerals.specs.Numerals.{blank};
 ghost use Rattle.report.specs.Version.{bytes_added, version_of};
 
+use intake::arguments::{argument, argument_count};
 use numerals::{Word, longer, no_word};
 
 // The version where none is given.
@@ -13,7 +14,7 @@ const MOST: u64 = 65_535;
 // The longest argument that is looked at: a longer one has no place, so that nothing is there of it, and nothing is no number.
 const LONGEST: usize = 20;
 
-#[derive(Drop)]
+#[derive(Clone, Copy)]
 pub(crate) enum Asked {
     Version(u16),
     Nothing,
@@ -56,8 +57,8 @@ fn version_in(bytes: &[u8]) -> Asked
     version_of(word_of(bytes))
 }
 
-pub(crate) fn what_is_asked() -> Asked {
-    let arguments = os::arg_count();
+pub(crate) fn what_is_asked(rt: &HostRuntime) -> Asked {
+    let arguments = argument_count(rt);
     if arguments == 1 {
         return Asked::Version(FIRST);
     }
@@ -65,6 +66,6 @@ pub(crate) fn what_is_asked() -> Asked {
         return Asked::Nothing;
     }
     let mut bytes = [0u8; LONGEST];
-    let count = os::arg(1, &mut bytes);
+    let count = argument(rt, 1, &mut bytes);
     version_in(&bytes[..count])
 }

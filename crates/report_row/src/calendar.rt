@@ -7,7 +7,7 @@ ghost use Rattle.report_row.specs.Dates.{date_of, Dated, last_day, month_in};
 const FIRST_YEAR: u32 = 2_000;
 
 // A date as people count it: month and day from 1.
-#[derive(Drop)]
+#[derive(Clone, Copy)]
 pub(crate) struct Date {
     pub(crate) year: u16,
     pub(crate) month: u8,

@@ -25,31 +25,31 @@ const BILLIONTHS_MOST: u64 = 1_229_782_938_247_303_441;
 const NUMBER_MOST: u64 = 65_535;
 
 // What a column is read as; or it is none that the writer makes.
-#[derive(Drop)]
+#[derive(Clone, Copy)]
 pub(crate) enum IntervalRead {
     Is(u32),
     Wrong,
 }
 
-#[derive(Drop)]
+#[derive(Clone, Copy)]
 pub(crate) enum WhoseRead {
     Is(Reported),
     Wrong,
 }
 
-#[derive(Drop)]
+#[derive(Clone, Copy)]
 pub(crate) enum PerformanceRead {
     Is(i64),
     Wrong,
 }
 
-#[derive(Drop)]
+#[derive(Clone, Copy)]
 pub(crate) enum TypeRead {
     Is(FigureType),
     Wrong,
 }
 
-#[derive(Drop)]
+#[derive(Clone, Copy)]
 pub(crate) enum VersionRead {
     Is(u16),
     Wrong,

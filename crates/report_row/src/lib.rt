@@ -1,5 +1,7 @@
 // report_row: a row of the performance report as text, and such a text read back (document 02, R-11). A row is put together from its end, as a line of the
 // listing is; a column that is read is right if it is what the writer makes of what it says, so reading writes it again and compares.
+#![tactic(auto)]
+
 use rules::{Refusal, ReportRow};
 
 mod calendar;
@@ -17,14 +19,14 @@ pub const ROW_MOST: usize = 106;
 pub const LAST_INTERVAL: u32 = 841_518_719;
 
 // The row is written and so long, or nothing is.
-#[derive(Drop)]
+#[derive(Clone, Copy)]
 pub enum RowWritten {
     Length(u32),
     Refused(Refusal),
 }
 
 // The row that was read, its performances in billionths; or 18 with its first wrong column.
-#[derive(Drop)]
+#[derive(Clone, Copy)]
 pub enum RowRead {
     Read(ReportRow),
     Refused(Refusal),

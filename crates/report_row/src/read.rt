@@ -11,14 +11,14 @@ use super::columns_in::{
 use rules::{Figure, Refusal, ReportRow, Reported};
 
 // Where a column ends, and where the next one starts.
-#[derive(Drop)]
+#[derive(Clone, Copy)]
 struct Column {
     end: usize,
     next: usize,
 }
 
 // A performance with its type, and where the column behind them starts; or which of the two is wrong.
-#[derive(Drop)]
+#[derive(Clone, Copy)]
 enum FigureRead {
     Is(Figure, usize),
     Wrong(u8),

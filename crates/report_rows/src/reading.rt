@@ -3,10 +3,10 @@ ghost use Rattle.std.specs.Prelude.{◌≡◌, ◌≤◌};
 ghost use Rattle.report_rows.specs.Rows.{row_ends};
 
 use super::words::{print_refusal, print_row};
-use libc::STDIN_FILENO;
 use printing::TEXT;
 use report_row::RowRead;
 use report_row::read::read_row;
+use std::io::{Read, Stdin};
 
 // So many bytes of a row are held, one more than the longest has. Where they have no line feed, a column among them is wrong, and the same one as in the whole
 // row: the right columns before it end within 106 bytes; it ends within these bytes too, or is cut here and then already longer than any right column at that
@@ -14,21 +14,21 @@ use report_row::read::read_row;
 const HELD: usize = 107;
 
 // The number of the row that is being read, from 1, and how many of its bytes are held.
-#[derive(Drop)]
+#[derive(Clone, Copy)]
 struct Reading {
     row: u64,
     held: usize,
 }
 
 // How the rows ended: all were told, or the first one that is refused; or they cannot be read, or written.
-#[derive(Drop)]
+#[derive(Clone, Copy)]
 pub(crate) enum Ending {
     Told,
     Unread,
     Unwritten,
 }
 
-#[derive(Drop)]
+#[derive(Clone, Copy)]
 enum Turn {
     On(Reading),
     Over(Ending),
@@ -140,13 +140,16 @@ fn last_row(reading: Reading, bytes: &[u8; HELD], text: &mut [u8; TEXT]) -> Turn
     turn
 }
 
-fn read_piece(reading: Reading, bytes: &mut [u8; HELD], text: &mut [u8; TEXT]) -> Turn {
+fn read_piece(
+    input: &mut Stdin,
+    reading: Reading,
+    bytes: &mut [u8; HELD],
+    text: &mut [u8; TEXT],
+) -> Turn {
     let mut piece = io::buffer();
-    let got = libc::read(STDIN_FILENO, &mut piece);
-    if got < 0 {
+    let Ok(count) = input.read(&mut piece) else {
         return Turn::Over(Ending::Unread);
-    }
-    let count = io::count(got, &piece);
+    };
     if count == 0 {
         return last_row(reading, bytes, text);
     }
@@ -154,14 +157,14 @@ fn read_piece(reading: Reading, bytes: &mut [u8; HELD], text: &mut [u8; TEXT]) -
 }
 
 // The rows to their end, or to the first one that is refused. No report has as many pieces as `left` counts: it says that the loop ends.
-pub(crate) fn read_rows() -> Ending {
+pub(crate) fn read_rows(input: &mut Stdin) -> Ending {
     let mut bytes = [0u8; HELD];
     let mut text = [0u8; TEXT];
     let mut reading = Reading { row: 1, held: 0 };
     let mut left = u64::MAX;
     while left > 0 {
         left -= 1;
-        let turn = read_piece(reading, &mut bytes, &mut text);
+        let turn = read_piece(input, reading, &mut bytes, &mut text);
         match turn {
             Turn::On(next) => {
                 reading = next;

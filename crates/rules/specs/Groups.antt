@@ -1,6 +1,6 @@
 -- Whether a unit may stand where it stands in its group (02, R-5): refused with 16 are a group that was left and returns, a group in two regions, and a
 -- default off the primary.
-use Rattle.std.specs.Prelude.{Bool, true, cond, not, ◌&&◌, ◌||◌, List, [], ◌∷◌, ℕ, eqb, ℤ, pos, nat_abs}
+use Rattle.std.specs.Prelude.{Bool, true, cond, not, ◌&&◌, ◌||◌, List, [], ◌∷◌, ℕ, eqb, ℤ, nat_abs}
 use Rattle.rules.specs.declared.Refusal.TheVariants.{WrongGroup}
 use Rattle.rules.specs.Refusals.{Reply, taken, unless}
 use Rattle.rules.specs.Book.{ByDirection, Defaults, Unit}

@@ -1,6 +1,6 @@
 -- The book writer (02, R-4): a book's bytes from what is handed in, or a refusal. Each record is judged as the reader judges its bytes, and a number that does
 -- not fit its field breaks that field's rule.
-use Rattle.std.specs.Prelude.{Bool, ◌&&◌, List, [], ◌∷◌, ◌++◌, ℕ, zero, suc, ◌+◌, ◌*◌, leb, eqb, pos, length}
+use Rattle.std.specs.Prelude.{Bool, ◌&&◌, List, [], ◌∷◌, ◌++◌, ℕ, zero, suc, ◌+◌, ◌*◌, leb, eqb, length}
 use Rattle.rules.specs.declared.Refusal.TheVariants.{TooShort, WrongCount}
 use Rattle.rules.specs.Quantities.{points, regions, most_units, most_requirements}
 use Rattle.rules.specs.Refusals.{Reply, LocatedReply, taken, at, located, unless, ◌>>=◌}

@@ -1,5 +1,7 @@
 // rules: what the interval calculator works out, as definitions. They stand in specs/, in the order in which a book is read and
 // worked through. Here are the few types that definitions and code share, and the number of a refusal.
+#![tactic(auto)]
+
 ghost use Rattle.std.specs.Prelude.{◌≡◌};
 ghost use Rattle.rules.specs.Refusals.{number, point, located};
 
@@ -9,34 +11,34 @@ pub const MOST_UNITS: u16 = 512;
 pub const BILLION: u64 = 1_000_000_000;
 
 // Raise is wanted where frequency is low, lower where it is high. Every rule is one definition, by the direction.
-#[derive(Drop)]
+#[derive(Clone, Copy)]
 pub enum Direction {
     Raise,
     Lower,
 }
 
-#[derive(Drop)]
+#[derive(Clone, Copy)]
 pub enum Kind {
     Generation,
     Load,
 }
 
 // Why a default stands in.
-#[derive(Drop)]
+#[derive(Clone, Copy)]
 pub enum Reason {
     UnreliableRegion,
     BadUnit,
     NoGoodUnit,
 }
 
-#[derive(Drop)]
+#[derive(Clone, Copy)]
 pub enum Standing {
     Live,
     Default(Reason),
 }
 
 // Whose week of record a default is worked out from: a unit's, that of a group of so many units, or one region's residual's.
-#[derive(Drop)]
+#[derive(Clone, Copy)]
 pub enum Whose {
     Unit,
     Group(u16),
@@ -44,7 +46,7 @@ pub enum Whose {
 }
 
 // How many intervals of a week were live, and the default that they give.
-#[derive(Drop)]
+#[derive(Clone, Copy)]
 pub struct WeekDefault {
     pub count: u16,
     pub default: i64,
@@ -52,7 +54,7 @@ pub struct WeekDefault {
 
 // A week of record while it runs: the intervals seen, how many of them were live, and the total of what the live ones fell short by, in two
 // digits, `high` of what a residual can reach in one interval, and `low`.
-#[derive(Drop)]
+#[derive(Clone, Copy)]
 pub struct RunningWeek {
     pub seen: u16,
     pub live: u16,
@@ -61,14 +63,14 @@ pub struct RunningWeek {
 }
 
 // A side of the performances: those above zero, or those below.
-#[derive(Drop)]
+#[derive(Clone, Copy)]
 pub enum Side {
     Positive,
     Negative,
 }
 
 // What is wrong with a sheet of factors: nothing, its first wrong member, from 1, or the side whose sum is off.
-#[derive(Drop)]
+#[derive(Clone, Copy)]
 pub enum Verdict {
     Possible,
     WrongMember(u16),
@@ -77,7 +79,7 @@ pub enum Verdict {
 
 // What the box says no with, in the order of the numbers 1 to 6, 9 to 12, 14 to 18, 71 to 74 and 81 to 84. None has the number 7, 8 or 13, and none
 // will (02, R-1 and R-10). A refused point or reading says which, t = 1 to 75, and a report's row its first wrong column, 1 to 7.
-#[derive(Drop)]
+#[derive(Clone, Copy)]
 pub enum Refusal {
     EndsEarly,
     WrongMark,
@@ -105,14 +107,14 @@ pub enum Refusal {
 }
 
 // A refusal, and the place in its body of the record that it is about, from 1; 0 where there is none.
-#[derive(Drop)]
+#[derive(Clone, Copy)]
 pub struct Located {
     pub refusal: Refusal,
     pub place: u16,
 }
 
 // The small record of a trend strip, in MW: its lowest, its highest and its last point.
-#[derive(Drop)]
+#[derive(Clone, Copy)]
 pub struct Strip {
     pub lowest: f32,
     pub highest: f32,
@@ -120,7 +122,7 @@ pub struct Strip {
 }
 
 // A unit's trend: its strip was drawn; or the unit is bad, nothing was drawn, and the record holds zeros; or a refusal.
-#[derive(Drop)]
+#[derive(Clone, Copy)]
 pub enum Trend {
     Drawn(Strip),
     Bad(Strip),
@@ -128,7 +130,7 @@ pub enum Trend {
 }
 
 // The five regions, by the names that they print as.
-#[derive(Drop)]
+#[derive(Clone, Copy)]
 pub enum RegionName {
     Qld1,
     Nsw1,
@@ -138,28 +140,28 @@ pub enum RegionName {
 }
 
 // Whose a row of the performance report is: a member's, by its unit number (a group's by its primary's), or a region's residual's.
-#[derive(Drop)]
+#[derive(Clone, Copy)]
 pub enum Reported {
     Unit(u16),
     Residual(RegionName),
 }
 
 // The type of a report's performance: it was calculated, or a default stands in.
-#[derive(Drop)]
+#[derive(Clone, Copy)]
 pub enum FigureType {
     Calculated,
     Default,
 }
 
 // A performance with its type.
-#[derive(Drop)]
+#[derive(Clone, Copy)]
 pub struct Figure {
     pub performance: i64,
     pub typed: FigureType,
 }
 
 // A row of the performance report. Raise and lower are performances where a row is written, and billionths of a MWHz where one was read.
-#[derive(Drop)]
+#[derive(Clone, Copy)]
 pub struct ReportRow {
     pub interval: u32,
     pub whose: Reported,
@@ -169,7 +171,7 @@ pub struct ReportRow {
 }
 
 // What a display shows: of which book, of which requirement, and which of its pages, 0 the first.
-#[derive(Drop)]
+#[derive(Clone, Copy)]
 pub struct Page {
     pub book: u32,
     pub requirement: u32,
@@ -177,7 +179,7 @@ pub struct Page {
 }
 
 // The panel's keys; `Show` is none of them, and draws again.
-#[derive(Drop)]
+#[derive(Clone, Copy)]
 pub enum Key {
     Show,
     Next,

@@ -1,15 +1,18 @@
 // settle: reads a book on standard input, as its bytes come, and prints its listing; on refusal the one line `refused` with number, place and t. Nothing is
 // printed before the book has ended. What goes wrong with reading or writing is told on standard error.
+#![tactic(auto)]
+
 mod output;
 
 use intake::whole::{Next, take_book};
 use intake::{MEMBERS, RECORDS, UNITS};
 use interval::{FIGURES_LENGTH, ROWS_LENGTH, SERIES_LENGTH, SUMS_LENGTH};
-use libc::STDIN_FILENO;
 use rules::{Refusal, locate};
+use std::io::Stdin;
 
 // Standard input, which holds one book and nothing behind it. The units' groups are of no use past this.
 fn read_book(
+    input: &mut Stdin,
     bytes: &mut [u8; RECORDS],
     measures: &mut [i32; SERIES_LENGTH],
     sums: &mut [i64; SUMS_LENGTH],
@@ -21,7 +24,7 @@ fn read_book(
 ) -> Next {
     let mut groups = [0u16; UNITS];
     take_book(
-        STDIN_FILENO,
+        input,
         true,
         bytes,
         measures,
@@ -40,10 +43,11 @@ fn read_book(
 //   units: numbers 1,024, homes 512, rows 32,768
 //   bytes 769
 //   columns: performances, factors, payments, used, unused 4,104 each; the first holds the deviations of a group while the book is read
-// Beside these 63,493, while the book is read: groups 1,024, and five of a unit's readings 20 (`units`); while its listing is printed: a text of 1,200, and a
-// share's counters 512 (`share`) or a line that is put together 165 (`lister`). At most 65,205 are in use at a time; the compiler keeps both sets side by side,
-// 66,414 in all (docs/DECISIONS.md, 170).
-fn main() {
+// Beside these 63,493, while the book is read: groups 1,024, and five of a unit's readings 20 (`units`); while its listing is printed: a text of 320, and a
+// share's counters 512 (`share`) or a line that is put together 165 (`lister`). All of them are 65,534, within 65,536; at most 64,537 are in use at a time, and
+// the compiler gives groups and text one place (docs/DECISIONS.md, 170).
+fn main(rt: HostRuntime) {
+    let mut input = rt.stdin();
     let mut measures = [0i32; SERIES_LENGTH];
     let mut sums = [0i64; SUMS_LENGTH];
     let mut figures = [0i64; FIGURES_LENGTH];
@@ -57,6 +61,7 @@ fn main() {
     let mut used = [0i64; MEMBERS];
     let mut unused = [0i64; MEMBERS];
     let next = read_book(
+        &mut input,
         &mut bytes,
         &mut measures,
         &mut sums,

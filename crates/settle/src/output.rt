@@ -8,28 +8,24 @@ ghost use Rattle.settle.specs.Printed.{ListingPrinted};
 
 use intake::{MEMBERS, RECORDS, UNITS};
 use interval::{FIGURES_LENGTH, ROWS_LENGTH, SERIES_LENGTH, SUMS_LENGTH, Tally};
-use libc::{STDERR_FILENO, STDOUT_FILENO};
 use lister::list::list;
 use lister::{Cursor, Listed};
 use listing::LINE;
 use listing::lines::refused_line;
 use rules::{Located, Refusal, locate};
 
-// So many bytes of the listing are written at a time, at most.
-const TEXT: usize = 1_200;
+// Standard error.
+const STDERR_FILENO: i32 = 2;
+
+// Standard output.
+const STDOUT_FILENO: i32 = 1;
+
+// So many bytes of the listing are written at a time, at most: as many as are left of 65,536 beside all other arrays, whole eights.
+const TEXT: usize = 320;
 
 // Whether all of it was written.
 fn write(file: i32, text: &[u8]) -> bool {
-    let mut done: usize = 0;
-    while done < text.len() {
-        let taken = libc::write(file, &text[done..]);
-        let more = io::count(taken, &text[done..]);
-        if more == 0 {
-            return false;
-        }
-        done += more;
-    }
-    true
+    io::write_all(file, text)
 }
 
 // Whether it was written to standard output; if not, that is told.

@@ -15,7 +15,7 @@ use crate::weights::{Source, WEIGHT_LIMIT, helpful_part, sum_of, unhelpful_part,
 use rules::{Refusal, Side};
 
 // What is found: all members are right, the first wrong one, from 1, or the refusal.
-#[derive(Drop)]
+#[derive(Clone, Copy)]
 pub enum Judged {
     Right,
     Wrong(usize),

@@ -1,6 +1,8 @@
 // share: a total over weights, to the unit, by largest remainder (document 01, The share; document 02, R-9), in words of 64 bits. The weights are lent, or
 // they are one side of the lent performances; nothing else is lent but the column that the amounts go to. `exact` holds amounts that others worked out
 // against the exact shares (document 02, R-12).
+#![tactic(auto)]
+
 mod cut;
 pub mod exact;
 mod left_overs;
@@ -23,21 +25,21 @@ use weights::{Source, WEIGHT_LIMIT, members, sum_of};
 const TOTAL_LIMIT: u64 = 1_000_000_000_000;
 
 // How much is unplaced, or the refusal.
-#[derive(Drop)]
+#[derive(Clone, Copy)]
 pub enum Shared {
     Placed(u64),
     Refused(Refusal),
 }
 
 // The same for both signs: how much is unplaced of the positive side and of the negative, or the refusal.
-#[derive(Drop)]
+#[derive(Clone, Copy)]
 pub enum SharedSigns {
     Placed(u64, u64),
     Refused(Refusal),
 }
 
 // What the tests of a share find: W, that no member has weight, or the refusal.
-#[derive(Drop)]
+#[derive(Clone, Copy)]
 enum Tested {
     Ready(u64),
     Weightless,

@@ -1,4 +1,4 @@
-// The whole part of T·weight/W and its remainder, with no division for each weight. Once for a share T is taken apart, T = typeof.whole.W + rest,
+// The whole part of T·weight/W and its remainder, with no division for each weight. Once for a share T is taken apart, T = whole·W + rest,
 // and rest·2^64/W is worked out, rounded down. Its product with a weight, less the lower 64 bits, is the quotient of rest·weight or one
 // less; what then remains is below 2·W, so that it is exact in words of 64 bits, and is put right by at most one.
 ghost use Rattle.std.specs.Prelude.{◌≡◌, ◌+◌, ◌*◌, ◌/◌, ◌%◌, ◌^◌, ◌<◌, ◌≤◌};
@@ -10,14 +10,14 @@ use std::num::{wrapping_add_u64, wrapping_sub_u64};
 
 const HALF: u64 = 0x1_0000_0000;
 
-#[derive(Drop)]
+#[derive(Clone, Copy)]
 pub(crate) struct Part {
     pub(crate) whole: u64,
     pub(crate) rest: u64,
 }
 
 // What a share prepares: T/W and T mod W, the ratio rest·2^64/W, and W.
-#[derive(Drop)]
+#[derive(Clone, Copy)]
 pub(crate) struct Rate {
     pub(crate) whole: u64,
     pub(crate) rest: u64,

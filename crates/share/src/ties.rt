@@ -7,7 +7,7 @@ ghost use Rattle.rules.specs.Quantities.{weight_limit};
 ghost use Rattle.share.specs.Keys.{Tied, lead_of};
 
 // The greatest common divisor less 1, and how many bits of a weight tell none apart.
-#[derive(Drop)]
+#[derive(Clone, Copy)]
 pub(crate) struct Ties {
     pub(crate) most: u64,
     pub(crate) shift: u32,

@@ -7,7 +7,7 @@ ghost use Rattle.share.specs.Weighing.{weighed, signed, sum_of, limited};
 
 pub(crate) const WEIGHT_LIMIT: u64 = 6_010_000_000_000_000_000;
 
-#[derive(Drop)]
+#[derive(Clone, Copy)]
 pub(crate) enum Source {
     Lent,
     Helpful,

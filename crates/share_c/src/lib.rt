@@ -1,4 +1,6 @@
 // share_c: the share as C and Rust can call it, to compare it with other programs and to measure it.
+#![tactic(auto)]
+
 ghost use Rattle.share_c.specs.Promises.{Told};
 
 use rules::refusal_number;

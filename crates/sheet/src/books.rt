@@ -7,6 +7,7 @@ use answer::call::answer;
 use answer::roster::member;
 use answer::{Answer, Answered, Row};
 use book::{POINTS, REQUIREMENT};
+use intake::arguments::{argument, open_book};
 use intake::whole::{Next, take_book};
 use intake::{MEMBERS, RECORDS, UNITS};
 use interval::{FIGURES_LENGTH, ROWS_LENGTH, SERIES_LENGTH, SUMS_LENGTH, Tally};
@@ -14,12 +15,14 @@ use little::u16_at;
 use numerals::{Word, longer, no_word};
 use rules::{Refusal, Verdict, locate};
 use sheets::Told;
+use std::fs::File;
+use std::io::Stdin;
 
 // Where the last requirement starts that a book has room for.
 const LAST: usize = 744;
 
 // Who a member is. Of a book that was taken no row is refused; if one were, that would be passed on.
-#[derive(Drop)]
+#[derive(Clone, Copy)]
 enum Name {
     Unit(u16),
     Residual,
@@ -108,6 +111,7 @@ fn tell_named(
 
 // The factors from standard input, beside the answer's performances.
 fn judge_factors(
+    input: &mut Stdin,
     given: Answer,
     performances: &[i64],
     tally: Tally,
@@ -117,7 +121,7 @@ fn judge_factors(
 ) {
     let mut buffer = io::buffer();
     let mut factors = [0i64; PLACES];
-    let read = lines::read_line(lines::fresh(), &mut buffer, &mut factors);
+    let read = lines::read_line(input, lines::fresh(), &mut buffer, &mut factors);
     let line = read.line;
     let Line::Numbers(count) = line else {
         output::no_line(line, 1);
@@ -131,6 +135,7 @@ fn judge_factors(
 
 // The answer to the requirement that starts there.
 fn judge_part(
+    input: &mut Stdin,
     start: usize,
     tally: Tally,
     bytes: &[u8; RECORDS],
@@ -166,7 +171,7 @@ fn judge_part(
     );
     match answered {
         Answered::Given(given) => {
-            judge_factors(given, &performances, tally, figures, numbers, homes)
+            judge_factors(input, given, &performances, tally, figures, numbers, homes)
         }
         Answered::Refused(refusal) => output::refused(locate(0, refusal)),
     }
@@ -183,7 +188,7 @@ fn untaken(next: Next) {
 }
 
 // The requirement with this number of an open book.
-fn judge_file(file: i32, wanted: u64) {
+fn judge_file(input: &mut Stdin, file: &mut File, wanted: u64) {
     let mut bytes = [0u8; RECORDS];
     let mut measures = [0i32; SERIES_LENGTH];
     let mut sums = [0i64; SUMS_LENGTH];
@@ -216,7 +221,7 @@ fn judge_file(file: i32, wanted: u64) {
         return;
     }
     judge_part(
-        start, tally, &bytes, &measures, &sums, &figures, &numbers, &homes, &rows,
+        input, start, tally, &bytes, &measures, &sums, &figures, &numbers, &homes, &rows,
     );
 }
 
@@ -243,21 +248,21 @@ fn is_plain(word: Word) -> bool {
 }
 
 // The book and the number that the arguments name.
-pub(crate) fn judge_book() {
+pub(crate) fn judge_book(rt: &HostRuntime, input: &mut Stdin) {
     let mut name = io::buffer();
     let mut digits = [0u8; 32];
-    let length = os::arg(1, &mut name);
-    let places = os::arg(2, &mut digits);
+    let length = argument(rt, 1, &mut name);
+    let places = argument(rt, 2, &mut digits);
     let word = word_in(&digits[..places]);
     if !is_plain(word) {
         output::usage();
         return;
     }
-    let file = os::open_read(&name[..length]);
-    if file < 0 {
-        os::fail(&name[..length]);
-        return;
+    match open_book(rt, &name[..length]) {
+        Ok(opened) => {
+            let mut file = opened;
+            judge_file(input, &mut file, word.size);
+        }
+        Err(error) => output::unopened(rt, &name[..length], &error),
     }
-    judge_file(file, word.size);
-    libc::close(file);
 }

@@ -2,49 +2,49 @@
 ghost use Rattle.std.specs.Prelude.{◌≤◌};
 
 use super::output;
-use libc::STDIN_FILENO;
 use numerals::{Value, Word, longer, no_word, number_in};
 use sheets::{Told, sheet};
+use std::io::{Read as _, Stdin};
 
 // One more than a sheet can have: what comes past that many is counted no further.
 pub(crate) const PLACES: usize = 514;
 
 // Where the next byte stands in the buffer, and where those end that were read.
-#[derive(Drop)]
+#[derive(Clone, Copy)]
 pub(crate) struct Input {
     pub(crate) at: usize,
     pub(crate) end: usize,
 }
 
-#[derive(Drop)]
+#[derive(Clone, Copy)]
 enum Byte {
     Is(u8),
     Ended,
     Failed,
 }
 
-#[derive(Drop)]
+#[derive(Clone, Copy)]
 struct Came {
     byte: Byte,
     input: Input,
 }
 
 // How many numbers a line has, that it has a word which is none, or that it cannot be read.
-#[derive(Drop)]
+#[derive(Clone, Copy)]
 pub(crate) enum Line {
     Numbers(usize),
     NoNumber,
     Failed,
 }
 
-#[derive(Drop)]
+#[derive(Clone, Copy)]
 pub(crate) struct Read {
     pub(crate) line: Line,
     pub(crate) input: Input,
 }
 
 // A line so far: its numbers, whether every word was one, and the word that is being read.
-#[derive(Drop)]
+#[derive(Clone, Copy)]
 struct Reading {
     count: usize,
     fine: bool,
@@ -56,15 +56,13 @@ pub(crate) fn fresh() -> Input {
 }
 
 // Reads on, and gives the first byte that came.
-fn refill(buffer: &mut [u8]) -> Came {
-    let got = libc::read(STDIN_FILENO, buffer);
-    if got < 0 {
+fn refill(file: &mut Stdin, buffer: &mut [u8]) -> Came {
+    let Ok(end) = file.read(buffer) else {
         return Came {
             byte: Byte::Failed,
             input: fresh(),
         };
-    }
-    let end = io::count(got, buffer);
+    };
     if end == 0 {
         return Came {
             byte: Byte::Ended,
@@ -77,7 +75,7 @@ fn refill(buffer: &mut [u8]) -> Came {
     }
 }
 
-fn next_byte(input: Input, buffer: &mut [u8]) -> Came {
+fn next_byte(file: &mut Stdin, input: Input, buffer: &mut [u8]) -> Came {
     let at = input.at;
     let end = input.end;
     if at < end {
@@ -88,7 +86,7 @@ fn next_byte(input: Input, buffer: &mut [u8]) -> Came {
             };
         }
     }
-    refill(buffer)
+    refill(file, buffer)
 }
 
 // Where a word ends, its number is noted.
@@ -147,7 +145,12 @@ fn told(reading: Reading) -> Line {
 }
 
 // A line, to its end or the input's. No line has as many bytes as `left` counts: it says that the loop ends.
-pub(crate) fn read_line(from: Input, buffer: &mut [u8], numbers: &mut [i64]) -> Read {
+pub(crate) fn read_line(
+    file: &mut Stdin,
+    from: Input,
+    buffer: &mut [u8],
+    numbers: &mut [i64],
+) -> Read {
     let mut input = from;
     let mut reading = Reading {
         count: 0,
@@ -156,7 +159,7 @@ pub(crate) fn read_line(from: Input, buffer: &mut [u8], numbers: &mut [i64]) -> 
     };
     let mut left = u64::MAX;
     while left > 0 {
-        let next = next_byte(input, buffer);
+        let next = next_byte(file, input, buffer);
         input = next.input;
         let came = next.byte;
         let Byte::Is(byte) = came else {
@@ -206,18 +209,18 @@ pub(crate) fn judge(performances: &[i64], members: usize, factors: &[i64], count
 }
 
 // Both lines from standard input.
-pub(crate) fn judge_lines() {
+pub(crate) fn judge_lines(file: &mut Stdin) {
     let mut buffer = io::buffer();
     let mut performances = [0i64; PLACES];
     let mut factors = [0i64; PLACES];
-    let first = read_line(fresh(), &mut buffer, &mut performances);
+    let first = read_line(file, fresh(), &mut buffer, &mut performances);
     let line = first.line;
     let Line::Numbers(members) = line else {
         output::no_line(line, 1);
         return;
     };
     let input = first.input;
-    let second = read_line(input, &mut buffer, &mut factors);
+    let second = read_line(file, input, &mut buffer, &mut factors);
     let line = second.line;
     let Line::Numbers(count) = line else {
         output::no_line(line, 2);

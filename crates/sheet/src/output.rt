@@ -1,8 +1,14 @@
 // The one line on standard output, or why there is none on standard error.
 use super::lines::Line;
-use libc::{STDERR_FILENO, STDOUT_FILENO};
 use rules::{Located, Side, Verdict, locate, refusal_number, refusal_point};
 use sheets::Told;
+use std::io::Error;
+
+// Standard error.
+const STDERR_FILENO: i32 = 2;
+
+// Standard output.
+const STDOUT_FILENO: i32 = 1;
 
 fn unwritten() {
     io::write_all(STDERR_FILENO, b"sheet: the line cannot be written\n");
@@ -94,6 +100,12 @@ pub(crate) fn no_line(line: Line, place: u64) {
         return;
     }
     io::write_all(STDERR_FILENO, b"sheet: standard input cannot be read\n");
+}
+
+// What was to be opened, and why it was not.
+pub(crate) fn unopened(rt: &HostRuntime, name: &[u8], error: &Error) {
+    io::write_all(STDERR_FILENO, name);
+    let _ = eprintln!(rt; ": {error}");
 }
 
 pub(crate) fn unread() {

@@ -1,5 +1,7 @@
 // sheets: is a factor sheet possible (document 02, R-12)? A bureau's factors, in billionths, are held against a requirement's performances: each against its
 // exact share by `share`, then each side's sum.
+#![tactic(auto)]
+
 ghost use Rattle.std.specs.Prelude.{◌≡◌};
 ghost use Rattle.rules.specs.Sheet.{side_right};
 ghost use Rattle.sheets.specs.Promises.{AllRight, sides_verdict, SheetPromise};
@@ -11,7 +13,7 @@ use share::exact::{Judged, first_wrong, side_sum};
 const MOST_MEMBERS: usize = 513;
 
 // The verdict, or the refusal.
-#[derive(Drop)]
+#[derive(Clone, Copy)]
 pub enum Told {
     Is(Verdict),
     Refused(Refusal),

@@ -1,5 +1,7 @@
 // strip: the trend strip of one unit for a display (02, R-2): 75 points in MW in a lent list, and a small record of lowest, highest and last by value. It
 // takes the unit's record alone, so that it can be drawn before, after or without adding the unit.
+#![tactic(auto)]
+
 ghost use Rattle.strip.specs.Promise.{TrendPromise};
 
 use book::unit::read_unit;

@@ -6,7 +6,7 @@ use intake::held::{HELD, record_at};
 use printing::TEXT;
 
 // How a unit is told.
-#[derive(Drop)]
+#[derive(Clone, Copy)]
 pub(crate) enum Form {
     Text,
     Bits,

@@ -1,7 +1,14 @@
 // unit_call: takes a frequency record of region 0 and then three units' records from standard input, so that bench/unit_call can count what a unit call
 // executes. It prints how many records the tally counts after the second and after the third, and on which side of zero the first numbers of the lists are.
+#![tactic(auto)]
+
 use interval::Tally;
-use libc::{STDIN_FILENO, STDOUT_FILENO};
+
+// Standard input.
+const STDIN_FILENO: i32 = 0;
+
+// Standard output.
+const STDOUT_FILENO: i32 = 1;
 
 // The book, five regions and 511 units: a unit after them is the last, and looks for its group among all the others'.
 const BEFORE_LAST: u16 = 517;

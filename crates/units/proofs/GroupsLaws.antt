@@ -1,5 +1,5 @@
 -- Laws of the definitions in specs/Groups.antt.
-use Rattle.std.proofs.Common.{◌≡◌, ℕ, zero, suc, ◌+◌, ◌-◌, ◌<◌, ◌≤◌, Bool, true, false, cond, not, ◌&&◌, List, ℤ, pos, sym, refl, ap, ◌∙◌, ap₂, add-zero, add-suc, add-one, arith}
+use Rattle.std.proofs.Common.{◌≡◌, ℕ, zero, suc, ◌+◌, ◌-◌, ◌≤◌, Bool, true, false, ◌&&◌, ℤ, sym, refl, ap, ◌∙◌, ap₂, add-zero, add-one, arith}
 use Rattle.integers.specs.Bounds.{Within}
 use Rattle.integers.proofs.Bounds.{within_natural}
 use Rattle.integers.specs.Sums.{every, when}

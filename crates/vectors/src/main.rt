@@ -3,12 +3,19 @@
 // trajectory, 28.89 MW to 31.11. It prints what is compared: a number of each line is what the calls leave, beside the published one; and the points that are
 // dropped from performance, as the table's own columns have them (docs/DECISIONS.md, 93). The record is taken
 // for each of the five regions; the unit is alone in the first, so that the sums of this region are its deviations.
+#![tactic(auto)]
+
 ghost use Rattle.std.specs.Prelude.{◌≤◌};
 ghost use Rattle.integers.specs.Bounds.{Within};
 
 use interval::lent::measure_held;
 use interval::{FIGURES_LENGTH, ROW_EACH, SERIES_LENGTH, SUMS_LENGTH, Taking, Tally};
-use libc::{STDIN_FILENO, STDOUT_FILENO};
+
+// Standard input.
+const STDIN_FILENO: i32 = 0;
+
+// Standard output.
+const STDOUT_FILENO: i32 = 1;
 
 // Table 15, frequency measure, in µHz: the five published decimals of a Hz.
 const PUBLISHED: [i64; 75] = [

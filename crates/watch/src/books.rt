@@ -2,13 +2,20 @@
 use super::requirements::{watch_phrase, watch_requirements};
 use super::{Left, Place};
 use book::POINTS;
+use intake::arguments::{argument, open_book};
 use intake::whole::{Next, take_book};
 use intake::{RECORDS, UNITS};
 use interval::{FIGURES_LENGTH, ROWS_LENGTH, SERIES_LENGTH, SUMS_LENGTH};
 use rules::{Page, Refusal, refusal_number};
+use std::fs::File;
+use std::io;
+use std::io::Stdin;
 
-fn watch_refused(refusal: Refusal, place: Place, page: Page) -> Left {
-    watch_phrase(refusal_number(refusal), place, page, 0, 0)
+// A file's name has room here.
+const NAME: usize = 4_096;
+
+fn watch_refused(input: &mut Stdin, refusal: Refusal, place: Place, page: Page) -> Left {
+    watch_phrase(input, refusal_number(refusal), place, page, 0, 0)
 }
 
 // An open book. The buffers, in bytes, each array once:
@@ -19,7 +26,8 @@ fn watch_refused(refusal: Refusal, place: Place, page: Page) -> Left {
 //   a page 80, its screen 91
 //   five of a unit's readings 20 (`units`), a share's counters 512 (`share`)
 // Together 65,820.
-fn watch_file(file: i32, place: Place, page: Page) -> Left {
+fn watch_file(input: &mut Stdin, opened: File, place: Place, page: Page) -> Left {
+    let mut file = opened;
     let mut measures = [0i32; SERIES_LENGTH];
     let mut sums = [0i64; SUMS_LENGTH];
     let mut figures = [0i64; FIGURES_LENGTH];
@@ -30,7 +38,7 @@ fn watch_file(file: i32, place: Place, page: Page) -> Left {
     let mut deviations = [0i64; POINTS];
     let mut bytes = [0u8; RECORDS];
     let next = take_book(
-        file,
+        &mut file,
         true,
         &mut bytes,
         &mut measures,
@@ -42,31 +50,36 @@ fn watch_file(file: i32, place: Place, page: Page) -> Left {
         &mut groups,
         &mut deviations,
     );
-    libc::close(file);
+    drop(file);
     match next {
         Next::Taken(tally) => watch_requirements(
-            place, page, tally, &bytes, &measures, &sums, &figures, &numbers, &homes, &rows,
+            input, place, page, tally, &bytes, &measures, &sums, &figures, &numbers, &homes, &rows,
         ),
-        Next::Ended => watch_refused(Refusal::EndsEarly, place, page),
+        Next::Ended => watch_refused(input, Refusal::EndsEarly, place, page),
         Next::Refused(said) => {
             let refusal = said.refusal;
-            watch_refused(refusal, place, page)
+            watch_refused(input, refusal, place, page)
         }
-        Next::Failed => watch_refused(Refusal::EndsEarly, place, page),
+        Next::Failed => watch_refused(input, Refusal::EndsEarly, place, page),
     }
 }
 
 // The book that an argument names; a name with no place here cannot be opened.
-fn open_book(argument: usize) -> i32 {
-    let mut name = io::buffer();
-    let length = os::arg(argument, &mut name);
-    os::open_read(&name[..length])
+fn open_named(rt: &HostRuntime, at: usize) -> io::Result<File> {
+    let mut name = [0u8; NAME];
+    let length = argument(rt, at, &mut name);
+    open_book(rt, &name[..length])
 }
 
-pub(crate) fn watch_book(argument: usize, place: Place, page: Page) -> Left {
-    let file = open_book(argument);
-    if file < 0 {
-        return watch_refused(Refusal::EndsEarly, place, page);
+pub(crate) fn watch_book(
+    rt: &HostRuntime,
+    input: &mut Stdin,
+    at: usize,
+    place: Place,
+    page: Page,
+) -> Left {
+    match open_named(rt, at) {
+        Ok(file) => watch_file(input, file, place, page),
+        Err(_) => watch_refused(input, Refusal::EndsEarly, place, page),
     }
-    watch_file(file, place, page)
 }

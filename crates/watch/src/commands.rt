@@ -5,7 +5,7 @@ ghost use Rattle.watch.specs.Commands.{command, turn, Within};
 use rules::Key;
 
 // A key of the panel, another requirement or book, the end, or nothing.
-#[derive(Drop)]
+#[derive(Clone, Copy)]
 pub(crate) enum Command {
     Page(Key),
     NextRequirement,
@@ -16,7 +16,7 @@ pub(crate) enum Command {
 }
 
 // The key that is left for the page on show; another requirement, by its place; the next book; or the end.
-#[derive(Drop)]
+#[derive(Clone, Copy)]
 pub(crate) enum Turn {
     Press(Key),
     Requirement(u16),

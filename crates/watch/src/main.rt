@@ -1,6 +1,8 @@
 // watch: the books that the arguments name, on a panel of four lines (document 02, R-13). Keys come on standard input, a byte each: n next, p previous, h home,
 // r and R the next and the previous requirement, b the next book, q the end; other bytes do nothing. The first page is shown before any key, and a screen
 // after each. With `live` as the first argument each screen clears the terminal first. Without a book one line is said on standard error.
+#![tactic(auto)]
+
 mod books;
 mod commands;
 mod keys;
@@ -9,11 +11,15 @@ mod screen;
 
 use books::watch_book;
 use commands::Turn;
-use libc::STDERR_FILENO;
+use intake::arguments::{argument, argument_count};
 use rules::Page;
+use std::io::Stdin;
+
+// Standard error.
+const STDERR_FILENO: i32 = 2;
 
 // Which book is on show, from 1; whether one is named behind it; and whether the screens are for a terminal.
-#[derive(Drop)]
+#[derive(Clone, Copy)]
 pub(crate) struct Place {
     pub(crate) book: u32,
     pub(crate) more: bool,
@@ -21,16 +27,16 @@ pub(crate) struct Place {
 }
 
 // The page record when what was on show is left, and where it is left for.
-#[derive(Drop)]
+#[derive(Clone, Copy)]
 pub(crate) struct Left {
     pub(crate) page: Page,
     pub(crate) turn: Turn,
 }
 
 // Is the first argument `live`? A longer one has no place here, so that nothing is there of it.
-fn is_live() -> bool {
+fn is_live(rt: &HostRuntime) -> bool {
     let mut word = [0u8; 4];
-    if os::arg(1, &mut word) != 4 {
+    if argument(rt, 1, &mut word) != 4 {
         return false;
     }
     if word[0] != b'l' {
@@ -54,7 +60,7 @@ fn first_of(live: bool) -> usize {
 }
 
 // One book after the other. A run has no more books than are counted here: it says that the loop ends.
-fn watch_books(first: usize, arguments: usize, live: bool) {
+fn watch_books(rt: &HostRuntime, input: &mut Stdin, first: usize, arguments: usize, live: bool) {
     let mut page = Page {
         book: 0,
         requirement: 0,
@@ -72,7 +78,7 @@ fn watch_books(first: usize, arguments: usize, live: bool) {
             more: argument + 1 < arguments,
             live: live,
         };
-        let left = watch_book(argument, place, page);
+        let left = watch_book(rt, input, argument, place, page);
         let turn = left.turn;
         let Turn::Book = turn else {
             return;
@@ -83,10 +89,11 @@ fn watch_books(first: usize, arguments: usize, live: bool) {
     }
 }
 
-fn main() {
-    let live = is_live();
+fn main(rt: HostRuntime) {
+    let mut input = rt.stdin();
+    let live = is_live(&rt);
     let first = first_of(live);
-    let arguments = os::arg_count();
+    let arguments = argument_count(&rt);
     if arguments <= first {
         io::write_all(
             STDERR_FILENO,
@@ -94,5 +101,5 @@ fn main() {
         );
         return;
     }
-    watch_books(first, arguments, live);
+    watch_books(&rt, &mut input, first, arguments, live);
 }

@@ -16,9 +16,10 @@ use pages::page::refusal_page;
 use panel::press::press;
 use panel::{Pressed, Shown};
 use rules::{Key, Page, refusal_number};
+use std::io::Stdin;
 
 // The page record after a screen, or the screen could not be written.
-#[derive(Drop)]
+#[derive(Clone, Copy)]
 enum Screened {
     Page(Page),
     Unwritten,
@@ -99,6 +100,7 @@ fn show_press(
 
 // A phrase on show, until a key leaves it. Of a refused book there is no requirement but the first to go to.
 pub(crate) fn watch_phrase(
+    input: &mut Stdin,
     number: u32,
     place: Place,
     page: Page,
@@ -113,7 +115,7 @@ pub(crate) fn watch_phrase(
         if !show_phrase(number, place.live) {
             return ended(page, last);
         }
-        let turn = turn_of(next_command(), requirement, last, place.more);
+        let turn = turn_of(next_command(input), requirement, last, place.more);
         let Turn::Press(_) = turn else {
             return Left {
                 page: page,
@@ -127,6 +129,7 @@ pub(crate) fn watch_phrase(
 
 // A requirement on show, until a key leaves it. No input has as many keys as are counted here: it says that the loop ends.
 fn watch_keys(
+    input: &mut Stdin,
     place: Place,
     page: Page,
     requirement: u16,
@@ -156,7 +159,7 @@ fn watch_keys(
             return ended(current, last);
         };
         current = next;
-        let turn = turn_of(next_command(), requirement, last, place.more);
+        let turn = turn_of(next_command(input), requirement, last, place.more);
         let Turn::Press(pressed) = turn else {
             return Left {
                 page: current,
@@ -171,6 +174,7 @@ fn watch_keys(
 
 // The requirement at this place, with its answer.
 fn watch_requirement(
+    input: &mut Stdin,
     place: Place,
     page: Page,
     requirement: u16,
@@ -212,6 +216,7 @@ fn watch_requirement(
     );
     match answered {
         Answered::Given(given) => watch_keys(
+            input,
             place,
             page,
             requirement,
@@ -227,6 +232,7 @@ fn watch_requirement(
             &unused,
         ),
         Answered::Refused(refusal) => watch_phrase(
+            input,
             refusal_number(refusal),
             place,
             page,
@@ -238,6 +244,7 @@ fn watch_requirement(
 
 // A taken book, from its first requirement on. It announces no more requirements than its bytes have room for.
 pub(crate) fn watch_requirements(
+    input: &mut Stdin,
     place: Place,
     page: Page,
     tally: Tally,
@@ -257,6 +264,7 @@ pub(crate) fn watch_requirements(
     let mut turns: u64 = 0;
     while turns < u64::MAX {
         let left = watch_requirement(
+            input,
             place,
             current,
             requirement,

@@ -1,8 +1,10 @@
 // A page on standard output: four lines of 20, each with its line feed, and before them on a terminal what clears it. A screen is written at once.
 ghost use Rattle.std.specs.Prelude.{◌<◌, ◌≤◌};
 
-use libc::STDOUT_FILENO;
 use pages::{LINE, PAGE};
+
+// Standard output.
+const STDOUT_FILENO: i32 = 1;
 
 // ESC [ 2 J ESC [ H, and the 84 bytes behind it.
 const CLEARING: usize = 7;

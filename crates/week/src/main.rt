@@ -1,6 +1,8 @@
 // week: reads the books of at most seven days on standard input, one after another, and prints for each member's number and each region's residual the
 // count of live intervals and the default that they give, for raise and for lower. A refused book ends it with one line. How far it is, and what goes
 // wrong with reading or writing, is told on standard error.
+#![tactic(auto)]
+
 mod output;
 mod performances;
 mod replay;
@@ -21,7 +23,8 @@ use interval::{FIGURES_LENGTH, ROWS_LENGTH, SERIES_LENGTH, SUMS_LENGTH};
 use performances::ROWS;
 use running::{MEMBERS, WEEKS};
 
-fn main() {
+fn main(rt: HostRuntime) {
+    let mut input = rt.stdin();
     let mut bytes = [0u8; RECORDS];
     let mut measures = [0i32; SERIES_LENGTH];
     let mut sums = [0i64; SUMS_LENGTH];
@@ -36,6 +39,7 @@ fn main() {
     let mut highs = [0u16; WEEKS];
     let mut lows = [0u64; WEEKS];
     let end = replay::replay(
+        &mut input,
         &mut bytes,
         &mut measures,
         &mut sums,

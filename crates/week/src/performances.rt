@@ -23,7 +23,7 @@ const DIRECTION: usize = 3;
 const RESIDUAL_WEEKS: usize = 10;
 
 // Where the residual stands in the column, unless the calculator refused.
-#[derive(Drop)]
+#[derive(Clone, Copy)]
 struct Noted {
     place: usize,
     kept: Kept,

@@ -9,13 +9,13 @@ use intake::RECORDS;
 use intake::input::fill;
 use intake::whole::{Next, take_book};
 use interval::{FIGURES_LENGTH, PASSED_OVER, ROWS_LENGTH, SERIES_LENGTH, SUMS_LENGTH};
-use libc::STDIN_FILENO;
 use rules::{Located, Refusal, locate};
+use std::io::Stdin;
 
 const MOST_BOOKS: u16 = 2016;
 
 // Whether the week goes on, or how it ended: after so many books with so many numbers, with a refusal at a book's place, or with a reading that failed.
-#[derive(Drop)]
+#[derive(Clone, Copy)]
 pub(crate) enum End {
     On,
     Over(u16, usize),
@@ -24,7 +24,7 @@ pub(crate) enum End {
 }
 
 // How many numbers there are after a book.
-#[derive(Drop)]
+#[derive(Clone, Copy)]
 struct Turn {
     members: usize,
     end: End,
@@ -48,7 +48,7 @@ fn join_all(numbers: &[u16; ROWS], units: u16, names: &mut [u16; MEMBERS], membe
 }
 
 // What was done in a week's interval: by how many units, whether it is live, and the performance.
-#[derive(Drop)]
+#[derive(Clone, Copy)]
 struct Done {
     units: u16,
     live: u8,
@@ -57,7 +57,7 @@ struct Done {
 
 // The row of the member with this number, and how many units it has; behind the last row where the book has no such member. All rows of a group have its
 // number, and those that are passed over come before the member's own.
-#[derive(Drop)]
+#[derive(Clone, Copy)]
 struct Place {
     row: usize,
     units: u16,
@@ -206,9 +206,9 @@ fn end_of(next: Next, books: u16, members: usize, place: u16) -> End {
 }
 
 // After 2,016 books any byte is one too many.
-fn last_end(members: usize) -> End {
+fn last_end(input: &mut Stdin, members: usize) -> End {
     let mut byte = [0u8; 1];
-    let got = fill(&mut byte);
+    let got = fill(input, &mut byte);
     if got.failed {
         return End::Failed;
     }
@@ -235,6 +235,7 @@ fn goes_on(end: End) -> bool {
 
 // The next book, after so many with so many numbers; its place is counted from 1.
 fn replay_book(
+    input: &mut Stdin,
     books: u16,
     members: usize,
     bytes: &mut [u8; RECORDS],
@@ -256,17 +257,7 @@ fn replay_book(
 {
     let place = books + 1;
     let next = take_book(
-        STDIN_FILENO,
-        false,
-        bytes,
-        measures,
-        sums,
-        figures,
-        numbers,
-        homes,
-        rows,
-        groups,
-        deviations,
+        input, false, bytes, measures, sums, figures, numbers, homes, rows, groups, deviations,
     );
     let Next::Taken(tally) = next else {
         return stopped(end_of(next, books, members, place));
@@ -297,6 +288,7 @@ fn replay_book(
 }
 
 pub(crate) fn replay(
+    input: &mut Stdin,
     bytes: &mut [u8; RECORDS],
     measures: &mut [i32; SERIES_LENGTH],
     sums: &mut [i64; SUMS_LENGTH],
@@ -315,7 +307,7 @@ pub(crate) fn replay(
     let mut books: u16 = 0;
     while books < MOST_BOOKS {
         let turn = replay_book(
-            books, members, bytes, measures, sums, figures, numbers, homes, rows, groups,
+            input, books, members, bytes, measures, sums, figures, numbers, homes, rows, groups,
             deviations, names, lives, highs, lows,
         );
         let end = turn.end;
@@ -326,5 +318,5 @@ pub(crate) fn replay(
         books += 1;
         tell_books(books);
     }
-    last_end(members)
+    last_end(input, members)
 }

@@ -15,7 +15,7 @@ pub(crate) const RESIDUALS: usize = 1024;
 pub(crate) const WEEKS: usize = 1034;
 
 // Whether an interval or a number has found its place, or the refusal.
-#[derive(Drop)]
+#[derive(Clone, Copy)]
 pub(crate) enum Kept {
     Yes,
     No(Refusal),

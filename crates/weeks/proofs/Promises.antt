@@ -8,11 +8,8 @@ use Rattle.rules.specs.declared.RunningWeek.{RunningWeek}
 use Rattle.rules.specs.declared.Whose.{Whose}
 use Rattle.rules.specs.WeekRoster.{whose_of}
 use Rattle.weeks.specs.declared.Told.{Told}
-use Rattle.weeks.specs.declared.Told.TheVariants as told
 use Rattle.weeks.specs.declared.Added.{Added}
-use Rattle.weeks.specs.declared.Added.TheVariants as added
 use Rattle.weeks.specs.declared.Written.{Written}
-use Rattle.weeks.specs.declared.Written.TheVariants as written
 use Rattle.weeks.specs.Promises.{AddPromise, ReadPromise, RosterPromise, WeekPromise}
 
 pub week_only : {m : Whose} {ps : List ℤ} {bits : List ℕ} {r r' : Told} → WeekPromise m ps bits r → WeekPromise m ps bits r' → r ≡ r'

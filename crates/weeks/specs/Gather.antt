@@ -6,8 +6,6 @@ use Rattle.rules.specs.declared.Refusal.TheVariants.{WrongWeek}
 use Rattle.rules.specs.Refusals.{Reply, taken, unless}
 use Rattle.rules.specs.Week.{Interval, within, live_count, live_total}
 use Rattle.rules.specs.RunningWeek.{running}
-use Rattle.weeks.specs.declared.Added.TheVariants as added
-use Rattle.weeks.specs.declared.Told.TheVariants as told
 
 -- the running week of the first n intervals
 abbrev pub run_of : ℕ → (ℕ → Interval) → RunningWeek

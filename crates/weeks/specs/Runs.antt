@@ -6,7 +6,7 @@ use Rattle.rules.specs.declared.Whose.{Whose}
 use Rattle.rules.specs.declared.Whose.TheVariants as whose
 use Rattle.rules.specs.Quantities.{most_units}
 use Rattle.rules.specs.Refusals.{Reply, taken, unless}
-use Rattle.rules.specs.Week.{Interval, live, within, most_intervals}
+use Rattle.rules.specs.Week.{Interval, within, most_intervals}
 use Rattle.rules.specs.RunningWeek.{base, total_in, with_interval}
 
 -- what the test says

@@ -1,5 +1,7 @@
 // weeks: defaults from seven days of record (document 02, R-7). `running` adds one interval at a time to a small record and reads count and default
 // off it; `list` reads a member's week from lent lists, and `roster` a whole roster's. `whose` and `total` are what they share.
+#![tactic(auto)]
+
 pub mod list;
 pub mod roster;
 pub mod running;
@@ -9,21 +11,21 @@ mod whose;
 use rules::{Refusal, RunningWeek, WeekDefault};
 
 // A count and a default, or the refusal.
-#[derive(Drop)]
+#[derive(Clone, Copy)]
 pub enum Told {
     Is(WeekDefault),
     Refused(Refusal),
 }
 
 // The running week with one interval more, or the refusal.
-#[derive(Drop)]
+#[derive(Clone, Copy)]
 pub enum Added {
     Next(RunningWeek),
     Refused(Refusal),
 }
 
 // A roster's counts and defaults are written, or the refusal.
-#[derive(Drop)]
+#[derive(Clone, Copy)]
 pub enum Written {
     Done,
     Refused(Refusal),

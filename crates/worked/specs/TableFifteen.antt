@@ -1,6 +1,6 @@
 -- The guide's table 15 as a region, three of whose points are dropped (02, R-3): what four units and the residual perform over the kept points, and what it
 -- would be over all 75. The figures are the second program's (tests/worked/table_15.txt).
-use Rattle.std.specs.Prelude.{◌≡◌, refl, List, [], ◌∷◌, ◌++◌, map, ℕ, ℤ, pos, neg_ℤ}
+use Rattle.std.specs.Prelude.{◌≡◌, refl, List, [], ◌∷◌, ◌++◌, map, ℤ, pos, neg_ℤ}
 use Rattle.rules.specs.declared.Direction.{Direction}
 use Rattle.rules.specs.declared.Direction.TheVariants.{Raise, Lower}
 use Rattle.rules.specs.Measure.{measure_in}

@@ -1,6 +1,8 @@
 // write_book: a text of any length on standard input, as a book on standard output (document 02, R-4); the text is what `read_book` prints. A word that is not
 // what has to stand there is told as `text` and its line, a refusal as `refused` with number, place and t, and then no byte of a book is written. What goes
 // wrong with reading or writing is told on standard error.
+#![tactic(auto)]
+
 mod keeping;
 mod next;
 mod output;
@@ -46,7 +48,8 @@ fn put_book(
 
 // The buffers, in bytes: a row of settings 32; regions 360, qualities 50, points 1,500; units 49,248, qualities 5,130, readings 153,900; requirements 1,848;
 // the book 193,532; a piece of the text 4,096.
-fn main() {
+fn main(rt: HostRuntime) {
+    let mut input = rt.stdin();
     let mut settings = [0i64; SETTINGS];
     let mut region_rows = [0i64; REGION_NUMBERS];
     let mut region_qualities = [0u8; REGION_QUALITIES];
@@ -57,6 +60,7 @@ fn main() {
     let mut requirement_rows = [0i64; REQUIREMENT_NUMBERS];
     let mut book = [0u8; BOOK];
     let told = read_text(
+        &mut input,
         &mut settings,
         &mut region_rows,
         &mut region_qualities,

@@ -11,7 +11,7 @@ pub(crate) const UNITS: u32 = 513;
 
 pub(crate) const REQUIREMENTS: u32 = 33;
 
-#[derive(Drop)]
+#[derive(Clone, Copy)]
 pub(crate) enum Next {
     Settings,
     Setting,
@@ -26,7 +26,7 @@ pub(crate) enum Next {
 }
 
 // What comes next, in which column or at which point, and how many regions, units and requirements are whole.
-#[derive(Drop)]
+#[derive(Clone, Copy)]
 pub(crate) struct Place {
     pub(crate) next: Next,
     pub(crate) column: usize,
@@ -36,7 +36,7 @@ pub(crate) struct Place {
 }
 
 // What is to be kept of a word: a number, and its place in its list.
-#[derive(Drop)]
+#[derive(Clone, Copy)]
 pub(crate) enum Note {
     Nothing,
     Setting(usize, i64),
@@ -48,7 +48,7 @@ pub(crate) enum Note {
 }
 
 // The word stands where it may, or it does not.
-#[derive(Drop)]
+#[derive(Clone, Copy)]
 pub(crate) enum Step {
     On(Place, Note),
     Fault,

@@ -3,10 +3,15 @@ ghost use Rattle.std.specs.Prelude.{◌≤◌};
 ghost use Rattle.writer.specs.Promise.{WithinRoom};
 
 use super::keeping::BOOK;
-use libc::{STDERR_FILENO, STDOUT_FILENO};
 use printing::print_refused;
 use rules::Located;
 use writer::Written;
+
+// Standard error.
+const STDERR_FILENO: i32 = 2;
+
+// Standard output.
+const STDOUT_FILENO: i32 = 1;
 
 fn unwritten() {
     io::write_all(STDERR_FILENO, b"write_book: the book cannot be written\n");

@@ -7,13 +7,13 @@ use super::keeping::{
 };
 use super::next::{Note, Place, Step, may_end, start, take_word};
 use super::words::{LETTERS, found_in, keep_letter};
-use libc::STDIN_FILENO;
 use numerals::{Word, longer, no_word};
+use std::io::{Read, Stdin};
 
 const PIECE: usize = 4_096;
 
 // The text is whole and has so many units and requirements; the line of its first fault; or it cannot be read.
-#[derive(Drop)]
+#[derive(Clone, Copy)]
 pub(crate) enum Told {
     Whole(u32, u32),
     Fault(u64),
@@ -22,7 +22,7 @@ pub(crate) enum Told {
 
 // Where the text is: what has to stand next, the line, whether it is left out from here on, the word so far and how many of its letters are kept, and
 // whether a word was found that may not stand where it stands. Then the line is that word's, and the text is read no further.
-#[derive(Drop)]
+#[derive(Clone, Copy)]
 struct Reading {
     place: Place,
     line: u64,
@@ -33,21 +33,21 @@ struct Reading {
 }
 
 // How many bytes of a piece came, the line feed that stands for the text's end among them.
-#[derive(Drop)]
+#[derive(Clone, Copy)]
 struct Fetched {
     count: usize,
     ended: bool,
     failed: bool,
 }
 
-#[derive(Drop)]
+#[derive(Clone, Copy)]
 struct Taken {
     reading: Reading,
     note: Note,
 }
 
 // The text goes on, or it is over.
-#[derive(Drop)]
+#[derive(Clone, Copy)]
 enum Turn {
     On(Reading),
     Over(Told),
@@ -218,12 +218,29 @@ fn take_piece(
     reading
 }
 
-// Reads on. What ends the text ends its last word and its last line too, so a line feed stands for it.
-fn fetch(piece: &mut [u8; PIECE]) -> Fetched
+fn one_reading(input: &mut Stdin, piece: &mut [u8; PIECE]) -> Fetched
     ensures { result.count ≤ 4096 }
 {
-    let got = libc::read(STDIN_FILENO, piece);
-    let count = io::count(got, piece);
+    match input.read(piece) {
+        Ok(count) => Fetched {
+            count,
+            ended: false,
+            failed: false,
+        },
+        Err(_) => Fetched {
+            count: 0,
+            ended: true,
+            failed: true,
+        },
+    }
+}
+
+// Reads on. What ends the text ends its last word and its last line too, so a line feed stands for it.
+fn fetch(input: &mut Stdin, piece: &mut [u8; PIECE]) -> Fetched
+    ensures { result.count ≤ 4096 }
+{
+    let got = one_reading(input, piece);
+    let count = got.count;
     if 0 < count {
         return Fetched {
             count,
@@ -235,7 +252,7 @@ fn fetch(piece: &mut [u8; PIECE]) -> Fetched
     Fetched {
         count: 1,
         ended: true,
-        failed: got < 0,
+        failed: got.failed,
     }
 }
 
@@ -256,6 +273,7 @@ fn behind_piece(reading: Reading, line: u64, ended: bool) -> Turn {
 
 // The next piece of the text.
 fn read_piece(
+    input: &mut Stdin,
     reading: Reading,
     letters: &mut [u8; LETTERS],
     settings: &mut [i64; SETTINGS],
@@ -268,7 +286,7 @@ fn read_piece(
     requirement_rows: &mut [i64; REQUIREMENT_NUMBERS],
 ) -> Turn {
     let mut piece = [0u8; PIECE];
-    let fetched = fetch(&mut piece);
+    let fetched = fetch(input, &mut piece);
     if fetched.failed {
         return Turn::Over(Told::Failed);
     }
@@ -292,6 +310,7 @@ fn read_piece(
 
 // The text to its end, or to its first fault. No text has as many pieces as `left` counts: it says that the loop ends.
 pub(crate) fn read_text(
+    input: &mut Stdin,
     settings: &mut [i64; SETTINGS],
     region_rows: &mut [i64; REGION_NUMBERS],
     region_qualities: &mut [u8; REGION_QUALITIES],
@@ -307,6 +326,7 @@ pub(crate) fn read_text(
     while left > 0 {
         left -= 1;
         let turn = read_piece(
+            input,
             reading,
             &mut letters,
             settings,

@@ -8,7 +8,7 @@ use numerals::{Value, Word, number_in};
 // One letter more than the longest name.
 pub(crate) const LETTERS: usize = 12;
 
-#[derive(Drop)]
+#[derive(Clone, Copy)]
 pub(crate) enum Found {
     Settings,
     Region,

@@ -15,7 +15,6 @@ use Rattle.rules.specs.Book.{Region, Unit, Requirement}
 use Rattle.rules.specs.Given.{Given}
 use Rattle.rules.specs.Groups.{in_its_group}
 use Rattle.rules.specs.Written.{region_given, unit_given, requirement_given, regions_given, units_given, requirements_given}
-use Rattle.writer.specs.declared.judge.Judged.{Judged}
 use Rattle.writer.specs.declared.judge.Judged.TheVariants.{Fine, Wrong}
 use Rattle.writer.specs.Values.{region_values, unit_values, requirement_values}
 use Rattle.writer.specs.Judged.{judged, units_before, unit_found}

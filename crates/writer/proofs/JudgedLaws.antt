@@ -1,8 +1,8 @@
 -- Laws of the definitions in specs/Judged.antt: a body is judged by its first record and then by the rest; a number that does not fit is told where its field's
 -- rule is tested; a unit stands in its group by the rows as it does by the units that they say.
 use mathlib.Core.Path.{◌≡◌, refl, sym, ◌∙◌, ap, ap₂}
-use mathlib.Core.Bool.{Bool, true, false, cond, not, ◌&&◌, ◌||◌}
-use mathlib.Core.List.{List, [], ◌∷◌, append-nil}
+use mathlib.Core.Bool.{Bool, true, false, cond, not, ◌&&◌}
+use mathlib.Core.List.{List, append-nil}
 use Prim.Native.Nat.{ℕ, zero, suc, ◌+◌, ◌<◌, ◌^◌}
 use native.Mathlib.Decide.{ℕ_discrete}
 use native.Mathlib.Numerals.{add-one}
@@ -10,14 +10,13 @@ use native.Mathlib.Nat.{zero-add}
 use native.Mathlib.Omega.{arith}
 use lib.Dec.{eqb, leb, ltb}
 use lib.IntN.{ℤ, pos, negsuc, nat_abs}
-use lib.ListN.{length, get_or, drop_of_length-le}
+use lib.ListN.{length, drop_of_length-le}
 use lib.Signed.{mag}
 use mir.Syntax.{w64}
 use mir.Val.{SFits, hbits, to_z, of_z}
 use mir.Facts.{to_z-of_z}
 use borrow.Author.Rules.{sfits_of}
 use borrow.Author.Tests.{eq-eqb, ne_eqb, lt-ltb, not-true, not-false}
-use Rattle.rules.specs.declared.Located.{Located}
 use Rattle.rules.specs.declared.Refusal.{Refusal}
 use Rattle.rules.specs.declared.Refusal.TheVariants.{
   FrequencyHeader,
@@ -56,7 +55,7 @@ use Rattle.rules.specs.SettingsRecord.{settings}
 use Rattle.rules.specs.FrequencyRecord.{region_in, point_fine, frequencies_fine, region_judged, frequency_record}
 use Rattle.rules.specs.RequirementRecord.{requirement_record}
 use Rattle.rules.specs.UnitRecord.{UnitWidths, unit_in, readings_fine, unit_judged, unit_record, point_fine as reading_fine_at}
-use Rattle.rules.specs.Groups.{same_group, new_among, group_fine, in_its_group}
+use Rattle.rules.specs.Groups.{new_among, group_fine, in_its_group}
 use Rattle.rules.specs.Written.{
   settings_filled,
   settings_given,
@@ -77,10 +76,9 @@ use Rattle.book.specs.declared.UnitFields.{UnitFields}
 use Rattle.book.specs.declared.UnitRead.TheVariants as u
 use Rattle.book.specs.Frequency.{frequency_answer}
 use Rattle.book.specs.Unit.{unit_answer, unit_of}
-use Rattle.writer.specs.declared.judge.Judged.{Judged}
-use Rattle.writer.specs.declared.judge.Judged.TheVariants.{Fine, Wrong}
+use Rattle.writer.specs.declared.judge.Judged.TheVariants.{Wrong}
 use Rattle.writer.specs.Put.{put}
-use Rattle.writer.specs.Judged.{judged, least_for, amounts_told, group_told, row_region, row_group, new_before, stands, units_before, unit_found}
+use Rattle.writer.specs.Judged.{judged, least_for, amounts_told, group_told, row_group, new_before, stands, units_before, unit_found}
 
 -- ---- a body
 pub front_refused : {A C : Type 0} (place : ℕ) (x : Reply A) (f : A → LocatedReply C) (r : Refusal) → x ≡ refused r →
@@ -153,7 +151,7 @@ not_new h rows i (suc j) l e = go (λ m. not_new h rows i j m e) (ℕ_discrete i
 -- ---- a test of a number of 64 bits, as a call was handed it: it failed, it held, it is the answer
 module _ (p : ℤ → Bool) (z : ℤ) {t : Bool} (small : mag z < 2 ^ hbits w64) (e : t ≡ p (to_z w64 (of_z w64 z))) where
   pub handed_is : t ≡ p z
-  handed_is = e ∙ ap p (to_z-of_z (sfits_of small))
+  handed_is = e ∙ ap p (to_z-of_z {w = w64} (sfits_of small))
 
   pub handed_refused : not t ≡ true → p z ≡ false
   handed_refused n = sym handed_is ∙ not-true t n
@@ -184,7 +182,7 @@ requirement_read g least last q fit = rw (requirement_length g q, fit)
 
 pub handed_both : (p : ℤ → ℤ → Bool) (y z : ℤ) {t : Bool} → mag y < 2 ^ hbits w64 → mag z < 2 ^ hbits w64 →
     t ≡ p (to_z w64 (of_z w64 y)) (to_z w64 (of_z w64 z)) → t ≡ p y z
-handed_both p y z small_y small_z e = e ∙ ap₂ p (to_z-of_z (sfits_of small_y)) (to_z-of_z (sfits_of small_z))
+handed_both p y z small_y small_z e = e ∙ ap₂ p (to_z-of_z {w = w64} (sfits_of small_y)) (to_z-of_z {w = w64} (sfits_of small_z))
 
 -- ---- FM before and generation that do not fit
 pub region_late : (s : Bool) (r : ℕ) (bs : List ℕ) → frequency_answer (region_judged (record { separation = s; amounts = false }) r bs) ≡

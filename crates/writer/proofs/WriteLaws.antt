@@ -1,6 +1,6 @@
 -- The call, test by test: what is written where each fails and where all hold, and what the tests say of counts and lists.
-use mathlib.Core.Path.{◌≡◌, refl, sym, ◌∙◌, ap, ap₂}
-use mathlib.Core.Bool.{Bool, true, false, ◌&&◌}
+use mathlib.Core.Path.{◌≡◌, sym, ◌∙◌, ap}
+use mathlib.Core.Bool.{true, false, ◌&&◌}
 use mathlib.Core.List.{List}
 use Prim.Native.Nat.{ℕ, ◌*◌, ◌≤◌}
 use lib.Dec.{leb}
@@ -9,7 +9,7 @@ use borrow.Author.Tests.{leb-true}
 use Rattle.integers.specs.Sums.{both}
 use Rattle.rules.specs.declared.Located.{Located}
 use Rattle.rules.specs.declared.Refusal.TheVariants.{TooShort, WrongCount}
-use Rattle.rules.specs.Refusals.{LocatedReply, taken, refused, located, ◌>>=◌}
+use Rattle.rules.specs.Refusals.{LocatedReply, taken, refused, located}
 use Rattle.rules.specs.Book.{Book}
 use Rattle.rules.specs.Given.{Given}
 use Rattle.rules.specs.Written.{book_laid, book_given, book_size, regions_long, units_long, long_enough, counts_fine, written}

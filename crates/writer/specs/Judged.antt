@@ -1,6 +1,5 @@
 -- How a book's values are judged: what is found of a body, and what the parts of a record's judgement find.
-use Rattle.std.specs.Prelude.{Bool, true, cond, not, ◌&&◌, ◌||◌, List, [], ◌∷◌, ℕ, zero, suc, ◌+◌, ◌*◌, ◌≤◌, ◌<◌, eqb, ℤ, pos, length, get_or}
-use Rattle.rules.specs.declared.Located.{Located}
+use Rattle.std.specs.Prelude.{Bool, true, cond, not, ◌&&◌, ◌||◌, List, [], ◌∷◌, ℕ, zero, suc, ◌+◌, ◌*◌, eqb, ℤ, pos, get_or}
 use Rattle.rules.specs.declared.Refusal.TheVariants.{FrequencyHeader, UnitQuality}
 use Rattle.rules.specs.Refusals.{Reply, LocatedReply, taken, refused, number, ◌>>=◌}
 use Rattle.rules.specs.Book.{Unit}

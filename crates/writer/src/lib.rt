@@ -1,5 +1,7 @@
 // writer: a book's bytes from its values, or a numbered refusal (document 02, R-4). Each record is laid out in an array of its own length and handed to the
 // reader of such records, so that what is refused here is what the reader refuses; only when all are fine is the book laid out where the caller wants it.
+#![tactic(auto)]
+
 use rules::Located;
 
 mod group;
@@ -22,7 +24,7 @@ pub const QUALITY: usize = 10;
 pub(crate) const REGION_COUNT: u8 = 5;
 
 // The settings as they are handed in: a number that does not fit its field breaks the field's rule.
-#[derive(Drop)]
+#[derive(Clone, Copy)]
 pub struct SettingsRow {
     pub smoothing: i64,
     pub limit: i64,
@@ -31,7 +33,7 @@ pub struct SettingsRow {
 }
 
 // The book is written and so long, or nothing is.
-#[derive(Drop)]
+#[derive(Clone, Copy)]
 pub enum Written {
     Length(u32),
     Refused(Located),

@@ -1,0 +1,60 @@
+-- A requirement that is read has passed the tests, and is answered; any other reply is the refusal.
+use mathlib.Core.Path.{◌≡◌, sym, ◌∙◌, ap}
+use mathlib.Core.Bool.{Bool}
+use Rattle.rules.specs.Refusals.{Reply, taken, refused}
+use Rattle.rules.specs.Book.{Requirement}
+use Rattle.interval.specs.Lent.{Lent}
+use Rattle.answer.specs.Asked.{lent}
+use Rattle.answer.specs.Promises.{Columns, columns, columns_long}
+use Rattle.answer.specs.Tested.{tested_requirement}
+use Rattle.answer.proofs.TestedLaws.{tests_passed}
+use Rattle.answer.specs.Worked.{required}
+use Rattle.answer.proofs.CallLaws.{was_read, not_read, past_tests, refuses, gives}
+use Rattle.answer.proofs.call.answer.Goals as goal
+use Rattle.answer.proofs.call.answer.Goals.{After-tested_requirement-read, In-Refused, In-Taken, Start}
+
+abbrev start : After-tested_requirement-read → Start
+start c = (goal.at.After-tested_requirement-read c).Start
+
+abbrev lists : Start → Lent
+lists s = let a = s.args in lent a.measures.now a.sums.now a.figures.now a.homes.now a.rows.now
+
+abbrev old : Start → Columns
+old s = let a = s.args in columns a.performances.now a.factors.now a.payments.now a.used.now a.unused.now
+
+-- the record past the tests, by whether the columns are long enough
+abbrev asked : Start → Bool → Reply Requirement
+asked s long = tested_requirement s.args.tally s.args.part.now (lists s) long
+
+asked_is :
+    (c : After-tested_requirement-read) → asked (start c) (columns_long (start c).args.tally.units (old (start c))) ≡ asked (start c)
+    c.columns_long-long.result
+asked_is c = ap (λ (long : Bool). asked (start c) long) (sym c.columns_long-long.ensures)
+
+read :
+    (c : In-Taken) → let s = start (goal.at.In-Taken c).After-tested_requirement-read in
+    asked s (columns_long s.args.tally.units (old s)) ≡ taken (required c.in-Taken.fields)
+read c =
+    asked_is (goal.at.In-Taken c).After-tested_requirement-read ∙ was_read (asked (start (goal.at.In-Taken c).After-tested_requirement-read) c.columns_long-long.result) _ (sym c.in-Taken.is ∙ c.tested_requirement-read.ensures)
+
+not_taken :
+    (c : In-Refused) → let s = start (goal.at.In-Refused c).After-tested_requirement-read in
+    asked s (columns_long s.args.tally.units (old s)) ≡ refused c.in-Refused.refusal
+not_taken c =
+    asked_is (goal.at.In-Refused c).After-tested_requirement-read ∙ not_read (asked (start (goal.at.In-Refused c).After-tested_requirement-read) c.columns_long-long.result) _ (sym c.in-Refused.is ∙ c.tested_requirement-read.ensures)
+
+pub work_out-requires : goal.work_out-requires
+work_out-requires c =
+    let s = start (goal.at.work_out-requires c).After-tested_requirement-read in
+    let passed = tests_passed s.args.tally s.args.part.now (lists s) (columns_long s.args.tally.units (old s)) (read (goal.at.work_out-requires c).In-Taken) in
+    past_tests s.args.part.now passed.0 passed.1
+
+pub returns-in-Taken : goal.returns-in-Taken
+returns-in-Taken c =
+    let s = start (goal.at.returns-in-Taken c).After-tested_requirement-read in
+    λ rest. gives s.args.tally s.args.part.now (lists s) (old s) rest c.in-Taken.fields (read (goal.at.returns-in-Taken c).In-Taken) (c.work_out.ensures rest)
+
+pub returns-in-Refused : goal.returns-in-Refused
+returns-in-Refused c =
+    let s = start (goal.at.returns-in-Refused c).After-tested_requirement-read in
+    λ rest. refuses s.args.tally s.args.part.now (lists s) (old s) rest c.in-Refused.refusal (not_taken (goal.at.returns-in-Refused c).In-Refused)

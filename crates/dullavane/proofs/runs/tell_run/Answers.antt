@@ -1,0 +1,8 @@
+-- The words are put in either case.
+use mathlib.Core.Path.{sym, ◌∙◌, ap}
+use Rattle.dullavane.specs.Words.{taking_said}
+use Rattle.dullavane.proofs.runs.tell_run.Goals as goal
+
+pub returns-in-Refused : goal.returns-in-Refused
+returns-in-Refused c =
+    (c.said.ensures ∙ ap taking_said (sym c.in-Refused.is), c.put_words.ensures)

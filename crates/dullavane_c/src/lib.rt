@@ -1,0 +1,334 @@
+// dullavane_c: the calls for C: each hands on to the library's function of the same name, with the same promise.
+#![tactic(auto)]
+
+ghost use Rattle.interval.specs.Lent.{Lent, lent_frequency, lent_unit, lent_answer, lent_member};
+ghost use Rattle.answer.specs.Promises.{columns};
+ghost use Rattle.dullavane.specs.Answers.{AnswerCalled};
+ghost use Rattle.dullavane.specs.Asked.{MemberCalled};
+ghost use Rattle.dullavane.specs.Verdicts.{SheetCalled};
+ghost use Rattle.dullavane.specs.Trends.{TrendCalled};
+ghost use Rattle.answer.specs.Report.{lent_report};
+ghost use Rattle.dullavane.specs.Reports.{row_narrow, row_in, RowCalled, ReportCalled, ReadCalled};
+ghost use Rattle.dullavane.specs.Writing.{WriteCalled, handed_in};
+ghost use Rattle.dullavane.specs.Weekly.{WeekCalled, WeeksCalled, WeekAddCalled, WeekReadCalled};
+ghost use Rattle.dullavane.specs.Runs.{UnitsCalled};
+ghost use Rattle.dullavane.specs.Promises.{ContentsCalled, SettingsCalled, FrequencyCalled, UnitCalled, RequirementCalled};
+
+// Starts a tally. Refuses 12 for fewer than eight words, then 1, 2, 3 and 5.
+#[unsafe(no_mangle)]
+pub extern "C" fn dullavane_contents(part: &[u8], tally: &mut [u32]) -> u64
+    ensures { ContentsCalled part.now tally.old result tally.new }
+{
+    dullavane::dullavane_contents(part, tally)
+}
+
+// Takes the settings. Refuses 12 for the tally's words, 11, then 1 and 6.
+#[unsafe(no_mangle)]
+pub extern "C" fn dullavane_settings(tally: &mut [u32], part: &[u8]) -> u64
+    ensures { SettingsCalled tally.old part.now result tally.new }
+{
+    dullavane::dullavane_settings(tally, part)
+}
+
+// Takes the frequency record of the next region. Refuses 12 for the tally's words, 11, 12, then 1 and 71 to 74.
+#[unsafe(no_mangle)]
+pub extern "C" fn dullavane_frequency(
+    tally: &mut [u32],
+    part: &[u8],
+    measures: &mut [i32],
+    sums: &mut [i64],
+    figures: &mut [i64],
+) -> u64
+    ensures { (rest : Lent) → FrequencyCalled tally.old part.now
+        (lent_frequency rest measures.old sums.old figures.old) result tally.new
+        (lent_frequency rest measures.new sums.new figures.new) }
+{
+    dullavane::dullavane_frequency(tally, part, measures, sums, figures)
+}
+
+// Takes a unit. Refuses 12 for the tally's words, 11, 12, 11 for lent numbers, then 1, 81 to 84 and 9.
+#[unsafe(no_mangle)]
+pub extern "C" fn dullavane_unit(
+    tally: &mut [u32],
+    part: &[u8],
+    measures: &[i32],
+    sums: &mut [i64],
+    figures: &[i64],
+    numbers: &mut [u16],
+    homes: &mut [u8],
+    rows: &mut [i64],
+    groups: &mut [u16],
+    deviations: &mut [i64],
+) -> u64
+    ensures { UnitCalled tally.old part.now
+        (lent_unit measures.now sums.old figures.now numbers.old homes.old rows.old
+        groups.old deviations.old) result
+        tally.new
+        (lent_unit measures.now sums.new figures.now numbers.new homes.new rows.new
+        groups.new deviations.new) }
+{
+    dullavane::dullavane_unit(
+        tally, part, measures, sums, figures, numbers, homes, rows, groups, deviations,
+    )
+}
+
+// Takes a run of units up to the first refused one, which is named by its place in the run; the records before it stay added. Refuses 1 for a run that is not
+// whole, before anything else, then record by record what the unit call refuses. An empty run changes nothing.
+#[unsafe(no_mangle)]
+pub extern "C" fn dullavane_units(
+    tally: &mut [u32],
+    records: &[u8],
+    measures: &[i32],
+    sums: &mut [i64],
+    figures: &[i64],
+    numbers: &mut [u16],
+    homes: &mut [u8],
+    rows: &mut [i64],
+    groups: &mut [u16],
+    deviations: &mut [i64],
+) -> u64
+    ensures { UnitsCalled tally.old records.now
+        (lent_unit measures.now sums.old figures.now numbers.old homes.old rows.old
+        groups.old deviations.old) result
+        tally.new
+        (lent_unit measures.now sums.new figures.now numbers.new homes.new rows.new
+        groups.new deviations.new) }
+{
+    dullavane::dullavane_units(
+        tally, records, measures, sums, figures, numbers, homes, rows, groups, deviations,
+    )
+}
+
+// Takes a requirement. Refuses 12 for the tally's words, 11, then 1 and 10, then, with the last one, 4.
+#[unsafe(no_mangle)]
+pub extern "C" fn dullavane_requirement(tally: &mut [u32], part: &[u8]) -> u64
+    ensures { RequirementCalled tally.old part.now result tally.new }
+{
+    dullavane::dullavane_requirement(tally, part)
+}
+
+// Answers a requirement: its members' numbers in the columns, its figures in eight words. Refuses 12 for the tally's words, 11 before the last unit,
+// 12, 11 for lent numbers, then 1 and 10.
+#[unsafe(no_mangle)]
+pub extern "C" fn dullavane_answer(
+    tally: &[u32],
+    part: &[u8],
+    measures: &[i32],
+    sums: &[i64],
+    figures: &[i64],
+    homes: &[u8],
+    rows: &[i64],
+    performances: &mut [i64],
+    factors: &mut [i64],
+    payments: &mut [i64],
+    used: &mut [i64],
+    unused: &mut [i64],
+    reply: &mut [u64],
+) -> u32
+    ensures { (rest : Lent) → AnswerCalled tally.now part.now
+        (lent_answer rest measures.now sums.now figures.now homes.now rows.now)
+        (columns performances.old factors.old payments.old used.old unused.old)
+        reply.old result
+        (columns performances.new factors.new payments.new used.new unused.new)
+        reply.new }
+{
+    dullavane::dullavane_answer(
+        tally,
+        part,
+        measures,
+        sums,
+        figures,
+        homes,
+        rows,
+        performances,
+        factors,
+        payments,
+        used,
+        unused,
+        reply,
+    )
+}
+
+// Who stands in a row, for a requirement of this direction and region set: three words. Refuses 12 for the tally's words, 11 out of turn or
+// for a number over its width, 12 for the three words, then as `member` does: 11 for row and set, 12 for lists, 11 for lent numbers.
+#[unsafe(no_mangle)]
+pub extern "C" fn dullavane_member(
+    tally: &[u32],
+    row: u32,
+    direction: u32,
+    set: u32,
+    figures: &[i64],
+    numbers: &[u16],
+    homes: &[u8],
+    words: &mut [u32],
+) -> u32
+    ensures { (rest : Lent) → MemberCalled tally.now row direction set
+        (lent_member rest figures.now numbers.now homes.now) words.old result words.new }
+{
+    dullavane::dullavane_member(tally, row, direction, set, figures, numbers, homes, words)
+}
+
+// Count and default of a member's week, in two numbers. Refuses 12, 5 for who the member is, 17, then 14.
+#[unsafe(no_mangle)]
+pub extern "C" fn dullavane_week(
+    whose: u16,
+    performances: &[i64],
+    live: &[u8],
+    reply: &mut [i64],
+) -> u32
+    ensures { WeekCalled whose performances.now live.now reply.old result reply.new }
+{
+    dullavane::dullavane_week(whose, performances, live, reply)
+}
+
+// The same for a whole roster, the members' weeks one after another. Refuses 12, then for all members 5, 17 and 14.
+#[unsafe(no_mangle)]
+pub extern "C" fn dullavane_weeks(
+    intervals: u32,
+    whose: &[u16],
+    performances: &[i64],
+    live: &[u8],
+    counts: &mut [u16],
+    defaults: &mut [i64],
+) -> u32
+    ensures { WeeksCalled intervals whose.now performances.now live.now
+        counts.old defaults.old result counts.new defaults.new }
+{
+    dullavane::dullavane_weeks(intervals, whose, performances, live, counts, defaults)
+}
+
+// Adds an interval to a running week, live unless the flag is 0. Refuses 12 for the week's words, 11, 5, then 17.
+#[unsafe(no_mangle)]
+pub extern "C" fn dullavane_week_add(
+    whose: u16,
+    live: u8,
+    performance: i64,
+    week: &mut [u64],
+) -> u32
+    ensures { WeekAddCalled whose live performance week.old result week.new }
+{
+    dullavane::dullavane_week_add(whose, live, performance, week)
+}
+
+// Reads count and default off a running week. Refuses 12 for either list, 11, 5, then 14.
+#[unsafe(no_mangle)]
+pub extern "C" fn dullavane_week_read(whose: u16, week: &[u64], reply: &mut [i64]) -> u32
+    ensures { WeekReadCalled whose week.now reply.old result reply.new }
+{
+    dullavane::dullavane_week_read(whose, week, reply)
+}
+
+// Is a factor sheet possible? What is wrong and the member, from 1, in two words. Refuses 12 for fewer than two words, then 5 for more than 513 factors, 12
+// where factors and performances differ in number, and 5 where a side's absolute total passes the limit of W.
+#[unsafe(no_mangle)]
+pub extern "C" fn dullavane_sheet(performances: &[i64], factors: &[i64], verdict: &mut [u64]) -> u32
+    ensures { SheetCalled performances.now factors.now verdict.old result verdict.new }
+{
+    dullavane::dullavane_sheet(performances, factors, verdict)
+}
+
+// Writes a book from its values: settings by value, a row of numbers a record and the long fields in lists of their own type. Its length, or the refusal with
+// place
+// and t. Refuses 12 by the counts as given, 5, then what the reader would refuse, in the order of the book.
+#[unsafe(no_mangle)]
+pub extern "C" fn dullavane_write(
+    smoothing: i64,
+    limit: i64,
+    percent: i64,
+    interval: i64,
+    region_rows: &[i64],
+    region_qualities: &[u8],
+    frequencies: &[u32],
+    units: u32,
+    unit_rows: &[i64],
+    unit_qualities: &[u8],
+    readings: &[i32],
+    requirements: u32,
+    requirement_rows: &[i64],
+    book: &mut [u8],
+) -> u64
+    ensures { WriteCalled
+        (handed_in smoothing limit percent interval region_rows.now region_qualities.now frequencies.now units
+        unit_rows.now unit_qualities.now readings.now requirements requirement_rows.now)
+        book.old result book.new }
+{
+    dullavane::dullavane_write(
+        smoothing,
+        limit,
+        percent,
+        interval,
+        region_rows,
+        region_qualities,
+        frequencies,
+        units,
+        unit_rows,
+        unit_qualities,
+        readings,
+        requirements,
+        requirement_rows,
+        book,
+    )
+}
+
+// Draws the trend strip of the unit whose record `part` starts with: 75 points in MW, lowest, highest and last, and how many points are drawn, 75 or 0 for a
+// bad unit. The refusal with its t; place 0. Refuses 12 for each of the three lists, then 1, 81, 82, 83 and 84.
+#[unsafe(no_mangle)]
+pub extern "C" fn dullavane_trend(
+    part: &[u8],
+    points: &mut [f32],
+    strip: &mut [f32],
+    drawn: &mut [u32],
+) -> u64
+    ensures { TrendCalled part.now points.old strip.old drawn.old result
+        points.new strip.new drawn.new }
+{
+    dullavane::dullavane_trend(part, points, strip, drawn)
+}
+
+// Writes a row of the performance report from its numbers: its length, or the refusal. Refuses 11 for a number over its field, 15, then 12 for the text.
+#[unsafe(no_mangle)]
+pub extern "C" fn dullavane_report_row(
+    interval: u32,
+    residual: u32,
+    number: u32,
+    raise: i64,
+    raise_type: u32,
+    lower: i64,
+    lower_type: u32,
+    version: u32,
+    text: &mut [u8],
+) -> u64
+    ensures { RowCalled (row_narrow residual number raise_type lower_type version)
+        (row_in interval residual number raise raise_type lower lower_type version) text.old result text.new }
+{
+    dullavane::dullavane_report_row(
+        interval, residual, number, raise, raise_type, lower, lower_type, version, text,
+    )
+}
+
+// Writes a row of a taken book's report, 0 the first: the members in roster order, then the five regions' residuals. Refuses 12 for the tally's words, 11 out
+// of turn or for a version over 16 bits, then as `report` does: 12 for lists, 11 for lent numbers and a row past the last; then 15, and 12 for the text.
+#[unsafe(no_mangle)]
+pub extern "C" fn dullavane_report(
+    tally: &[u32],
+    row: u32,
+    version: u32,
+    figures: &[i64],
+    numbers: &[u16],
+    homes: &[u8],
+    rows: &[i64],
+    text: &mut [u8],
+) -> u64
+    ensures { (rest : Lent) → ReportCalled tally.now row version
+        (lent_report rest figures.now numbers.now homes.now rows.now) text.old result text.new }
+{
+    dullavane::dullavane_report(tally, row, version, figures, numbers, homes, rows, text)
+}
+
+// Reads a row of the report back into eight numbers. Refuses 12 for fewer, then 18 with the first wrong column as t.
+#[unsafe(no_mangle)]
+pub extern "C" fn dullavane_report_read(row: &[u8], numbers: &mut [i64]) -> u64
+    ensures { ReadCalled row.now numbers.old result numbers.new }
+{
+    dullavane::dullavane_report_read(row, numbers)
+}

@@ -1,0 +1,12 @@
+-- The digits of what is left of the number belong before those that are put; each turn puts one.
+use Rattle.report_row.proofs.PutLaws.{left_all, left_less, left_none}
+use Rattle.report_row.proofs.pieces.put_padded.Goals as goal
+
+pub loop-to-init : goal.loop-to-init
+loop-to-init c = left_all _ _ _ _
+
+pub loop-to-preserved : goal.loop-to-preserved
+loop-to-preserved c = left_less c.requires c.loop-to.invariant c.loop-to-test.true
+
+pub returns : goal.returns
+returns c = left_none c.requires c.loop-to.invariant c.loop-to-test.false

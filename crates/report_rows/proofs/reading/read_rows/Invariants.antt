@@ -1,0 +1,10 @@
+-- The pieces left fall.
+use Rattle.report_rows.proofs.reading.read_rows.Given as goal
+
+abbrev pub invariant-loop-left : goal.invariant-loop-left
+invariant-loop-left l =
+    Unit {0}
+
+abbrev pub decreases-loop-left : goal.decreases-loop-left
+decreases-loop-left l =
+    l.left

@@ -1,0 +1,21 @@
+-- What passes the test is not below zero and fits.
+use mathlib.Core.Path.{ap}
+use mathlib.Core.Bool.{not}
+use Prim.Native.Nat.{◌^◌}
+use mir.Facts.{to_z-of_z}
+use mir.Syntax.{w8}
+use Rattle.rules.specs.Laid.{below}
+use Rattle.writer.proofs.WordsLaws.{refused, passed, below_fits}
+use Rattle.writer.proofs.words.one_byte.Goals as goal
+
+pub returns-then-not-below : goal.returns-then-not-below
+returns-then-not-below c = rw (refused (below (2 ^ 8)) c.ranges.x c.below.ensures (ap not c.if-not-below.true))
+
+pub overflow_cast-result : goal.overflow_cast-result
+overflow_cast-result c =
+    simp (to_z-of_z, c.ranges.x)
+    (below_fits {w = w8} c.args.x (passed (below (2 ^ 8)) c.ranges.x c.below.ensures (ap not c.if-not-below.false)))
+
+pub returns : goal.returns
+returns c =
+    rw (passed (below (2 ^ 8)) c.ranges.x c.below.ensures (ap not c.if-not-below.false)) (simp (to_z-of_z, c.ranges.x))
