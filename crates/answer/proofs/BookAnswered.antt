@@ -1,6 +1,8 @@
 -- DEMAND 2, WHOLE: once a chain of calls has all units in, `answer` over any part that a requirement's record starts gives exactly the rules' answer about the
 -- book that was taken: its figures, and in the columns each number of its lines; and `member` over the rows gives each line's name and standing. Nothing is
 -- refused. And `report` gives each row of the rules' report of the book (02, R-11).
+use Rattle.std.specs.Prelude.{Result, Ok}
+use Rattle.rules.specs.declared.Refusal.{Refusal}
 use mathlib.Core.Path.{◌≡◌, refl, sym, ◌∙◌, ap, ap₂}
 use mathlib.Core.Bool.{true, false, ◌&&◌}
 use mathlib.Core.List.{List, [], ◌∷◌, ◌++◌, map}
@@ -32,13 +34,12 @@ use Rattle.chain.proofs.Spelled.{book_means, spelled_hands, chain_book}
 use Rattle.chain.specs.Answerable.{Answerable}
 use Rattle.chain.proofs.ReportIs.{row_there, row_past, report_is}
 use Rattle.chain.proofs.Answerable.{chain_answerable, units_answerable, ended_answerable, requirement_read}
+use Rattle.answer.specs.declared.Answer.{Answer}
 use Rattle.answer.specs.declared.Row.{Row}
 use Rattle.answer.specs.Lists.{gathered}
 use Rattle.answer.specs.Roster.{Named, row_says, row_answer, MemberPromise}
 use Rattle.answer.proofs.RosterLaws.{named, walk, member_taken, set_five}
 use Rattle.answer.specs.Report.{report_found}
-use Rattle.answer.specs.declared.Answered.{Answered}
-use Rattle.answer.specs.declared.Answered.TheVariants.{Given}
 use Rattle.answer.specs.Promises.{Columns, columns_long, answer_reply, shown, replied, with_lines, AnswerPromise}
 use Rattle.answer.proofs.CallLaws.{record_fine}
 use Rattle.answer.specs.BookAnswered.{Answers, BookAnswered, RulesAnswer, RulesAnswers, RulesReport, SpelledAnswered, line_named}
@@ -71,10 +72,10 @@ module _ {b : Book} {t : Tally} {l : Lent} (h : Answerable b t l) (part : List �
   five = set_five q.set (record_fine part q asked).set
 
   pub figures_answered :
-      {old new : Columns} {r : Answered} → columns_long t.units old ≡ true → AnswerPromise t part l old r new → Answers q (answer b q) old r new
+      {old new : Columns} {r : Result Answer Refusal} → columns_long t.units old ≡ true → AnswerPromise t part l old r new → Answers q (answer b q) old r new
   figures_answered {old} c p =
       record {
-        reply = p.reply ∙ ap (replied t l) (decided old c) ∙ ap (λ (a : Full). Given (shown q a)) (h.answers q five);
+        reply = p.reply ∙ ap (replied t l) (decided old c) ∙ ap (λ (a : Full). Ok (shown q a)) (h.answers q five);
         written =
             p.written ∙ ap (λ (y : Reply Requirement). left (λ q. with_lines (kept_answer t l q)) y old) (decided old c)
             ∙ ap (λ (a : Full). with_lines a old) (h.answers q five);

@@ -1,4 +1,6 @@
 -- How the call's promise is met: by the record that is read past the tests, or by the first refusal.
+use Rattle.std.specs.Prelude.{Result, Ok, Err}
+use Rattle.answer.specs.declared.Answer.{Answer}
 use mathlib.Core.Path.{◌≡◌, sym, ◌∙◌, ap}
 use mathlib.Core.Bool.{true, false, not, ◌&&◌, ◌||◌}
 use mathlib.Core.List.{List}
@@ -22,10 +24,7 @@ use Rattle.interval.specs.Lent.{Lent, lent_answer}
 use Rattle.interval.specs.Tally.{units_end, in_range, answer_turn}
 use Rattle.interval.proofs.TallyLaws.{settings_stay}
 use Rattle.book.specs.declared.RequirementFields.{RequirementFields}
-use Rattle.book.specs.declared.RequirementRead.TheVariants as read
 use Rattle.book.specs.Requirement.{requirement_of, requirement_answer}
-use Rattle.answer.specs.declared.Answered.{Answered}
-use Rattle.answer.specs.declared.Answered.TheVariants.{Refused}
 use Rattle.answer.specs.Promises.{Columns, columns_long, answer_reply, AnswerPromise}
 use Rattle.answer.specs.Tested.{tested_requirement}
 use Rattle.answer.proofs.TestedLaws.{Tested, tested_reply}
@@ -34,13 +33,13 @@ use Rattle.answer.specs.Worked.{required, Passed, WorkedOut}
 
 -- ---- the record
 -- a requirement that is read is the record's
-pub was_read : (y : Reply Requirement) (f : RequirementFields) → read.Taken f ≡ requirement_answer y → y ≡ taken (required f)
+pub was_read : (y : Reply Requirement) (f : RequirementFields) → Ok f ≡ requirement_answer y → y ≡ taken (required f)
 was_read (taken q) f e =
     let same : f ≡ requirement_of q = cc in
     ap (λ (g : RequirementFields). taken (required g)) (sym same)
 was_read (refused x) f e = let z : ◌≡◌ {A = ℕ} 0 1 = cc in absurd (omega arith)
 
-pub not_read : (y : Reply Requirement) (x : Refusal) → read.Refused x ≡ requirement_answer y → y ≡ refused x
+pub not_read : (y : Reply Requirement) (x : Refusal) → Err x ≡ requirement_answer y → y ≡ refused x
 not_read (taken q) x e = let z : ◌≡◌ {A = ℕ} 0 1 = cc in absurd (omega arith)
 not_read (refused y) x e = cc
 
@@ -99,10 +98,10 @@ module _ (t : Tally) (part : List ℕ) (l : Lent) (old : Columns) (rest : Lent) 
   told e = tested_reply t part rest l old ∙ e
 
   pub refuses :
-      (x : Refusal) → tested_requirement t part l (columns_long t.units old) ≡ refused x → AnswerPromise t part (with_rest rest l) old (Refused x) old
+      (x : Refusal) → tested_requirement t part l (columns_long t.units old) ≡ refused x → AnswerPromise t part (with_rest rest l) old (Err x) old
   refuses x e = record { reply = rw (told e); written = rw (told e) }
 
   pub gives :
-      (f : RequirementFields) {a : Answered} {new : Columns} → tested_requirement t part l (columns_long t.units old) ≡ taken (required f) →
+      (f : RequirementFields) {a : Result Answer Refusal} {new : Columns} → tested_requirement t part l (columns_long t.units old) ≡ taken (required f) →
       WorkedOut t f (with_rest rest l) old a new → AnswerPromise t part (with_rest rest l) old a new
   gives f e w = record { reply = rw (told e) w.reply; written = rw (told e) w.written }

@@ -1,5 +1,7 @@
 -- Laws of the definitions in specs/Report.antt: where a row stands. The members are the rows that are not passed over, so a row is the n-th member where n rows
 -- before it are members, and it is one itself.
+use Rattle.std.specs.Prelude.{Result}
+use Rattle.rules.specs.declared.Refusal.{Refusal}
 use mathlib.Core.Path.{◌≡◌, refl, sym, ◌∙◌, ap}
 use mathlib.Core.Bool.{Bool, true, false, cond, ◌&&◌}
 use mathlib.Core.List.{List, [], ◌∷◌, ◌++◌}
@@ -34,12 +36,11 @@ use Rattle.kept.specs.Range.{rows_fine}
 use Rattle.kept.specs.KeptReport.{Place, member, residual, stands, member_rows, place_of, place_row, report_long, fine_row, report_reply}
 use Rattle.chain.proofs.ChainLaws.{listed_more, listed_length}
 use Rattle.answer.specs.Asked.{no_lists, tally_of, lent_members}
-use Rattle.answer.specs.declared.ReportFound.{ReportFound}
 use Rattle.answer.specs.declared.report.Place.TheVariants.{Member, Residual, Past}
 use Rattle.answer.specs.Report.{lent_report, placed, region_at, members_to, MembersBetween, MemberThere, ReportPromise}
 
 pub report_only :
-    {t : Tally} {row version : ℕ} {l : Lent} {r r' : ReportFound} → ReportPromise t row version l r → ReportPromise t row version l r' → r ≡ r'
+    {t : Tally} {row version : ℕ} {l : Lent} {r r' : Result ReportRow Refusal} → ReportPromise t row version l r → ReportPromise t row version l r' → r ≡ r'
 report_only a b = a.reply ∙ sym b.reply
 
 pub region_name_only : (region : ℕ) {r r' : RegionName} → r ≡ region_name region → r' ≡ region_name region → r ≡ r'

@@ -1,4 +1,6 @@
 -- Laws of the definitions in specs/Shares.antt.
+use Rattle.std.specs.Prelude.{Result, Ok, Err}
+use Rattle.answer.specs.declared.shares.Paid.{Paid}
 use mathlib.Core.Path.{◌≡◌, sym, ◌∙◌, ap, ap₂}
 use mathlib.Core.Bool.{Bool}
 use mathlib.Core.List.{List, map}
@@ -18,16 +20,11 @@ use Rattle.rules.specs.Cents.{any_weight}
 use Rattle.rules.specs.Refusals.{Reply, taken}
 use Rattle.rules.specs.Share.{weight_sum, weight_at, share_of, unplaced_of, share_reply}
 use Rattle.interval.specs.Lent.{Lent}
-use Rattle.share.specs.declared.Shared.{Shared}
-use Rattle.share.specs.declared.SharedSigns.{SharedSigns}
-use Rattle.share.specs.declared.SharedSigns.TheVariants as ss
 use Rattle.share.specs.Promises.{debit, answered, where_taken, SharedOut}
 use Rattle.share.specs.Signs.{signs_at, answered_signs, SignsOut}
 use Rattle.answer.specs.declared.Field.{Field}
 use Rattle.answer.specs.declared.Field.TheVariants.{Payment}
 use Rattle.answer.specs.declared.Member.{Member}
-use Rattle.answer.specs.declared.shares.Paying.{Paying}
-use Rattle.answer.specs.declared.shares.Paying.TheVariants.{Made}
 use Rattle.answer.proofs.Lists.{headed_length, headed_take}
 use Rattle.answer.specs.Values.{MembersThere, Listed, numbers}
 use Rattle.answer.proofs.ValuesLaws.{numbers_few}
@@ -48,7 +45,7 @@ fits_taken {T} {side} {ps} {n} h =
     )
 
 pub charged :
-    {T : ℕ} {ps old : List ℤ} {r : Shared} {new : List ℤ} → Shareable T loss ps (length old) → SharedOut debit T (map loss ps) old r new →
+    {T : ℕ} {ps old : List ℤ} {r : Result ℕ Refusal} {new : List ℤ} → Shareable T loss ps (length old) → SharedOut debit T (map loss ps) old r new →
     Charged T ps old r new
 charged {T} {ps} {old} h p =
     record {
@@ -59,7 +56,7 @@ charged {T} {ps} {old} h p =
     }
 
 pub signs_shared :
-    {T : ℕ} {ps old : List ℤ} {r : SharedSigns} {new : List ℤ} → Shareable T gain ps (length old) → Shareable T loss ps (length old) →
+    {T : ℕ} {ps old : List ℤ} {r : Result (ℕ × ℕ) Refusal} {new : List ℤ} → Shareable T gain ps (length old) → Shareable T loss ps (length old) →
     SignsOut T ps old r new → SignsShared T ps old r new
 signs_shared {T} {ps} {old} g h p =
     record {
@@ -69,8 +66,13 @@ signs_shared {T} {ps} {old} g h p =
           ∙ ap₂ (λ (a b : Reply ℕ). where_taken a (where_taken b (filled (length ps) (signs_at T ps) old) old) old) (fits_taken g) (fits_taken h);
     }
 
+-- what of either side is unplaced
+abbrev placed : Result (ℕ × ℕ) Refusal → ℕ × ℕ
+placed (Ok sides) = sides
+placed (Err r) = (0, 0)
+
 -- so no refusal is passed on
-pub not_refused : {A : Type 0} {u v : ℕ} (x : Refusal) → ss.Refused x ≡ ss.Placed u v → A
+pub not_refused : {A : Type 0} {u v : ℕ} (x : Refusal) → ◌≡◌ {A = Result (ℕ × ℕ) Refusal} (Err x) (Ok (u, v)) → A
 not_refused x e = let z : ◌≡◌ {A = ℕ} 0 1 = cc in absurd (omega arith)
 
 -- ---- over the members of a requirement
@@ -100,27 +102,27 @@ module _ {f : Field} {units : ℕ} {d : Direction} {set : ℕ} {l : Lent} {resid
   pub members_513 : r ≤ 513
   members_513 = omega (arith, k.many, numbers_few f units d set l, h.tested.regions.performances.raise.few)
 
-  pub members_charged : {T : ℕ} {u : Shared} {was now : List ℤ} → Charged T (take r new) was u now → MembersCharged f T units d set l old was u new now
+  pub members_charged : {T : ℕ} {u : Result ℕ Refusal} {was now : List ℤ} → Charged T (take r new) was u now → MembersCharged f T units d set l old was u new now
   members_charged c = let e = rw front.1 at c in record { reply = e.reply; column = k.column; amounts = e.amounts }
 
 module _ {units : ℕ} {d : Direction} {set : ℕ} {l : Lent} {residual : Member} {old new : List ℤ} {r : ℕ}
     (h : MembersThere units d set l residual (length old)) (k : Listed Payment units d set l old r new) where
   pub members_paid :
-      {price rcr a b pool : ℕ} {old₂ old₃ new₂ new₃ : List ℤ} {sides : SharedSigns} {paying : Paying} → SignsShared billion (take r new) old₂ sides new₂ →
-      sides ≡ ss.Placed a b → pool ≡ pool_cents price rcr (eqb a 0) (eqb b 0) → PoolPaid r pool (take r new) old₃ paying new₃ →
+      {price rcr a b pool : ℕ} {old₂ old₃ new₂ new₃ : List ℤ} {sides : Result (ℕ × ℕ) Refusal} {paying : Result Paid Refusal} → SignsShared billion (take r new) old₂ sides new₂ →
+      sides ≡ Ok (a, b) → pool ≡ pool_cents price rcr (eqb a 0) (eqb b 0) → PoolPaid r pool (take r new) old₃ paying new₃ →
       MembersPaid price rcr units d set l old old₂ old₃ paying new new₂ new₃
   members_paid {price} {rcr} {a} {b} {pool} {old₂} {old₃} {new₂} {new₃} {sides} {paying} x e ep y =
       let vs = numbers Payment units d set l in
       let j = rw (front h k).1 at x in
       let m = rw (front h k).1 at y in
-      let same : ss.Placed a b ≡ ss.Placed (unplaced_of billion (map gain vs)) (unplaced_of billion (map loss vs)) = sym e ∙ j.reply in
-      let ea : a ≡ unplaced_of billion (map gain vs) = cc in
-      let eb : b ≡ unplaced_of billion (map loss vs) = cc in
+      let same = sym e ∙ j.reply in
+      let ea : a ≡ unplaced_of billion (map gain vs) = ap (λ (z : Result (ℕ × ℕ) Refusal). (placed z).0) same in
+      let eb : b ≡ unplaced_of billion (map loss vs) = ap (λ (z : Result (ℕ × ℕ) Refusal). (placed z).1) same in
       let up : eqb a 0 ≡ any_weight (map gain vs) = ap (λ (z : ℕ). eqb z 0) ea ∙ placed_by_weight billion (map gain vs) (omega arith) in
       let down : eqb b 0 ≡ any_weight (map loss vs) = ap (λ (z : ℕ). eqb z 0) eb ∙ placed_by_weight billion (map loss vs) (omega arith) in
       let is : pool ≡ pool_over price rcr vs = ep ∙ ap₂ (λ (s t : Bool). pool_cents price rcr s t) up down in
       record {
-        reply = m.reply ∙ ap₂ (λ (i j : ℕ). Made (record { members = i; pool = j })) k.many is;
+        reply = m.reply ∙ ap₂ (λ (i j : ℕ). Ok (record { members = i; pool = j })) k.many is;
         performances = k.column;
         factors = j.amounts;
         payments = m.payments ∙ ap (λ (z : ℕ). filled (length vs) (signs_at z vs) old₃) is;

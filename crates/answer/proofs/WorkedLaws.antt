@@ -1,4 +1,7 @@
 -- Laws of the definitions in specs/Worked.antt.
+use Rattle.std.specs.Prelude.{Result, Ok}
+use Rattle.answer.specs.declared.shares.Paid.{Paid}
+use Rattle.rules.specs.declared.Refusal.{Refusal}
 use mathlib.Core.Path.{◌≡◌, refl, sym, ◌∙◌, ap, ap₂}
 use mathlib.Core.Bool.{Bool, true, false, cond, ◌&&◌}
 use mathlib.Core.List.{List, [], ◌∷◌, ◌++◌, map, map-map}
@@ -48,13 +51,11 @@ use Rattle.share.specs.Signs.{signs_at}
 use Rattle.answer.specs.Asked.{lent, lent_members, tally_of, asked}
 use Rattle.answer.specs.Lists.{headed}
 use Rattle.answer.specs.declared.Answer.{Answer}
-use Rattle.answer.specs.declared.Answered.TheVariants.{Given}
 use Rattle.answer.specs.declared.Field.{Field}
 use Rattle.answer.specs.declared.Field.TheVariants.{Payment, Used, Unused}
 use Rattle.answer.specs.declared.Member.{Member as Sharer}
 use Rattle.answer.specs.declared.charges.Charges.{Charges}
 use Rattle.answer.specs.declared.rcr.Found.{Found}
-use Rattle.answer.specs.declared.shares.Paying.{Paying}
 use Rattle.answer.specs.Rcr.{RcrTested, found_is}
 use Rattle.answer.proofs.RcrLaws.{rcr_tested}
 use Rattle.answer.specs.Made.{field_of}
@@ -326,7 +327,7 @@ module _ (t : Tally) (f : RequirementFields) (l : Lent) where
       ∙ headed_again (listed t l q Payment) (listed t l q Unused) old (listed_many t l q Payment ∙ sym (listed_many t l q Unused))
 
   pub worked_out :
-      {x : Found} {m : Sharer} {charges : Charges} {paying : Paying} {old₁ old₂ old₃ old₄ old₅ middle new₁ new₂ new₃ new₄ new₅ : List ℤ} →
+      {x : Found} {m : Sharer} {charges : Charges} {paying : Result Paid Refusal} {old₁ old₂ old₃ old₄ old₅ middle new₁ new₂ new₃ new₄ new₅ : List ℤ} →
       x ≡ found_is t.units t.percent f.direction f.set (lent l.measures l.sums l.figures l.homes []) →
       m ≡ residual_to t.units members_lent f.direction f.set regions →
       CostCharged f x.reliable t.units members_lent old₁ old₄ old₅ charges middle new₄ new₅ →
@@ -346,7 +347,7 @@ module _ (t : Tally) (f : RequirementFields) (l : Lent) where
       record {
         reply =
             rw (b.reply, a.reply, c.reply)
-            (ap Given
+            (ap Ok
             (answer_same
             (many_lines t l q the_pool the_used the_unused)
             (last ∙ sym (last_is t l q the_pool the_used the_unused))

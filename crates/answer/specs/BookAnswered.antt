@@ -1,5 +1,6 @@
 -- What proofs/BookAnswered.antt speaks of.
-use Rattle.std.specs.Prelude.{◌≡◌, true, false, List, [], ◌∷◌, ◌++◌, map, ℕ, ◌+◌, ◌≤◌, ◌<◌, length, get_or}
+use Rattle.rules.specs.declared.Refusal.{Refusal}
+use Rattle.std.specs.Prelude.{◌≡◌, true, false, List, [], ◌∷◌, ◌++◌, map, ℕ, ◌+◌, ◌≤◌, ◌<◌, length, get_or, Result, Ok, Err}
 use Rattle.rules.specs.declared.Refusal.TheVariants.{WrongState}
 use Rattle.rules.specs.declared.ReportRow.{ReportRow}
 use Rattle.rules.specs.Refusals.{taken}
@@ -18,19 +19,16 @@ use Rattle.chain.specs.Chain.{Chain}
 use Rattle.chain.specs.BookWay.{records_in, Takes}
 use Rattle.chain.specs.Keeps.{BookMeans}
 use Rattle.chain.specs.Spelled.{spelled}
+use Rattle.answer.specs.declared.Answer.{Answer}
 use Rattle.answer.specs.declared.Row.{Row}
 use Rattle.answer.specs.Lists.{gathered}
 use Rattle.answer.specs.Roster.{Named, row_says, MemberPromise}
-use Rattle.answer.specs.declared.ReportFound.{ReportFound}
-use Rattle.answer.specs.declared.ReportFound.TheVariants.{Found, Refused}
 use Rattle.answer.specs.Report.{ReportPromise}
-use Rattle.answer.specs.declared.Answered.{Answered}
-use Rattle.answer.specs.declared.Answered.TheVariants.{Given}
 use Rattle.answer.specs.Promises.{Columns, columns_long, shown, with_lines, AnswerPromise}
 
 -- an answer's figures, and from the front of each column on a number of each of its lines
-pub record Answers (q : Requirement) (a : Full) (old : Columns) (r : Answered) (new : Columns) : Type 0 where
-  pub reply : r ≡ Given (shown q a)
+pub record Answers (q : Requirement) (a : Full) (old : Columns) (r : Result Answer Refusal) (new : Columns) : Type 0 where
+  pub reply : r ≡ Ok (shown q a)
   pub written : new ≡ with_lines a old
 
 -- a line's name and standing
@@ -40,7 +38,7 @@ line_named l = record { name = l.name; standing = l.standing }
 -- ---- THE RULES' ANSWER about a book, to a requirement whose record starts a part: what the calls give that are handed this part
 pub record RulesAnswer (b : Book) (t : Tally) (l : Lent) (part : List ℕ) (q : Requirement) : Type 0 where
   -- `answer` gives its figures and its lines' numbers, and refuses nothing
-  pub answered : {old new : Columns} {r : Answered} → columns_long t.units old ≡ true → AnswerPromise t part l old r new → Answers q (answer b q) old r new
+  pub answered : {old new : Columns} {r : Result Answer Refusal} → columns_long t.units old ≡ true → AnswerPromise t part l old r new → Answers q (answer b q) old r new
   -- `member` tells of each row: a member of the requirement's regions, with its number and standing, or none: the row is of another region, or passed over
   pub rows :
       (j : ℕ) → j < t.units → {r : Row} → MemberPromise t j q.direction q.set l r → r ≡ row_says l q.direction q.set j
@@ -56,12 +54,12 @@ abbrev pub RulesAnswers : Book → Tally → Lent → Type 0
 RulesAnswers b t l = (part : List ℕ) (q : Requirement) → requirement_record 0 false part ≡ taken q → RulesAnswer b t l part q
 
 -- ---- THE RULES' REPORT of a book: what `report` gives, each of its rows by its number from 0, z standing where a report has none; past the last row 11
-pub record Reports (b : Book) (row version : ℕ) (r : ReportFound) : Type 0 where
-  pub there : (z : ReportRow) → row < length (report_rows b version) → r ≡ Found (get_or (report_rows b version) row z)
-  pub past : length (report_rows b version) ≤ row → r ≡ Refused WrongState
+pub record Reports (b : Book) (row version : ℕ) (r : Result ReportRow Refusal) : Type 0 where
+  pub there : (z : ReportRow) → row < length (report_rows b version) → r ≡ Ok (get_or (report_rows b version) row z)
+  pub past : length (report_rows b version) ≤ row → r ≡ Err WrongState
 
 abbrev pub RulesReport : Book → Tally → Lent → Type 0
-RulesReport b t l = (row version : ℕ) (r : ReportFound) → ReportPromise t row version l r → Reports b row version r
+RulesReport b t l = (row version : ℕ) (r : Result ReportRow Refusal) → ReportPromise t row version l r → Reports b row version r
 
 -- the book's requirements are asked for by their own parts; z stands where a book has none
 abbrev pub Asks : List ℕ → (ℕ → List ℕ) → Book → Type 0

@@ -1,6 +1,7 @@
 -- What `answer` promises, completely: its reply and each number of the five columns, on refusals too (01, Factors, RCR, Cents; Numbers the box can say no
 -- with). The answer is the one that what is kept gives, `kept_answer`; its lines' numbers go to the columns, one row a member.
-use Rattle.std.specs.Prelude.{◌≡◌, Bool, false, ◌&&◌, List, [], ◌∷◌, map, ℕ, ltb, ℤ, length}
+use Rattle.rules.specs.declared.Refusal.{Refusal}
+use Rattle.std.specs.Prelude.{◌≡◌, Bool, false, ◌&&◌, List, [], ◌∷◌, map, ℕ, ltb, ℤ, length, Result, Ok, Err}
 use Rattle.rules.specs.declared.Refusal.TheVariants.{WrongState, TooShort}
 use Rattle.rules.specs.declared.Standing.{Standing}
 use Rattle.rules.specs.declared.Standing.TheVariants.{Live}
@@ -16,8 +17,6 @@ use Rattle.kept.specs.Kept.{kept_answer}
 use Rattle.kept.specs.Range.{kept_fine}
 use Rattle.answer.specs.Lists.{headed}
 use Rattle.answer.specs.declared.Answer.{Answer}
-use Rattle.answer.specs.declared.Answered.{Answered}
-use Rattle.answer.specs.declared.Answered.TheVariants.{Given, Refused}
 
 -- ---- the five columns; each takes one number more than there are units
 pub record Columns : Type 0 where
@@ -65,9 +64,9 @@ shown q a =
       unused = record { pool = a.unused_pool; unplaced = a.unplaced_unused };
     }
 
-abbrev pub replied : Tally → Lent → Reply Requirement → Answered
-replied t l (taken q) = Given (shown q (kept_answer t l q))
-replied t l (refused r) = Refused r
+abbrev pub replied : Tally → Lent → Reply Requirement → Result Answer Refusal
+replied t l (taken q) = Ok (shown q (kept_answer t l q))
+replied t l (refused r) = Err r
 
 -- a number of each line, from the front of each column on
 abbrev pub with_lines : Full → Columns → Columns
@@ -81,6 +80,6 @@ with_lines a old =
     }
 
 -- ---- the promise
-pub record AnswerPromise (t : Tally) (part : List ℕ) (l : Lent) (old : Columns) (r : Answered) (new : Columns) : Type 0 where
+pub record AnswerPromise (t : Tally) (part : List ℕ) (l : Lent) (old : Columns) (r : Result Answer Refusal) (new : Columns) : Type 0 where
   pub reply : r ≡ replied t l (answer_reply t part l old)
   pub written : new ≡ left (λ q. with_lines (kept_answer t l q)) (answer_reply t part l old) old

@@ -1,5 +1,6 @@
 -- What `report` promises, and what its functions promise each other. The rows themselves are those of `kept`, KeptReport.
-use Rattle.std.specs.Prelude.{◌≡◌, true, List, [], ℕ, ◌+◌, ◌*◌, ◌<◌, ◌≤◌, ltb, ℤ, length}
+use Rattle.rules.specs.declared.Refusal.{Refusal}
+use Rattle.std.specs.Prelude.{◌≡◌, true, List, [], ℕ, ◌+◌, ◌*◌, ◌<◌, ◌≤◌, ltb, ℤ, length, Result, Ok, Err}
 use Rattle.rules.specs.declared.Refusal.TheVariants.{WrongState}
 use Rattle.rules.specs.declared.ReportRow.{ReportRow}
 use Rattle.integers.specs.Totals.{those}
@@ -10,8 +11,6 @@ use Rattle.interval.specs.declared.Tally.{Tally}
 use Rattle.interval.specs.Lent.{Lent, figures_length, row_each}
 use Rattle.kept.specs.KeptReport.{Place, member, residual, stands, report_reply}
 use Rattle.answer.specs.Asked.{lent_members}
-use Rattle.answer.specs.declared.ReportFound.{ReportFound}
-use Rattle.answer.specs.declared.ReportFound.TheVariants.{Found, Refused}
 use Rattle.answer.specs.declared.report.Place.{Place as At}
 use Rattle.answer.specs.declared.report.Place.TheVariants.{Member, Residual, Past}
 
@@ -62,9 +61,9 @@ pub record RowsThere (units : ℕ) (l : Lent) : Type 0 where
   pub rows : row_each * units ≤ length l.rows
 
 -- ---- the promise: the row, or the refusal
-abbrev pub report_found : Reply ReportRow → ReportFound
-report_found (taken r) = Found r
-report_found (refused r) = Refused r
+abbrev pub report_found : Reply ReportRow → Result ReportRow Refusal
+report_found (taken r) = Ok r
+report_found (refused r) = Err r
 
-pub record ReportPromise (t : Tally) (row version : ℕ) (l : Lent) (r : ReportFound) : Type 0 where
+pub record ReportPromise (t : Tally) (row version : ℕ) (l : Lent) (r : Result ReportRow Refusal) : Type 0 where
   pub reply : r ≡ report_found (report_reply t row version l)

@@ -1,5 +1,7 @@
 -- What the shares of a requirement's members promise each other: no share of theirs refuses.
-use Rattle.std.specs.Prelude.{◌≡◌, List, map, ℕ, ◌≤◌, ℤ, pos, neg_ℤ, length}
+use Rattle.answer.specs.declared.shares.Paid.{Paid}
+use Rattle.rules.specs.declared.Refusal.{Refusal}
+use Rattle.std.specs.Prelude.{◌≡◌, List, map, ℕ, ◌≤◌, ℤ, pos, neg_ℤ, length, Result, Ok}
 use Rattle.integers.specs.Pairs.{gain, loss}
 use Rattle.integers.specs.Fills.{filled}
 use Rattle.integers.specs.Totals.{totalℕ}
@@ -8,15 +10,9 @@ use Rattle.rules.specs.Quantities.{total_limit, weight_limit, billion}
 use Rattle.rules.specs.Cents.{any_weight}
 use Rattle.rules.specs.Share.{share_of, unplaced_of}
 use Rattle.interval.specs.Lent.{Lent}
-use Rattle.share.specs.declared.Shared.{Shared}
-use Rattle.share.specs.declared.Shared.TheVariants.{Placed}
-use Rattle.share.specs.declared.SharedSigns.{SharedSigns}
-use Rattle.share.specs.declared.SharedSigns.TheVariants as ss
 use Rattle.share.specs.Signs.{signs_at}
 use Rattle.answer.specs.declared.Field.{Field}
 use Rattle.answer.specs.declared.Field.TheVariants.{Payment}
-use Rattle.answer.specs.declared.shares.Paying.{Paying}
-use Rattle.answer.specs.declared.shares.Paying.TheVariants.{Made}
 use Rattle.answer.specs.Lists.{headed}
 use Rattle.answer.specs.Values.{numbers}
 use Rattle.answer.specs.Pools.{pool_cents}
@@ -27,18 +23,18 @@ pub record Shareable (T : ℕ) (side : ℤ → ℕ) (ps : List ℤ) (column_leng
   pub weights : totalℕ (λ w. w) (map side ps) ≤ weight_limit
   pub long : length (map side ps) ≤ column_length
 
-pub record Charged (T : ℕ) (ps old : List ℤ) (r : Shared) (new : List ℤ) : Type 0 where
-  pub reply : r ≡ Placed (unplaced_of T (map loss ps))
+pub record Charged (T : ℕ) (ps old : List ℤ) (r : Result ℕ Refusal) (new : List ℤ) : Type 0 where
+  pub reply : r ≡ Ok (unplaced_of T (map loss ps))
   pub amounts : new ≡ filled (length (map loss ps)) (λ i. neg_ℤ (pos (share_of T (map loss ps) i))) old
 
-pub record SignsShared (T : ℕ) (ps old : List ℤ) (r : SharedSigns) (new : List ℤ) : Type 0 where
-  pub reply : r ≡ ss.Placed (unplaced_of T (map gain ps)) (unplaced_of T (map loss ps))
+pub record SignsShared (T : ℕ) (ps old : List ℤ) (r : Result (ℕ × ℕ) Refusal) (new : List ℤ) : Type 0 where
+  pub reply : r ≡ Ok ((unplaced_of T (map gain ps)), (unplaced_of T (map loss ps)))
   pub amounts : new ≡ filled (length ps) (signs_at T ps) old
 
 -- ---- over the members of a requirement
-pub record MembersCharged (f : Field) (T units : ℕ) (d : Direction) (set : ℕ) (l : Lent) (old was : List ℤ) (r : Shared)
+pub record MembersCharged (f : Field) (T units : ℕ) (d : Direction) (set : ℕ) (l : Lent) (old was : List ℤ) (r : Result ℕ Refusal)
     (new now : List ℤ) : Type 0 where
-  pub reply : r ≡ Placed (unplaced_of T (map loss (numbers f units d set l)))
+  pub reply : r ≡ Ok (unplaced_of T (map loss (numbers f units d set l)))
   pub column : new ≡ headed (numbers f units d set l) old
   pub amounts :
       now ≡ filled (length (map loss (numbers f units d set l)))
@@ -49,15 +45,15 @@ abbrev pub pool_over : ℕ → ℕ → List ℤ → ℕ
 pool_over price rcr vs = pool_cents price rcr (any_weight (map gain vs)) (any_weight (map loss vs))
 
 -- the pool over the first n numbers, which `pay_pool` shares
-pub record PoolPaid (n pool : ℕ) (ps old : List ℤ) (r : Paying) (new : List ℤ) : Type 0 where
-  pub reply : r ≡ Made (record { members = n; pool = pool })
+pub record PoolPaid (n pool : ℕ) (ps old : List ℤ) (r : Result Paid Refusal) (new : List ℤ) : Type 0 where
+  pub reply : r ≡ Ok (record { members = n; pool = pool })
   pub payments : new ≡ filled (length ps) (signs_at pool ps) old
 
-pub record MembersPaid (price rcr units : ℕ) (d : Direction) (set : ℕ) (l : Lent) (old₁ old₂ old₃ : List ℤ) (r : Paying)
+pub record MembersPaid (price rcr units : ℕ) (d : Direction) (set : ℕ) (l : Lent) (old₁ old₂ old₃ : List ℤ) (r : Result Paid Refusal)
     (new₁ new₂ new₃ : List ℤ) : Type 0 where
   pub reply :
       r ≡
-      Made (record {
+      Ok (record {
         members = length (numbers Payment units d set l);
         pool = pool_over price rcr (numbers Payment units d set l);
       })

@@ -1,6 +1,9 @@
 -- The answer as its parts give it, once every test has been passed: RCR, the pools, the shares over the members' numbers. It is the answer that what is
 -- kept gives, with the lines' numbers in the columns.
-use Rattle.std.specs.Prelude.{◌≡◌, true, ℕ, ◌≤◌}
+use Rattle.answer.specs.declared.Answer.{Answer}
+use Rattle.answer.specs.declared.shares.Paid.{Paid}
+use Rattle.rules.specs.declared.Refusal.{Refusal}
+use Rattle.std.specs.Prelude.{◌≡◌, true, ℕ, ◌≤◌, Result, Ok, Err}
 use Rattle.rules.specs.declared.Standing.{Standing}
 use Rattle.rules.specs.Quantities.{price_limit, cost_limit, amount_limit}
 use Rattle.rules.specs.Book.{Requirement}
@@ -9,24 +12,16 @@ use Rattle.interval.specs.Lent.{Lent}
 use Rattle.kept.specs.Kept.{kept_answer}
 use Rattle.kept.specs.Range.{kept_fine}
 use Rattle.book.specs.declared.RequirementFields.{RequirementFields}
-use Rattle.share.specs.declared.Shared.{Shared}
-use Rattle.share.specs.declared.Shared.TheVariants.{Placed}
-use Rattle.share.specs.declared.Shared.TheVariants as sh
 use Rattle.answer.specs.Lent.{Long}
-use Rattle.answer.specs.declared.Answered.{Answered}
-use Rattle.answer.specs.declared.Answered.TheVariants.{Given, Refused}
 use Rattle.answer.specs.declared.Member.{Member as Sharer}
 use Rattle.answer.specs.declared.charges.Charges.{Charges}
 use Rattle.answer.specs.declared.rcr.Found.{Found}
-use Rattle.answer.specs.declared.shares.Paying.{Paying}
-use Rattle.answer.specs.declared.shares.Paying.TheVariants.{Made}
-use Rattle.answer.specs.declared.shares.Paying.TheVariants as pay
 use Rattle.answer.specs.Promises.{Columns, columns_long, shown, with_lines}
 
 -- ---- the whole answer
-abbrev pub gathered_of : RequirementFields → ℕ → Standing → ℕ → ℕ → Shared → Shared → Paying → Answered
-gathered_of f rcr s u v (Placed a) (Placed b) (Made p) =
-    Given (record {
+abbrev pub gathered_of : RequirementFields → ℕ → Standing → ℕ → ℕ → Result ℕ Refusal → Result ℕ Refusal → Result Paid Refusal → Result Answer Refusal
+gathered_of f rcr s u v (Ok a) (Ok b) (Ok p) =
+    Ok (record {
       number = f.number;
       direction = f.direction;
       set = f.set;
@@ -37,11 +32,11 @@ gathered_of f rcr s u v (Placed a) (Placed b) (Made p) =
       used = record { pool = u; unplaced = a };
       unused = record { pool = v; unplaced = b };
     })
-gathered_of f rcr s u v (Placed a) (Placed b) (pay.Refused x) = Refused x
-gathered_of f rcr s u v (Placed a) (sh.Refused x) p = Refused x
-gathered_of f rcr s u v (sh.Refused x) b p = Refused x
+gathered_of f rcr s u v (Ok a) (Ok b) (Err x) = Err x
+gathered_of f rcr s u v (Ok a) (Err x) p = Err x
+gathered_of f rcr s u v (Err x) b p = Err x
 
-abbrev pub gathered_answer : RequirementFields → Found → Sharer → Charges → Paying → Answered
+abbrev pub gathered_answer : RequirementFields → Found → Sharer → Charges → Result Paid Refusal → Result Answer Refusal
 gathered_answer f x m c p = gathered_of f x.rcr m.standing c.used.pool c.unused.pool c.used.reply c.unused.reply p
 
 abbrev pub required : RequirementFields → Requirement
@@ -58,6 +53,6 @@ pub record Passed (t : Tally) (f : RequirementFields) (l : Lent) (c : Columns) :
   pub columns : columns_long t.units c ≡ true
   pub fine : kept_fine t l ≡ true
 
-pub record WorkedOut (t : Tally) (f : RequirementFields) (l : Lent) (old : Columns) (r : Answered) (new : Columns) : Type 0 where
-  pub reply : r ≡ Given (shown (required f) (kept_answer t l (required f)))
+pub record WorkedOut (t : Tally) (f : RequirementFields) (l : Lent) (old : Columns) (r : Result Answer Refusal) (new : Columns) : Type 0 where
+  pub reply : r ≡ Ok (shown (required f) (kept_answer t l (required f)))
   pub written : new ≡ with_lines (kept_answer t l (required f)) old

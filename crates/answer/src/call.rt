@@ -2,12 +2,12 @@
 ghost use Rattle.interval.specs.Lent.{Lent, lent_answer};
 ghost use Rattle.answer.specs.Promises.{columns, AnswerPromise};
 
-use super::Answered;
+use super::Answer;
 use super::lent::columns_long;
 use super::tested::tested_requirement;
 use super::worked::work_out;
-use book::RequirementRead;
 use interval::Tally;
+use rules::Refusal;
 
 // Answers the requirement whose record `part` starts with: its figures, and a row for each member in the five columns, the residual last.
 // Refuses 11 before the last unit or for a tally out of range, then 12, then 11 for lent numbers, then 1 and 10 for the record.
@@ -24,7 +24,7 @@ pub fn answer(
     payments: &mut [i64],
     used: &mut [i64],
     unused: &mut [i64],
-) -> Answered
+) -> Result<Answer, Refusal>
     ensures { (rest : Lent) → AnswerPromise tally part.now
         (lent_answer rest measures.now sums.now figures.now homes.now rows.now)
         (columns performances.old factors.old payments.old used.old unused.old) result
@@ -38,22 +38,19 @@ pub fn answer(
         used.len(),
         unused.len(),
     );
-    let read = tested_requirement(tally, part, measures, sums, figures, homes, rows, long);
-    match read {
-        RequirementRead::Taken(fields) => work_out(
-            tally,
-            fields,
-            measures,
-            sums,
-            figures,
-            homes,
-            rows,
-            performances,
-            factors,
-            payments,
-            used,
-            unused,
-        ),
-        RequirementRead::Refused(refusal) => Answered::Refused(refusal),
-    }
+    let fields = tested_requirement(tally, part, measures, sums, figures, homes, rows, long)?;
+    work_out(
+        tally,
+        fields,
+        measures,
+        sums,
+        figures,
+        homes,
+        rows,
+        performances,
+        factors,
+        payments,
+        used,
+        unused,
+    )
 }

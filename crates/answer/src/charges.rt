@@ -7,13 +7,13 @@ use super::pools::used_pool;
 use super::shares::charge_members;
 use super::{Field, Member};
 use book::RequirementFields;
-use share::Shared;
+use rules::Refusal;
 
 // A pool, and what its share replied.
 #[derive(Clone, Copy)]
 pub(crate) struct Pooled {
     pub(crate) pool: u64,
-    pub(crate) reply: Shared,
+    pub(crate) reply: Result<u64, Refusal>,
 }
 
 // What is charged of a requirement's cost.

@@ -38,12 +38,10 @@ pub(crate) fn figures_in_range(interval: u32, figures: &[i64]) -> bool
     if !of_interval(interval, figures) {
         return false;
     }
-    let mut region: usize = 0;
-    while region < REGIONS {
+    for region in 0..REGIONS {
         if !region_within(region, figures) {
             return false;
         }
-        region += 1;
     }
     true
 }

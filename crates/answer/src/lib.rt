@@ -62,13 +62,6 @@ pub enum Row {
     Refused(Refusal),
 }
 
-// A row of the performance report, or the refusal.
-#[derive(Clone, Copy)]
-pub enum ReportFound {
-    Found(ReportRow),
-    Refused(Refusal),
-}
-
 // A pool that is charged, and how much of it is unplaced.
 #[derive(Clone, Copy)]
 pub struct Charge {
@@ -88,10 +81,4 @@ pub struct Answer {
     pub pool: u64,
     pub used: Charge,
     pub unused: Charge,
-}
-
-#[derive(Clone, Copy)]
-pub enum Answered {
-    Given(Answer),
-    Refused(Refusal),
 }

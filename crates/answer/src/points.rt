@@ -48,8 +48,7 @@ fn sums_at(set: u8, t: usize, measures: &[i32], sums: &[i64], figures: &[i64]) -
     let mut weighed: i64 = 0;
     let mut risen: i64 = 0;
     let mut fallen: i64 = 0;
-    let mut region: usize = 0;
-    while region < REGIONS {
+    for region in 0..REGIONS {
         let start = SUMS_EACH * region;
         let counts = covers(set, region);
         let measure = measure_held(measures[POINTS * region + t]) as i64;
@@ -59,7 +58,6 @@ fn sums_at(set: u8, t: usize, measures: &[i32], sums: &[i64], figures: &[i64]) -
         );
         risen += if_counted(counts, sums[start + t]);
         fallen += if_counted(counts, sums[start + (POINTS + t)]);
-        region += 1;
     }
     Sums {
         weighed: weighed,
@@ -98,13 +96,11 @@ pub(crate) fn largest_response(
     ensures { result ≡ points_largest direction set (lent measures.now sums.now figures.now [] []) }
 {
     let mut largest: u64 = 0;
-    let mut t: usize = 0;
-    while t < POINTS {
+    for t in 0..POINTS {
         largest = larger(
             largest,
             response_at(direction, set, t, measures, sums, figures),
         );
-        t += 1;
     }
     largest
 }

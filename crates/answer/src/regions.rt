@@ -58,12 +58,10 @@ pub(crate) fn all_reliable(direction: Direction, set: u8, figures: &[i64]) -> bo
     requires { 50 ≤ length figures.now }
     ensures { result ≡ kept_reliable (lent_members figures.now [] []) (asked direction set) }
 {
-    let mut region: usize = 0;
-    while region < REGIONS {
+    for region in 0..REGIONS {
         if !stands(direction, set, region, figures) {
             return false;
         }
-        region += 1;
     }
     true
 }

@@ -10,12 +10,12 @@ ghost use Rattle.answer.specs.Made.{RowThere};
 ghost use Rattle.answer.specs.Residual.{PerformancesWithin};
 ghost use Rattle.answer.specs.Report.{lent_report, placed, report_found, MemberThere, RowsThere, MembersBetween, ReportPromise, region_at};
 
+use super::Field;
 use super::counts::counted;
 use super::figures::region_within;
 use super::made::{row_standing, row_value};
 use super::residual::region_member;
 use super::rows::rows_in_range;
-use super::{Field, ReportFound};
 use book::REGIONS;
 use interval::lent::{of_interval, row_in_range};
 use interval::turns::answer_turn;
@@ -80,10 +80,8 @@ fn members_together(from: usize, homes: &[u8]) -> u32
     ensures { MembersBetween homes.now from (from + 64) result }
 {
     let mut members: u32 = 0;
-    let mut next: usize = 0;
-    while next < TOGETHER {
+    for next in 0..TOGETHER {
         members += counted(homes[from + next] != PASSED_OVER);
-        next += 1;
     }
     members
 }
@@ -113,13 +111,11 @@ fn place_of(row: u32, units: usize, homes: &[u8]) -> Place
 {
     let before = rows_before(row, units, homes);
     let mut members = before.members;
-    let mut at = before.at;
-    while at < units {
+    for at in before.at..units {
         members += counted(homes[at] != PASSED_OVER);
         if row < members {
             return Place::Member(at);
         }
-        at += 1;
     }
     region_place(row - members)
 }
@@ -130,9 +126,7 @@ fn units_up_to(row: usize, homes: &[u8]) -> u16
     ensures { result ≡ units_at homes.now row }
 {
     let mut units: u16 = 1;
-    let mut before = row;
-    while 0 < before {
-        before -= 1;
+    for before in (0..row).rev() {
         if homes[before] != PASSED_OVER {
             return units;
         }
@@ -249,15 +243,15 @@ fn member_row(
     numbers: &[u16],
     homes: &[u8],
     rows: &[i64],
-) -> ReportFound
+) -> Result<ReportRow, Refusal>
     requires { (row < length numbers.now) × MemberThere row (lent_members figures.now homes.now rows.now) }
     ensures { result ≡ report_found (fine_row (tally_of 0 0 interval)
         (lent_report no_lists figures.now numbers.now homes.now rows.now) version (member row)) }
 {
     if !member_in_range(row, figures, homes, rows) {
-        return ReportFound::Refused(Refusal::WrongState);
+        return Err(Refusal::WrongState);
     }
-    ReportFound::Found(ReportRow {
+    Ok(ReportRow {
         interval: interval,
         whose: Reported::Unit(numbers[row]),
         raise: member_figure(Direction::Raise, row, figures, homes, rows),
@@ -275,15 +269,15 @@ fn residual_row(
     figures: &[i64],
     homes: &[u8],
     rows: &[i64],
-) -> ReportFound
+) -> Result<ReportRow, Refusal>
     requires { (region < 5) × RowsThere units (lent_members figures.now homes.now rows.now) }
     ensures { result ≡ report_found (fine_row (tally_of units 0 interval)
         (lent_members figures.now homes.now rows.now) version (residual region)) }
 {
     if !residual_in_range(region, units, figures, homes, rows) {
-        return ReportFound::Refused(Refusal::WrongState);
+        return Err(Refusal::WrongState);
     }
-    ReportFound::Found(ReportRow {
+    Ok(ReportRow {
         interval: interval,
         whose: Reported::Residual(region_name(region)),
         raise: residual_figure(Direction::Raise, region, units, figures, homes, rows),
@@ -302,19 +296,19 @@ pub fn report(
     numbers: &[u16],
     homes: &[u8],
     rows: &[i64],
-) -> ReportFound
+) -> Result<ReportRow, Refusal>
     ensures { (rest : Lent) → ReportPromise tally row version
         (lent_report rest figures.now numbers.now homes.now rows.now) result }
 {
     if !answer_turn(tally) {
-        return ReportFound::Refused(Refusal::WrongState);
+        return Err(Refusal::WrongState);
     }
     let units = tally.units as usize;
     if !report_lists_long(units, figures, numbers, homes, rows) {
-        return ReportFound::Refused(Refusal::TooShort);
+        return Err(Refusal::TooShort);
     }
     if !of_interval(tally.interval, figures) {
-        return ReportFound::Refused(Refusal::WrongState);
+        return Err(Refusal::WrongState);
     }
     match place_of(row, units, homes) {
         Place::Member(at) => member_row(tally.interval, version, at, figures, numbers, homes, rows),
@@ -327,6 +321,6 @@ pub fn report(
             homes,
             rows,
         ),
-        Place::Past => ReportFound::Refused(Refusal::WrongState),
+        Place::Past => Err(Refusal::WrongState),
     }
 }

@@ -54,10 +54,8 @@ fn rows_held(at: usize, region: usize, units: usize, homes: &[u8], rows: &[i64])
         good: 0,
         sum: 0,
     };
-    let mut row: usize = 0;
-    while row < units {
+    for row in 0..units {
         held = with_row(held, at, region, row, homes, rows);
-        row += 1;
     }
     held
 }
@@ -175,10 +173,8 @@ pub(crate) fn residual_member(
         used: 0,
         unused: 0,
     };
-    let mut region: usize = 0;
-    while region < REGIONS {
+    for region in 0..REGIONS {
         sum = with_region(sum, direction, set, region, units, figures, homes, rows);
-        region += 1;
     }
     sum
 }

@@ -23,8 +23,7 @@ pub(crate) fn rows_in_range(units: usize, homes: &[u8], rows: &[i64]) -> bool
     ensures { result ≡ rows_fine (tally_of units 0 0) (lent_members [] homes.now rows.now) }
 {
     let mut many: u16 = 1;
-    let mut row: usize = 0;
-    while row < units {
+    for row in 0..units {
         let home = homes[row];
         if PASSED_OVER < home {
             return false;
@@ -33,7 +32,6 @@ pub(crate) fn rows_in_range(units: usize, homes: &[u8], rows: &[i64]) -> bool
             return false;
         }
         many = units_next(many, home);
-        row += 1;
     }
     true
 }

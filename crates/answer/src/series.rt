@@ -20,13 +20,11 @@ fn measures_within(t: usize, measures: &[i32]) -> bool
     requires { (t < 75) × (375 ≤ length measures.now) }
     ensures { result ≡ measures_fine (lent measures.now [] [] [] []) t }
 {
-    let mut region: usize = 0;
-    while region < REGIONS {
+    for region in 0..REGIONS {
         let measure = measures[POINTS * region + t] as i64;
         if !within_bounds(LEAST_MEASURE, MOST_MEASURE, measure) {
             return false;
         }
-        region += 1;
     }
     true
 }
@@ -38,14 +36,12 @@ fn sums_within(most: u64, at: usize, sums: &[i64]) -> bool
     ensures { result ≡ sums_at_most most sums.now at }
 {
     let mut left = most;
-    let mut region: usize = 0;
-    while region < REGIONS {
+    for region in 0..REGIONS {
         let here = size(sums[SUMS_EACH * region + at]);
         if left < here {
             return false;
         }
         left -= here;
-        region += 1;
     }
     true
 }
@@ -70,12 +66,10 @@ pub(crate) fn series_in_range(units: u16, measures: &[i32], sums: &[i64]) -> boo
     ensures { result ≡ series_fine (tally_of units 0 0) (lent measures.now sums.now [] [] []) }
 {
     let most = DEVIATION_LIMIT * (units as u64);
-    let mut t: usize = 0;
-    while t < POINTS {
+    for t in 0..POINTS {
         if !point_within(most, t, measures, sums) {
             return false;
         }
-        t += 1;
     }
     true
 }

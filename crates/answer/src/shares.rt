@@ -10,10 +10,9 @@ use super::pools::pool;
 use super::values::put_members;
 use super::{Field, Member};
 use rules::{BILLION, Direction, Refusal};
-use share::{Shared, SharedSigns};
 
 // A pool over the first n numbers below zero, as charges.
-fn charge(pool: u64, n: usize, values: &[i64], amounts: &mut [i64]) -> Shared
+fn charge(pool: u64, n: usize, values: &[i64], amounts: &mut [i64]) -> Result<u64, Refusal>
     requires { (n ≤ length values.now) × Shareable pool loss (take n values.now) (length amounts.old) }
     ensures { Charged pool (take n values.now) amounts.old result amounts.new }
 {
@@ -21,7 +20,12 @@ fn charge(pool: u64, n: usize, values: &[i64], amounts: &mut [i64]) -> Shared
 }
 
 // A total over both signs of the first n numbers.
-fn share_both(total: u64, n: usize, values: &[i64], amounts: &mut [i64]) -> SharedSigns
+fn share_both(
+    total: u64,
+    n: usize,
+    values: &[i64],
+    amounts: &mut [i64],
+) -> Result<(u64, u64), Refusal>
     requires { (n ≤ length values.now) × Shareable total gain (take n values.now) (length amounts.old)
         × Shareable total loss (take n values.now) (length amounts.old) }
     ensures { SignsShared total (take n values.now) amounts.old result amounts.new }
@@ -42,7 +46,7 @@ pub(crate) fn charge_members(
     rows: &[i64],
     values: &mut [i64],
     amounts: &mut [i64],
-) -> Shared
+) -> Result<u64, Refusal>
     requires { (pool ≤ 1_000_000_000_000) × (units < length amounts.old)
         × MembersThere units direction set (lent_members figures.now homes.now rows.now) residual (length values.old) }
     ensures { MembersCharged field pool units direction set
@@ -62,27 +66,22 @@ pub(crate) struct Paid {
     pub(crate) pool: u64,
 }
 
-// The same, or the share's refusal.
-#[derive(Clone, Copy)]
-pub(crate) enum Paying {
-    Made(Paid),
-    Refused(Refusal),
-}
-
 // The pool over both signs of the first n numbers.
-fn pay_pool(pool: u64, n: usize, performances: &[i64], payments: &mut [i64]) -> Paying
+fn pay_pool(
+    pool: u64,
+    n: usize,
+    performances: &[i64],
+    payments: &mut [i64],
+) -> Result<Paid, Refusal>
     requires { (n ≤ 513) × (n ≤ length performances.now) × Shareable pool gain (take n performances.now) (length payments.old)
         × Shareable pool loss (take n performances.now) (length payments.old) }
     ensures { PoolPaid n pool (take n performances.now) payments.old result payments.new }
 {
-    let sides = share_both(pool, n, performances, payments);
-    match sides {
-        SharedSigns::Placed(_, _) => Paying::Made(Paid {
-            members: n as u16,
-            pool: pool,
-        }),
-        SharedSigns::Refused(refusal) => Paying::Refused(refusal),
-    }
+    share_both(pool, n, performances, payments)?;
+    Ok(Paid {
+        members: n as u16,
+        pool: pool,
+    })
 }
 
 // Payment performances, factors and payments. What the factors leave unplaced tells whether each sign has a member.
@@ -99,7 +98,7 @@ pub(crate) fn pay(
     performances: &mut [i64],
     factors: &mut [i64],
     payments: &mut [i64],
-) -> Paying
+) -> Result<Paid, Refusal>
     requires { (price ≤ 10_000_000) × (rcr ≤ 7_680_000_000) × (units < length factors.old) × (units < length payments.old)
         × MembersThere units direction set (lent_members figures.now homes.now rows.now) residual (length performances.old) }
     ensures { MembersPaid price rcr units direction set
@@ -118,12 +117,7 @@ pub(crate) fn pay(
         rows,
         performances,
     );
-    let sides = share_both(BILLION, n, performances, factors);
-    match sides {
-        SharedSigns::Placed(up, down) => {
-            let pool = pool(price, rcr, up == 0, down == 0);
-            pay_pool(pool, n, performances, payments)
-        }
-        SharedSigns::Refused(refusal) => Paying::Refused(refusal),
-    }
+    let (up, down) = share_both(BILLION, n, performances, factors)?;
+    let pool = pool(price, rcr, up == 0, down == 0);
+    pay_pool(pool, n, performances, payments)
 }

@@ -5,7 +5,7 @@ ghost use Rattle.answer.specs.Asked.{lent};
 ghost use Rattle.answer.specs.Tested.{tested_requirement};
 
 use super::lent::{lent_in_range, lists_long};
-use book::RequirementRead;
+use book::RequirementFields;
 use interval::Tally;
 use interval::turns::answer_turn;
 use rules::Refusal;
@@ -20,21 +20,21 @@ pub(crate) fn tested_requirement(
     homes: &[u8],
     rows: &[i64],
     columns: bool,
-) -> RequirementRead
+) -> Result<RequirementFields, Refusal>
     ensures { result ≡ requirement_answer (tested_requirement tally part.now
         (lent measures.now sums.now figures.now homes.now rows.now) columns) }
 {
     if !answer_turn(tally) {
-        return RequirementRead::Refused(Refusal::WrongState);
+        return Err(Refusal::WrongState);
     }
     if !lists_long(tally.units, measures, sums, figures, homes, rows) {
-        return RequirementRead::Refused(Refusal::TooShort);
+        return Err(Refusal::TooShort);
     }
     if !columns {
-        return RequirementRead::Refused(Refusal::TooShort);
+        return Err(Refusal::TooShort);
     }
     if !lent_in_range(tally, measures, sums, figures, homes, rows) {
-        return RequirementRead::Refused(Refusal::WrongState);
+        return Err(Refusal::WrongState);
     }
     book::requirement::read_requirement(part, 0, false)
 }

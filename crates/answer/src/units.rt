@@ -30,12 +30,10 @@ fn count_units(units: usize, set: u8, homes: &[u8]) -> Units
 {
     let mut all: u32 = 0;
     let mut bad: u32 = 0;
-    let mut row: usize = 0;
-    while row < units {
+    for row in 0..units {
         let home = homes[row];
         all += counted(in_set(set, home));
         bad += counted(bad_in_set(set, home));
-        row += 1;
     }
     Units { all: all, bad: bad }
 }

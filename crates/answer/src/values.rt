@@ -48,10 +48,8 @@ fn put_rows(
         (lent_members figures.now homes.now rows.now) column.old result column.new }
 {
     let mut at: usize = 0;
-    let mut row: usize = 0;
-    while row < units {
+    for row in 0..units {
         at = put_row(field, direction, set, row, at, figures, homes, rows, column);
-        row += 1;
     }
     at
 }

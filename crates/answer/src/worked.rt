@@ -8,11 +8,11 @@ ghost use Rattle.answer.specs.Worked.{gathered_answer, Passed, WorkedOut};
 use super::charges::{Charges, charge_cost};
 use super::rcr::{Found, rcr};
 use super::residual::residual_member;
-use super::shares::{Paying, pay};
-use super::{Answer, Answered, Charge, Member};
+use super::shares::{Paid, pay};
+use super::{Answer, Charge, Member};
 use book::RequirementFields;
 use interval::Tally;
-use share::Shared;
+use rules::Refusal;
 
 // The figures, from what the parts have found, or the first refusal that a share replied.
 fn gathered(
@@ -20,42 +20,34 @@ fn gathered(
     found: Found,
     residual: Member,
     charges: Charges,
-    paying: Paying,
-) -> Answered
+    paying: Result<Paid, Refusal>,
+) -> Result<Answer, Refusal>
     ensures { result ≡ gathered_answer fields found residual charges paying }
 {
     let direction = fields.direction;
     let standing = residual.standing;
     let used = charges.used;
     let unused = charges.unused;
-    let used_reply = used.reply;
-    let unused_reply = unused.reply;
-    match used_reply {
-        Shared::Placed(used_left) => match unused_reply {
-            Shared::Placed(unused_left) => match paying {
-                Paying::Made(paid) => Answered::Given(Answer {
-                    number: fields.number,
-                    direction: direction,
-                    set: fields.set,
-                    members: paid.members,
-                    residual: standing,
-                    rcr: found.rcr,
-                    pool: paid.pool,
-                    used: Charge {
-                        pool: used.pool,
-                        unplaced: used_left,
-                    },
-                    unused: Charge {
-                        pool: unused.pool,
-                        unplaced: unused_left,
-                    },
-                }),
-                Paying::Refused(refusal) => Answered::Refused(refusal),
-            },
-            Shared::Refused(refusal) => Answered::Refused(refusal),
+    let used_left = used.reply?;
+    let unused_left = unused.reply?;
+    let paid = paying?;
+    Ok(Answer {
+        number: fields.number,
+        direction: direction,
+        set: fields.set,
+        members: paid.members,
+        residual: standing,
+        rcr: found.rcr,
+        pool: paid.pool,
+        used: Charge {
+            pool: used.pool,
+            unplaced: used_left,
         },
-        Shared::Refused(refusal) => Answered::Refused(refusal),
-    }
+        unused: Charge {
+            pool: unused.pool,
+            unplaced: unused_left,
+        },
+    })
 }
 
 // The cost is charged first, so that the column of performances ends with those of payment.
@@ -72,7 +64,7 @@ pub(crate) fn work_out(
     payments: &mut [i64],
     used: &mut [i64],
     unused: &mut [i64],
-) -> Answered
+) -> Result<Answer, Refusal>
     requires { Passed tally fields (lent measures.now sums.now figures.now homes.now rows.now)
         (columns performances.old factors.old payments.old used.old unused.old) }
     ensures { (rest : Lent) → WorkedOut tally fields

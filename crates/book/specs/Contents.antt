@@ -1,5 +1,6 @@
 -- What the reader of the table of contents answers and promises.
-use Rattle.std.specs.Prelude.{◌≡◌, cond, ◌&&◌, List, ℕ, ◌+◌, ◌*◌, eqb, leb}
+use Rattle.rules.specs.declared.Refusal.{Refusal}
+use Rattle.std.specs.Prelude.{◌≡◌, cond, ◌&&◌, List, ℕ, ◌+◌, ◌*◌, eqb, leb, Result, Ok, Err, ⊤}
 use Rattle.rules.specs.declared.Refusal.TheVariants.{WrongTable, WrongCount}
 use Rattle.rules.specs.Quantities.{most_units, most_requirements}
 use Rattle.rules.specs.Bytes.{number_at}
@@ -19,31 +20,27 @@ use Rattle.rules.specs.Contents.{
   Counts as Announced,
 }
 use Rattle.book.specs.declared.Counts.{Counts}
-use Rattle.book.specs.declared.ContentsRead.{ContentsRead}
-use Rattle.book.specs.declared.ContentsRead.TheVariants.{Taken, Refused}
-use Rattle.book.specs.declared.contents.Checked.{Checked}
-use Rattle.book.specs.declared.contents.Checked.TheVariants.{Fine, Wrong}
 use Rattle.book.specs.Replies.{answered}
 
 abbrev pub counts_of : Announced → Counts
 counts_of c = record { units = c.units; requirements = c.requirements }
 
-abbrev pub contents_answer : Reply Announced → ContentsRead
-contents_answer reply = answered (λ c. Taken (counts_of c)) Refused reply
+abbrev pub contents_answer : Reply Announced → Result Counts Refusal
+contents_answer reply = answered (λ c. Ok (counts_of c)) Err reply
 
-pub record ContentsPromise (part : List ℕ) (r : ContentsRead) : Type 0 where
+pub record ContentsPromise (part : List ℕ) (r : Result Counts Refusal) : Type 0 where
   pub reply : r ≡ contents_answer (contents part)
 
 -- ---- one entry by itself
-abbrev pub entry_answer : ℕ → ℕ → ℕ → ℕ → ℕ → ℕ → List ℕ → Checked
+abbrev pub entry_answer : ℕ → ℕ → ℕ → ℕ → ℕ → ℕ → List ℕ → Result ⊤ Refusal
 entry_answer place kind least most start size bs =
     cond (eqb (number_at 2 place bs) kind)
     (cond (leb least (items place bs) && leb (items place bs) most)
     (cond (eqb (number_at 4 (place + 4) bs) start)
-    (cond (eqb (number_at 4 (place + 8) bs) (items place bs * size)) Fine (Wrong WrongTable))
-    (Wrong WrongTable))
-    (Wrong WrongCount))
-    (Wrong WrongTable)
+    (cond (eqb (number_at 4 (place + 8) bs) (items place bs * size)) (Ok tt) (Err WrongTable))
+    (Err WrongTable))
+    (Err WrongCount))
+    (Err WrongTable)
 
 -- ---- the four entries, after the mark and the two fields that follow it
 unfoldable pub entries : List ℕ → Reply Announced

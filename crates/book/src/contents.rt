@@ -2,18 +2,12 @@
 ghost use Rattle.std.specs.Prelude.{◌≡◌, ◌&&◌, leb, ◌+◌, ◌<◌, length};
 ghost use Rattle.book.specs.Contents.{ContentsPromise, contents_answer, entry_answer, entries};
 
-use super::{ContentsRead, Counts};
+use super::Counts;
 use little::{u16_at, u32_at};
 use rules::Refusal;
 
 // Bytes 46 43 46 31.
 pub const MARK: u32 = 0x3146_4346;
-
-#[derive(Clone, Copy)]
-enum Checked {
-    Fine,
-    Wrong(Refusal),
-}
 
 fn count_within(items: u16, least: u16, most: u16) -> bool
     ensures { result ≡ (leb least items && leb items most) }
@@ -33,68 +27,56 @@ fn entry(
     most: u16,
     start: u32,
     size: u32,
-) -> Checked
+) -> Result<(), Refusal>
     requires { (place < 512) × (size < 512) }
     ensures { result ≡ entry_answer place kind least most start size part.now }
 {
     if u16_at(part, place) != kind {
-        return Checked::Wrong(Refusal::WrongTable);
+        return Err(Refusal::WrongTable);
     }
     let items = u16_at(part, place + 2);
     if !count_within(items, least, most) {
-        return Checked::Wrong(Refusal::WrongCount);
+        return Err(Refusal::WrongCount);
     }
     if u32_at(part, place + 4) != start {
-        return Checked::Wrong(Refusal::WrongTable);
+        return Err(Refusal::WrongTable);
     }
     if u32_at(part, place + 8) != items as u32 * size {
-        return Checked::Wrong(Refusal::WrongTable);
+        return Err(Refusal::WrongTable);
     }
-    Checked::Fine
+    Ok(())
 }
 
 // The four entries, kinds 1 to 4 in order.
-fn read_entries(part: &[u8]) -> ContentsRead
+fn read_entries(part: &[u8]) -> Result<Counts, Refusal>
     ensures { result ≡ contents_answer (entries part.now) }
 {
-    let settings = entry(part, 8, 1, 1, 1, 56, 8);
-    if let Checked::Wrong(r) = settings {
-        return ContentsRead::Refused(r);
-    }
-    let frequencies = entry(part, 20, 2, 5, 5, 64, 368);
-    if let Checked::Wrong(r) = frequencies {
-        return ContentsRead::Refused(r);
-    }
-    let units = entry(part, 32, 3, 0, 512, 1904, 372);
-    if let Checked::Wrong(r) = units {
-        return ContentsRead::Refused(r);
-    }
+    entry(part, 8, 1, 1, 1, 56, 8)?;
+    entry(part, 20, 2, 5, 5, 64, 368)?;
+    entry(part, 32, 3, 0, 512, 1904, 372)?;
     let n = u16_at(part, 34);
-    let requirements = entry(part, 44, 4, 1, 32, 1904 + n as u32 * 372, 24);
-    if let Checked::Wrong(r) = requirements {
-        return ContentsRead::Refused(r);
-    }
-    ContentsRead::Taken(Counts {
+    entry(part, 44, 4, 1, 32, 1904 + n as u32 * 372, 24)?;
+    Ok(Counts {
         units: n,
         requirements: u16_at(part, 46),
     })
 }
 
 // How many units and requirements the book announces. Refuses 1, 2, 3 and 5, in the order of the fields.
-pub fn read_contents(part: &[u8]) -> ContentsRead
+pub fn read_contents(part: &[u8]) -> Result<Counts, Refusal>
     ensures { ContentsPromise part.now result }
 {
     if part.len() < 56 {
-        return ContentsRead::Refused(Refusal::EndsEarly);
+        return Err(Refusal::EndsEarly);
     }
     if u32_at(part, 0) != MARK {
-        return ContentsRead::Refused(Refusal::WrongMark);
+        return Err(Refusal::WrongMark);
     }
     if u16_at(part, 4) != 4 {
-        return ContentsRead::Refused(Refusal::WrongTable);
+        return Err(Refusal::WrongTable);
     }
     if u16_at(part, 6) != 0 {
-        return ContentsRead::Refused(Refusal::WrongTable);
+        return Err(Refusal::WrongTable);
     }
     read_entries(part)
 }

@@ -51,23 +51,11 @@ pub struct Counts {
 }
 
 #[derive(Clone, Copy)]
-pub enum ContentsRead {
-    Taken(Counts),
-    Refused(Refusal),
-}
-
-#[derive(Clone, Copy)]
 pub struct SettingsFields {
     pub smoothing: u16,
     pub limit: u8,
     pub percent: u8,
     pub interval: u32,
-}
-
-#[derive(Clone, Copy)]
-pub enum SettingsRead {
-    Taken(SettingsFields),
-    Refused(Refusal),
 }
 
 // The three defaults of one direction.
@@ -88,12 +76,6 @@ pub struct FrequencyFields {
     pub lower: Three,
 }
 
-#[derive(Clone, Copy)]
-pub enum FrequencyRead {
-    Taken(FrequencyFields),
-    Refused(Refusal),
-}
-
 // A unit record without its readings; `good` says that none of them is bad.
 #[derive(Clone, Copy)]
 pub struct UnitFields {
@@ -109,12 +91,6 @@ pub struct UnitFields {
 }
 
 #[derive(Clone, Copy)]
-pub enum UnitRead {
-    Taken(UnitFields),
-    Refused(Refusal),
-}
-
-#[derive(Clone, Copy)]
 pub struct RequirementFields {
     pub number: u16,
     pub set: u8,
@@ -123,10 +99,4 @@ pub struct RequirementFields {
     pub cost: u64,
     pub enabled: u32,
     pub used: u32,
-}
-
-#[derive(Clone, Copy)]
-pub enum RequirementRead {
-    Taken(RequirementFields),
-    Refused(Refusal),
 }

@@ -4,7 +4,7 @@ ghost use Rattle.rules.specs.Bytes.{number_at};
 ghost use Rattle.rules.specs.RequirementRecord.{requirement_in, requirement_fine, set_fine, direction_of};
 ghost use Rattle.book.specs.Requirement.{RequirementPromise, requirement_of, amounts_fine};
 
-use super::{RequirementFields, RequirementRead};
+use super::RequirementFields;
 use little::{u8_at, u16_at, u32_at, u64_at};
 use rules::{Direction, Refusal};
 
@@ -87,17 +87,17 @@ fn ends_with_the_book(part: &[u8], last: bool) -> bool
 
 // A requirement whose number is `least` or more: one more than the number before it, 0 for the first. Refuses 1, then 10, then,
 // after the last, 4.
-pub fn read_requirement(part: &[u8], least: u32, last: bool) -> RequirementRead
+pub fn read_requirement(part: &[u8], least: u32, last: bool) -> Result<RequirementFields, Refusal>
     ensures { RequirementPromise least last part.now result }
 {
     if part.len() < 24 {
-        return RequirementRead::Refused(Refusal::EndsEarly);
+        return Err(Refusal::EndsEarly);
     }
     if !requirement_fields_fine(part, least) {
-        return RequirementRead::Refused(Refusal::RequirementField);
+        return Err(Refusal::RequirementField);
     }
     if !ends_with_the_book(part, last) {
-        return RequirementRead::Refused(Refusal::BytesFollow);
+        return Err(Refusal::BytesFollow);
     }
-    RequirementRead::Taken(requirement_fields(part))
+    Ok(requirement_fields(part))
 }

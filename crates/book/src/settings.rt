@@ -2,7 +2,7 @@
 ghost use Rattle.std.specs.Prelude.{◌≡◌, ◌&&◌, leb};
 ghost use Rattle.book.specs.Settings.{SettingsPromise};
 
-use super::{SettingsFields, SettingsRead};
+use super::SettingsFields;
 use little::{u8_at, u16_at, u32_at};
 use rules::Refusal;
 
@@ -23,19 +23,19 @@ fn settings_fine(smoothing: u16, limit: u8, percent: u8) -> bool
 }
 
 // The settings. Refuses 1 and 6.
-pub fn read_settings(part: &[u8]) -> SettingsRead
+pub fn read_settings(part: &[u8]) -> Result<SettingsFields, Refusal>
     ensures { SettingsPromise part.now result }
 {
     if part.len() < 8 {
-        return SettingsRead::Refused(Refusal::EndsEarly);
+        return Err(Refusal::EndsEarly);
     }
     let smoothing = u16_at(part, 0);
     let limit = u8_at(part, 2);
     let percent = u8_at(part, 3);
     if !settings_fine(smoothing, limit, percent) {
-        return SettingsRead::Refused(Refusal::SettingsField);
+        return Err(Refusal::SettingsField);
     }
-    SettingsRead::Taken(SettingsFields {
+    Ok(SettingsFields {
         smoothing: smoothing,
         limit: limit,
         percent: percent,

@@ -1,5 +1,6 @@
 -- Parts that start with the same record are read the same, and so the calls answer the same: no reader looks behind its record, but for the last requirement's,
 -- which asks whether a byte follows. So a part may be handed on whole or cut behind its record.
+use Rattle.std.specs.Prelude.{Result}
 use mathlib.Core.Path.{◌≡◌, refl, sym, ◌∙◌, ap, ap₂}
 use mathlib.Core.Bool.{Bool, true, false, cond}
 use mathlib.Core.List.{List}
@@ -22,7 +23,6 @@ use Rattle.rules.specs.FrequencyRecord.{region_in, frequency_record}
 use Rattle.rules.specs.UnitRecord.{unit_in, unit_record}
 use Rattle.rules.specs.RequirementRecord.{requirement_in, requirement_record}
 use Rattle.interval.specs.declared.Tally.{Tally}
-use Rattle.interval.specs.declared.Opened.{Opened}
 use Rattle.interval.specs.declared.Step.{Step}
 use Rattle.interval.specs.Tally.{next_region, book_end}
 use Rattle.interval.specs.Lent.{Lent, named_region, named_group}
@@ -204,7 +204,7 @@ module _ {k : ℕ} {p q : List ℕ} (a : Alike k p q) where
   requirement_same least false h = rw (whole_same requirement_size (omega arith), number_same 1 3 (omega arith), requirement_in_same (omega arith))
 
   -- ---- and the calls answer the same
-  pub contents_alike : {r : Opened} → contents_size ≤ k → ContentsPromise p r → ContentsPromise q r
+  pub contents_alike : {r : Result Tally Refusal} → contents_size ≤ k → ContentsPromise p r → ContentsPromise q r
   contents_alike h w = record { reply = rw (contents_same h) at w.reply }
 
   module _ (t : Tally) where

@@ -1,5 +1,6 @@
 -- THE BOOK TAKEN OR REFUSED: where the format takes a book, the calls take every record of it, whatever was refused in between. Where it refuses the book,
 -- they meet that refusal and no other, number, place and t: the table of contents is refused with its number, or all records before some record are taken and this one is refused.
+use Rattle.std.specs.Prelude.{Err}
 use mathlib.Core.Path.{◌≡◌, refl, sym, ◌∙◌, ap, ap₂, subst}
 use mathlib.Core.List.{List, []}
 use Prim.Native.Nat.{ℕ, suc, ◌+◌, ◌*◌, ◌-◌, ◌≤◌, ◌<◌}
@@ -19,7 +20,6 @@ use Rattle.rules.specs.UnitRecord.{unit_in}
 use Rattle.rules.specs.RequirementRecord.{requirement_in, requirement_record}
 use Rattle.rules.specs.WholeBook.{frequency_body, unit_body, requirement_body, book}
 use Rattle.interval.specs.declared.Tally.{Tally}
-use Rattle.interval.specs.declared.Opened as o
 use Rattle.interval.specs.Tally.{before_units, record_place, next_place}
 use Rattle.interval.proofs.TallyLaws.{settings_placed, frequency_placed, unit_placed, requirement_placed}
 use Rattle.interval.specs.declared.Step.{Step}
@@ -201,7 +201,7 @@ contents_refused : (bs : List ℕ) (x : Refusal) → contents bs ≡ refused x �
 unfolding book
 contents_refused bs x e = rw e
 
-opened_refused : {why : Refusal} (reply : Reply Counts) → o.TheVariants.Refused why ≡ opened reply → reply ≡ refused why
+opened_refused : {why : Refusal} (reply : Reply Counts) → Err why ≡ opened reply → reply ≡ refused why
 opened_refused (taken c) e = let z : ◌≡◌ {A = ℕ} 0 1 = cc in absurd (omega arith)
 opened_refused (refused x) e = cc
 

@@ -1,4 +1,5 @@
 -- A book's units by runs: a run is taken where the single calls take its records, and where they refuse one the run stops there, with the same refusal.
+use Rattle.std.specs.Prelude.{Err}
 use mathlib.Core.Path.{◌≡◌, refl, sym, ◌∙◌, ap, ap₂, subst, subst⁻¹}
 use mathlib.Core.Bool.{Bool, true, false}
 use mathlib.Core.List.{List, [], ◌∷◌}
@@ -13,7 +14,6 @@ use Rattle.rules.specs.declared.Located.{Located}
 use Rattle.rules.specs.Refusals.{located}
 use Rattle.rules.specs.Contents.{unit_size, unit_start}
 use Rattle.interval.specs.declared.Tally.{Tally}
-use Rattle.interval.specs.declared.Taking.TheVariants as taking
 use Rattle.interval.specs.declared.Step.{Step}
 use Rattle.interval.specs.Tally.{before_units, next_place}
 use Rattle.interval.specs.Lent.{Lent}
@@ -104,7 +104,7 @@ module _ {head : List ℕ} {part : ℕ → List ℕ} {l₀ : Lent} {n : ℕ} {t 
           let same = ap (λ (s : Step). s.taking) (stops.refuses chain call_at).0 in
           let named : located (next_place r.tally) x ≡ why = cc in
           let placed : k + 1 ≡ m - n + 1 = omega arith in
-          record { there = chain; reply = e ∙ ap₂ (λ (place : ℕ) (w : Located). taking.Refused (in_run place w.refusal)) placed named }
+          record { there = chain; reply = e ∙ ap₂ (λ (place : ℕ) (w : Located). Err (in_run place w.refusal)) placed named }
 
       go : RunOutcome t run l r l' → RunStops head part l₀ n m why r l'
       go (takes_all w s h) = not_beyond s (omega arith)

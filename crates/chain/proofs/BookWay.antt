@@ -1,4 +1,5 @@
 -- A caller's way through a book, whatever is refused on it: how far the calls go, and the refusal that they meet.
+use Rattle.std.specs.Prelude.{Result, Ok, Err, ⊤}
 use mathlib.Core.Path.{◌≡◌, refl, sym, ◌∙◌, ap, subst, subst₂}
 use mathlib.Core.List.{List}
 use Prim.Native.Nat.{ℕ, zero, suc, ◌+◌, ◌≤◌, ◌<◌}
@@ -10,8 +11,6 @@ use Rattle.rules.specs.declared.Located.{Located}
 use Rattle.rules.specs.Refusals.{Reply, taken, refused}
 use Rattle.rules.specs.Contents.{Counts, contents, contents_size}
 use Rattle.interval.specs.declared.Tally.{Tally}
-use Rattle.interval.specs.declared.Taking as k
-use Rattle.interval.specs.declared.Taking.{Taking}
 use Rattle.interval.specs.declared.Step.{Step}
 use Rattle.interval.specs.Lent.{Lent}
 use Rattle.interval.specs.Calls.{opened, stopped_step, stepped, settled, counted, unit_counted}
@@ -127,9 +126,9 @@ module _ (head : List ℕ) (part : ℕ → List ℕ) (l₀ : Lent) where
           at (yes further) = taken_or_refused r (taken_before (chain_way head part l₀ d) further (way_chain head part l₀ w) c) e
           at (no f) = omega arith
 
-      go : (answer : Taking) → r.taking ≡ answer → (Walked head part l₀) (suc n)
-      go k.TheVariants.Taken e = arrived (takes w c e)
-      go (k.TheVariants.Refused why) e =
+      go : (answer : Result ⊤ Located) → r.taking ≡ answer → (Walked head part l₀) (suc n)
+      go (Ok tt) e = arrived (takes w c e)
+      go (Err why) e =
           stopped (at_record (record { inside = b; before = way_takes w; refuses = again e; furthest = furthest e }))
 
   pub walk : (n : ℕ) → n ≤ records_in head → (Walked head part l₀) n

@@ -1,4 +1,5 @@
 -- THE CHAIN: whatever the calls were handed, the tally and the lent lists are what the rules say of the records that were taken, all of them.
+use Rattle.std.specs.Prelude.{Ok}
 use mathlib.Core.Path.{◌≡◌, refl, sym, ◌∙◌, ap, subst}
 use mathlib.Core.Bool.{true}
 use mathlib.Core.List.{List}
@@ -26,7 +27,6 @@ use Rattle.rules.specs.Fields.{good_at}
 use Rattle.rules.specs.Measure.{measure}
 use Rattle.laws.proofs.MeasureLaws.{measure_within}
 use Rattle.interval.specs.declared.Tally.{Tally}
-use Rattle.interval.specs.declared.Opened as o
 use Rattle.interval.specs.declared.Step.{Step}
 use Rattle.interval.specs.Tally.{next_place, settings_of, before_units, book_end, next_region, units_taken}
 use Rattle.interval.specs.Lent.{Lent, group_fits}
@@ -119,7 +119,7 @@ units_all : (u n : ℕ) → before_units + u ≤ n → units_among u n ≡ u
 units_all u n h = omega arith
 
 -- ---- before the first record
-opened_taken : {t : Tally} (reply : Reply Counts) → o.TheVariants.Taken t ≡ opened reply → (c : Counts) × (reply ≡ taken c) × (t ≡ fresh c)
+opened_taken : {t : Tally} (reply : Reply Counts) → Ok t ≡ opened reply → (c : Counts) × (reply ≡ taken c) × (t ≡ fresh c)
 opened_taken (taken c) e = (c, refl, cc)
 opened_taken (refused why) e = let z : ◌≡◌ {A = ℕ} 0 1 = cc in absurd (omega arith)
 
@@ -141,7 +141,7 @@ module _ (head : List ℕ) (part : ℕ → List ℕ) (l₀ : Lent) where
         deviations = refl;
       }
 
-  start : {t : Tally} → ContentsPromise head (o.TheVariants.Taken t) → Means head part l₀ 0 t l₀
+  start : {t : Tally} → ContentsPromise head (Ok t) → Means head part l₀ 0 t l₀
   unfolding least_at
   start {t} w =
       let a = opened_taken (contents head) w.reply in

@@ -1,5 +1,6 @@
 -- A chain without its refused calls: the table of contents, then the call for each record in turn. Every chain is one, with the same tally and lists; and it
 -- depends on nothing but the records that its parts start with.
+use Rattle.std.specs.Prelude.{Result, ⊤}
 use mathlib.Core.Path.{◌≡◌, refl, sym, ◌∙◌, ap, ap₂, subst}
 use mathlib.Core.Bool.{cond}
 use mathlib.Core.List.{List}
@@ -13,7 +14,6 @@ use Rattle.rules.specs.declared.Located.{Located}
 use Rattle.rules.specs.Refusals.{Reply, located}
 use Rattle.rules.specs.Contents.{Counts, contents_size, requirement_size}
 use Rattle.interval.specs.declared.Tally.{Tally}
-use Rattle.interval.specs.declared.Taking.{Taking}
 use Rattle.interval.specs.declared.Step.{Step}
 use Rattle.interval.specs.Tally.{next_place, before_units, book_end}
 use Rattle.interval.specs.Lent.{Lent}
@@ -156,7 +156,7 @@ any_call c p n t l h = go (dec_lt n 1) (dec_lt n before_units) (dec_lt n (before
 -- a call that refuses leaves all as it came
 refused_is :
     {A : Type 0} (next : A → Tally) (t : Tally) (reply : Reply A) {r : Step} {why : Located} → r ≡ stepped next reply t → Refused r why → r ≡ stopped_step t why
-refused_is next t reply e h = ap₂ (λ (t : Tally) (k : Taking). record { tally = t; taking = k }) (step_refused next t reply e h).1 h
+refused_is next t reply e h = ap₂ (λ (t : Tally) (k : Result ⊤ Located). record { tally = t; taking = k }) (step_refused next t reply e h).1 h
 
 pub refused_leaves :
     {c : Counts} {p : List ℕ} {n : ℕ} {t : Tally} {l l' : Lent} {r : Step} {why : Located} → Call c p n t l r l' → Refused r why →

@@ -1,11 +1,10 @@
 -- What proofs/BookWay.antt speaks of.
-use Rattle.std.specs.Prelude.{◌≡◌, List, ℕ, ◌≤◌, ◌<◌}
+use Rattle.std.specs.Prelude.{◌≡◌, List, ℕ, ◌≤◌, ◌<◌, Err}
 use Rattle.rules.specs.declared.Refusal.{Refusal}
 use Rattle.rules.specs.declared.Located.{Located}
 use Rattle.rules.specs.Refusals.{located}
 use Rattle.rules.specs.Contents.{contents_size}
 use Rattle.interval.specs.declared.Tally.{Tally}
-use Rattle.interval.specs.declared.Opened as o
 use Rattle.interval.specs.declared.Step.{Step}
 use Rattle.interval.specs.Lent.{Lent}
 use Rattle.interval.specs.Calls.{stopped_step}
@@ -43,7 +42,7 @@ module _ (head : List ℕ) (part : ℕ → List ℕ) (l₀ : Lent) where
 
   -- the refusal that they meet, of the table of contents, which has no place, or of a record, with its place
   pub data Meets (why : Located) : Type 0 where
-    at_contents : {x : Refusal} → ContentsPromise head (o.TheVariants.Refused x) → located 0 x ≡ why → Meets why
+    at_contents : {x : Refusal} → ContentsPromise head (Err x) → located 0 x ≡ why → Meets why
     at_record : {m : ℕ} → Stops why m → Meets why
 
   -- ---- so the way goes on to record n, or meets a refusal before it

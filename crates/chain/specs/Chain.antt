@@ -1,7 +1,7 @@
 -- A chain of calls: the table of contents, and then records, each with the tally and the lent lists as the call before left them. A refused call may
 -- stand anywhere in it. Over what the calls promise, not over their code. `Means` is what a chain leaves: the definitions of the rules over the
 -- records taken, each counted once and in its place (proofs/ChainTheorem.antt has the theorem).
-use Rattle.std.specs.Prelude.{◌≡◌, cond, ◌||◌, List, ℕ, zero, suc, ◌+◌, ◌*◌, ◌-◌, ◌/◌, ◌%◌, ◌≤◌, ◌<◌, min, eqb, ltb, ℤ, ◌-ℤ◌}
+use Rattle.std.specs.Prelude.{◌≡◌, cond, ◌||◌, List, ℕ, zero, suc, ◌+◌, ◌*◌, ◌-◌, ◌/◌, ◌%◌, ◌≤◌, ◌<◌, min, eqb, ltb, ℤ, ◌-ℤ◌, Ok, Err}
 use Rattle.integers.specs.Sums.{sum, when}
 use Rattle.integers.specs.Fills.{filled}
 use Rattle.rules.specs.declared.Located.{Located}
@@ -16,8 +16,6 @@ use Rattle.rules.specs.UnitRecord.{unit_in}
 use Rattle.rules.specs.RequirementRecord.{requirement_in, requirement_record}
 use Rattle.rules.specs.Performance.{weight}
 use Rattle.interval.specs.declared.Tally.{Tally}
-use Rattle.interval.specs.declared.Opened as o
-use Rattle.interval.specs.declared.Taking as k
 use Rattle.interval.specs.declared.Step.{Step}
 use Rattle.interval.specs.Tally.{settings_of, before_units}
 use Rattle.interval.specs.Lent.{Lent, kept_measure, sums_each, part_of, figures_each, figures_of, row_each, row_of}
@@ -28,13 +26,13 @@ use Rattle.chain.specs.Taken.{counts_in, unit_behind}
 
 -- ---- the chain: n records were taken, `part m` is what the call that took record m was handed
 abbrev pub Taken : Step → Type 0
-Taken r = r.taking ≡ k.TheVariants.Taken
+Taken r = r.taking ≡ Ok tt
 
 abbrev pub Refused : Step → Located → Type 0
-Refused r why = r.taking ≡ k.TheVariants.Refused why
+Refused r why = r.taking ≡ Err why
 
 pub data Chain (head : List ℕ) (part : ℕ → List ℕ) (l₀ : Lent) : ℕ → Tally → Lent → Type 0 where
-  begun : {t : Tally} → ContentsPromise head (o.TheVariants.Taken t) → Chain head part l₀ 0 t l₀
+  begun : {t : Tally} → ContentsPromise head (Ok t) → Chain head part l₀ 0 t l₀
   took_settings : {n : ℕ} {t : Tally} {l : Lent} {r : Step} → Chain head part l₀ n t l → SettingsPromise t (part n) r → Taken r →
       Chain head part l₀ (suc n) r.tally l
   took_frequency : {n : ℕ} {t : Tally} {l l' : Lent} {r : Step} → Chain head part l₀ n t l → FrequencyPromise t (part n) l r l' → Taken r →

@@ -1,8 +1,7 @@
 -- What proofs/Way.antt speaks of.
-use Rattle.std.specs.Prelude.{◌≡◌, cond, List, ℕ, suc, ◌+◌, ◌≤◌, ◌<◌, eqb}
+use Rattle.std.specs.Prelude.{◌≡◌, cond, List, ℕ, suc, ◌+◌, ◌≤◌, ◌<◌, eqb, Ok}
 use Rattle.rules.specs.Contents.{Counts}
 use Rattle.interval.specs.declared.Tally.{Tally}
-use Rattle.interval.specs.declared.Opened as o
 use Rattle.interval.specs.declared.Step.{Step}
 use Rattle.interval.specs.Tally.{before_units}
 use Rattle.interval.specs.Lent.{Lent}
@@ -29,5 +28,5 @@ pub data Call (c : Counts) (p : List ℕ) (n : ℕ) (t : Tally) (l : Lent) (r : 
 -- ---- THE WAY: the calls have taken the first n records, and refused none
 module _ (head : List ℕ) (part : ℕ → List ℕ) (l₀ : Lent) where
   pub data Way : ℕ → Tally → Lent → Type 0 where
-    opens : {t : Tally} → ContentsPromise head (o.TheVariants.Taken t) → Way 0 t l₀
+    opens : {t : Tally} → ContentsPromise head (Ok t) → Way 0 t l₀
     takes : {n : ℕ} {t : Tally} {l l' : Lent} {r : Step} → Way n t l → Call (counts_in head) (part n) n t l r l' → Taken r → Way (suc n) r.tally l'

@@ -1,8 +1,11 @@
 -- What an answer leaves at the front of the columns is the numbers of its lines.
+use Rattle.std.specs.Prelude.{Result}
+use Rattle.answer.specs.declared.Answer.{Answer}
+use Rattle.rules.specs.declared.Refusal.{Refusal}
 use mathlib.Core.Path.{◌≡◌, sym, ◌∙◌, ap}
-use mathlib.Core.Bool.{Bool, true, ◌&&◌}
+use mathlib.Core.Bool.{Bool, true}
 use mathlib.Core.List.{List, [], ◌∷◌, ◌++◌, map}
-use Prim.Native.Nat.{ℕ, ◌+◌, ◌≤◌, ◌<◌}
+use Prim.Native.Nat.{ℕ, ◌+◌, ◌≤◌}
 use native.Mathlib.Omega.{arith}
 use lib.Dec.{ltb}
 use lib.IntN.{ℤ}
@@ -16,7 +19,6 @@ use Rattle.interval.specs.Lent.{Lent}
 use Rattle.answer.specs.Lists.{headed, gathered}
 use Rattle.answer.proofs.Lists.{headed_take, gathered_length}
 use Rattle.answer.specs.Roster.{Named}
-use Rattle.answer.specs.declared.Answered.{Answered}
 use Rattle.answer.specs.Promises.{Columns, AnswerPromise, columns_long}
 use Rattle.answer.specs.BookAnswered.{RulesAnswer, line_named}
 use Rattle.demands.specs.ColumnsFront.{front, columns_of}
@@ -40,7 +42,7 @@ module _ {b : Book} {t : Tally} {l : Lent} {part : List ℕ} {q : Requirement} (
       ap (λ (n : ℕ). take n (headed (map field lines) old)) (sym (length-map lines field))
       ∙ headed_take (map field lines) old (omega (arith, length-map lines field, lines_few, ltb-true t.units (length old) long))
 
-  pub lines_at_front : {old new : Columns} {r : Answered} → columns_long t.units old ≡ true → AnswerPromise t part l old r new →
+  pub lines_at_front : {old new : Columns} {r : Result Answer Refusal} → columns_long t.units old ≡ true → AnswerPromise t part l old r new →
       front (length lines) new ≡ columns_of lines
   lines_at_front {old} long c =
       let on_factors = both (ltb t.units (length old.performances)) _ long in

@@ -2,6 +2,8 @@
 -- hands the tally back as it came and writes nothing.' For a run of units R-6 amends the last sentence: the records before the refused one stay added. No
 -- function that a firmware calls has a condition on what it is handed, so each answers, whatever the tally, the bytes and the lists are; here stands that its
 -- promise allows one answer alone, and what this is. First what is asked for, then the theorems.
+use Rattle.std.specs.Prelude.{Result, Ok, Err, ⊤}
+use Rattle.answer.specs.declared.Answer.{Answer}
 use mathlib.Core.Path.{◌≡◌, refl, sym, ◌∙◌, ap}
 use mathlib.Core.Bool.{Bool, true, false, cond}
 use mathlib.Core.List.{List, []}
@@ -20,8 +22,6 @@ use Rattle.rules.specs.Book.{Requirement, Book}
 use Rattle.rules.specs.Contents.{Counts, contents}
 use Rattle.rules.specs.WholeBook.{book}
 use Rattle.interval.specs.declared.Tally.{Tally}
-use Rattle.interval.specs.declared.Taking as k
-use Rattle.interval.specs.declared.Taking.{Taking}
 use Rattle.interval.specs.declared.Step.{Step}
 use Rattle.interval.specs.Lent.{Lent}
 use Rattle.interval.specs.Calls.{stopped_step, stepped, left, settled, counted, settings_reply, requirement_reply}
@@ -30,7 +30,6 @@ use Rattle.interval.specs.Run.{Ran, RunPromise, in_run, records_in, run_taken, w
 use Rattle.interval.proofs.RunLaws.{empty_run, ragged_run, run_only}
 use Rattle.chain.specs.Taken.{counts_in}
 use Rattle.chain.specs.Long.{Long}
-use Rattle.chain.specs.Chain.{Taken}
 use Rattle.chain.specs.Way.{Call}
 use Rattle.chain.proofs.Way.{call_only, refused_leaves, refused_names, any_frequency, any_unit}
 use Rattle.chain.specs.Runs.{RunOutcome, is_ragged, stops_behind, takes_all}
@@ -38,8 +37,6 @@ use Rattle.chain.proofs.Runs.{run_outcome, singly_counts, singly_none}
 use Rattle.chain.specs.BookWay.{Hands}
 use Rattle.chain.proofs.BookRefused.{book_refused, book_way}
 use Rattle.chain.proofs.Mixed.{mixed_told}
-use Rattle.answer.specs.declared.Answered.{Answered}
-use Rattle.answer.specs.declared.Answered.TheVariants.{Refused}
 use Rattle.kept.specs.Kept.{kept_answer}
 use Rattle.answer.specs.Promises.{Columns, AnswerPromise, answer_reply, shown, replied, with_lines}
 use Rattle.answer.proofs.Promises.{answer_only}
@@ -92,9 +89,9 @@ module _ (turn : Turn) {t : Tally} {p : List ℕ} {l : Lent} {r : Step} {l' : Le
   outcome_of : Outcome t l r l'
   outcome_of = go r.taking refl
     where
-      go : (x : Taking) → r.taking ≡ x → Outcome t l r l'
-      go k.TheVariants.Taken h = takes h
-      go (k.TheVariants.Refused why) h =
+      go : (x : Result ⊤ Located) → r.taking ≡ x → Outcome t l r l'
+      go (Ok tt) h = takes h
+      go (Err why) h =
           let same = refused_leaves {c = two_records} (due_call (is_due turn) c) h in
           let named = refused_names {c = two_records} (due_call (is_due turn) c) h in
           refuses named.0 (same.0 ∙ ap (stopped_step t) (sym named.1)) same.1
@@ -114,7 +111,7 @@ every_call of_requirement t p l =
     one_of of_requirement (requirement_step promise refl)
 
 module _ {t : Tally} {p : List ℕ} {l : Lent} {old : Columns} where
-  pub every_answer : {r : Answered} {new : Columns} → AnswerPromise t p l old r new → AnswerOutcome old r new
+  pub every_answer : {r : Result Answer Refusal} {new : Columns} → AnswerPromise t p l old r new → AnswerOutcome old r new
   every_answer {r} {new} c = go (answer_reply t p l old) c.reply c.written
     where
       go :
@@ -122,7 +119,7 @@ module _ {t : Tally} {p : List ℕ} {l : Lent} {old : Columns} where
       go (taken q) e w = gives (shown q (kept_answer t l q)) e
       go (refused why) e w = refuses why e w
 
-  pub one_answer : {r r' : Answered} {new new' : Columns} → AnswerPromise t p l old r new → AnswerPromise t p l old r' new' → (r ≡ r') × (new ≡ new')
+  pub one_answer : {r r' : Result Answer Refusal} {new new' : Columns} → AnswerPromise t p l old r new → AnswerPromise t p l old r' new' → (r ≡ r') × (new ≡ new')
   one_answer c d = answer_only t p l old c d
 
 -- what a step is told as is 0 or a refusal, and so is what words are told as which hold no tally
@@ -132,9 +129,9 @@ numbered :
 unfolding Called
 numbered Call Kept ws ws' (taken t) h c = go c.step.taking c.reply
   where
-    go : {r : ℕ} (x : Taking) → r ≡ taking_said x → (r ≡ 0) ⊎ ((why : Located) × (r ≡ said why))
-    go k.TheVariants.Taken e = inl e
-    go (k.TheVariants.Refused why) e = inr (why, e)
+    go : {r : ℕ} (x : Result ⊤ Located) → r ≡ taking_said x → (r ≡ 0) ⊎ ((why : Located) × (r ≡ said why))
+    go (Ok tt) e = inl e
+    go (Err why) e = inr (why, e)
 numbered Call Kept ws ws' (refused x) h c = inr (located 0 x, c.reply ∙ unheld_said ws x h)
 
 module _ {p ws : List ℕ} {l : Lent} {r : ℕ} {ws' : List ℕ} {l' : Lent} where

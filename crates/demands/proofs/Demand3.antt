@@ -5,6 +5,9 @@
 -- its region and kind, all within the limits, whose start, end, defaults and every reading add up to its own: their performances add up exactly to the old one,
 -- and all other performances stay.' `BooksClose` (crates/closing, Demand3) says all of this of a book, sentence by sentence. Here it stands for the book that a
 -- chain of calls took, and for the columns that an answer leaves.
+use Rattle.std.specs.Prelude.{Result}
+use Rattle.answer.specs.declared.Answer.{Answer}
+use Rattle.rules.specs.declared.Refusal.{Refusal}
 use mathlib.Core.Path.{◌≡◌, refl, sym, ◌∙◌, ap, ap₂}
 use mathlib.Core.Bool.{Bool, true, ◌||◌}
 use mathlib.Core.List.{List, [], ◌∷◌, map}
@@ -21,7 +24,6 @@ use Rattle.interval.specs.declared.Tally.{Tally}
 use Rattle.interval.specs.Lent.{Lent}
 use Rattle.chain.specs.Chain.{Chain}
 use Rattle.chain.specs.BookWay.{records_in}
-use Rattle.answer.specs.declared.Answered.{Answered}
 use Rattle.answer.specs.Promises.{Columns, AnswerPromise, columns_long, shown}
 use Rattle.answer.specs.BookAnswered.{RulesAnswer}
 use Rattle.answer.proofs.BookAnswered.{chain_answered}
@@ -65,7 +67,7 @@ module _ {b : Book} {t : Tally} {l : Lent} {part : List ℕ} {q : Requirement} (
   abbrev lines : List Line
   lines = (answer b q).lines
 
-  module _ (closes : BooksClose b) {old new : Columns} {r : Answered} (long : columns_long t.units old ≡ true)
+  module _ (closes : BooksClose b) {old new : Columns} {r : Result Answer Refusal} (long : columns_long t.units old ≡ true)
       (c : AnswerPromise t part l old r new) where
     performances_front : take (length lines) new.performances ≡ map (λ m. m.payment) (members b q)
     performances_front = ap (λ (c : Columns). c.performances) (lines_at_front a long c) ∙ lines_performances b q

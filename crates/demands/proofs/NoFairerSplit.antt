@@ -2,6 +2,9 @@
 -- every list of whole numbers with the same length and total, the sum over members of the distance between amount times W and T times weight is no smaller
 -- than ours. It holds for the tie rule as it then stands, and for a requirement's debits.' It holds under every rule that puts members with equal remainders
 -- in a strict order, and of each split of a requirement. It speaks of that sum alone: another split can be as close, and closer for one member.
+use Rattle.std.specs.Prelude.{Result}
+use Rattle.answer.specs.declared.Answer.{Answer}
+use Rattle.rules.specs.declared.Refusal.{Refusal}
 use mathlib.Core.Path.{◌≡◌, refl, sym, ◌∙◌, ap, subst}
 use mathlib.Core.Bool.{Bool, true}
 use mathlib.Core.List.{List, [], ◌∷◌, map, map-map}
@@ -29,7 +32,6 @@ use Rattle.laws.proofs.FairnessLaws.{no_closer}
 use Rattle.laws.proofs.CentsLaws.{credit_is, debit_is, one_share}
 use Rattle.interval.specs.declared.Tally.{Tally}
 use Rattle.interval.specs.Lent.{Lent}
-use Rattle.answer.specs.declared.Answered.{Answered}
 use Rattle.answer.specs.Promises.{Columns, AnswerPromise, columns_long, shown}
 use Rattle.answer.specs.BookAnswered.{RulesAnswer}
 use Rattle.demands.specs.NoFairerSplit.{NoFairerSplit, SplitsFair, RequirementFair, ColumnsFair, W, distance, distances, sizes, split_by}
@@ -126,7 +128,7 @@ requirement_fair b q =
 
 -- and of the columns that an answer leaves, about any book that a chain of calls took (demand 2 gives its `RulesAnswer`)
 pub columns_fair :
-    {b : Book} {t : Tally} {l : Lent} {part : List ℕ} {q : Requirement} → RulesAnswer b t l part q → {old new : Columns} {r : Answered} →
+    {b : Book} {t : Tally} {l : Lent} {part : List ℕ} {q : Requirement} → RulesAnswer b t l part q → {old new : Columns} {r : Result Answer Refusal} →
     columns_long t.units old ≡ true → AnswerPromise t part l old r new → ColumnsFair b q r new
 columns_fair {b} {q} a long c =
     record {

@@ -1,5 +1,8 @@
 -- A STORED TALLY OVER ANOTHER BOOK'S LISTS, over words: where the calls below tell the lists apart (crates/chain, Mixed), every C call that reads what was kept
 -- returns 11.
+use Rattle.std.specs.Prelude.{Result}
+use Rattle.answer.specs.declared.Answer.{Answer}
+use Rattle.rules.specs.declared.Refusal.{Refusal}
 use mathlib.Core.Path.{◌≡◌, refl, ◌∙◌, ap, subst}
 use mathlib.Core.Bool.{Bool, true, false, ◌&&◌}
 use mathlib.Core.List.{List}
@@ -25,7 +28,6 @@ use Rattle.kept.specs.KeptReport.{report_long, report_reply}
 use Rattle.kept.specs.Kept.{kept_answer}
 use Rattle.chain.specs.Mixed.{Told}
 use Rattle.chain.proofs.Mixed.{told_unit}
-use Rattle.answer.specs.declared.Answered.{Answered}
 use Rattle.answer.specs.declared.Row.{Row}
 use Rattle.answer.specs.Promises.{Columns, AnswerPromise, answer_reply, columns_long, replied, with_lines}
 use Rattle.answer.specs.Roster.{MemberPromise, member_long, member_reply, row_answer}
@@ -120,12 +122,12 @@ module _ (stored : List ℕ) (t : Tally) (l : Lent) (h : held stored ≡ taken t
           eleven answered_number answered_after _ _ (new ≡ old) (asked_either stored true (leb reply_words (length reply)) h (le-leb _ _ words_long)) refuses
           (λ same. same) c.answer
         where
-          refuses : (a : Answered) → AnswerPromise t p l old a new → (answered_number a ≡ number WrongState) × (answered_after a reply ≡ reply) × (new ≡ old)
+          refuses : (a : Result Answer Refusal) → AnswerPromise t p l old a new → (answered_number a ≡ number WrongState) × (answered_after a reply ≡ reply) × (new ≡ old)
           refuses a w =
               let no = answer_refused t l apart p old long in
               let e = w.reply ∙ ap (replied t l) no in (
                 ap answered_number e,
-                ap (λ (x : Answered). answered_after x reply) e,
+                ap (λ (x : Result Answer Refusal). answered_after x reply) e,
                 w.written ∙ ap (λ (y : Reply Requirement). left (λ q. with_lines (kept_answer t l q)) y old) no,
               )
 

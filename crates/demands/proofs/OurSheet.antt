@@ -1,5 +1,8 @@
 -- R-12, OUR OWN SHEET IS POSSIBLE: 'Our own calculator's factors are accepted under either tie rule.' Of every requirement, from its book, and of the columns
 -- that an answer leaves: a box can hand them to `dullavane_sheet` as they stand, so many numbers from the front as the answer tells members.
+use Rattle.std.specs.Prelude.{Result}
+use Rattle.answer.specs.declared.Answer.{Answer}
+use Rattle.rules.specs.declared.Refusal.{Refusal}
 use mathlib.Core.Path.{◌≡◌, sym, ap₂, subst}
 use mathlib.Core.Bool.{true}
 use mathlib.Core.List.{List, [], ◌∷◌, map, map-map}
@@ -28,7 +31,6 @@ use Rattle.sheets.specs.Ours.{factor_by, sheet_by}
 use Rattle.sheets.proofs.Ours.{either_possible}
 use Rattle.interval.specs.declared.Tally.{Tally}
 use Rattle.interval.specs.Lent.{Lent}
-use Rattle.answer.specs.declared.Answered.{Answered}
 use Rattle.answer.specs.Promises.{Columns, AnswerPromise, columns_long, shown}
 use Rattle.answer.specs.BookAnswered.{RulesAnswer}
 use Rattle.demands.proofs.ColumnsFront.{lines_at_front}
@@ -84,7 +86,7 @@ module _ (b : Book) (q : Requirement) where
 
 -- and of the columns that an answer leaves, about any book that a chain of calls took (demand 2 gives its `RulesAnswer`)
 pub columns_possible :
-    {b : Book} {t : Tally} {l : Lent} {part : List ℕ} {q : Requirement} → BookFits b → RulesAnswer b t l part q → {old new : Columns} {r : Answered} →
+    {b : Book} {t : Tally} {l : Lent} {part : List ℕ} {q : Requirement} → BookFits b → RulesAnswer b t l part q → {old new : Columns} {r : Result Answer Refusal} →
     columns_long t.units old ≡ true → AnswerPromise t part l old r new → ColumnsPossible r new
 columns_possible {b} {q} h a long c =
     record {

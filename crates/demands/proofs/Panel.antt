@@ -1,5 +1,7 @@
 -- R-13, THE PANEL: what an operator reads. Of a book that was taken each key press shows the page of the rules' answer that the steps lead to; every page is
 -- reached from home by next, and no press shows any other; and what is shown of a refusal is never what is shown of a number that no refusal has.
+use Rattle.std.specs.Prelude.{Result}
+use Rattle.answer.specs.declared.Answer.{Answer}
 use mathlib.Core.Path.{◌≡◌, refl, sym, ◌∙◌, ap}
 use mathlib.Core.Bool.{Bool, true, false, false≢true}
 use mathlib.Core.List.{List, [], ◌++◌}
@@ -26,7 +28,6 @@ use Rattle.chain.specs.Taken.{counts_in}
 use Rattle.chain.specs.Chain.{Chain}
 use Rattle.chain.specs.BookWay.{Hands}
 use Rattle.chain.proofs.Answerable.{units_answerable}
-use Rattle.answer.specs.declared.Answered.{Answered}
 use Rattle.answer.specs.Promises.{Columns, shown}
 use Rattle.panel.specs.Keys.{nexts_after_home}
 use Rattle.panel.specs.BookPages.{shown_of, cents_of, BookPages, PagesShown}
@@ -41,7 +42,7 @@ pub book_shown :
 book_shown hands b e bytes d all = book_pages (units_answerable hands b e d all bytes)
 
 -- ---- KEYS ONE AFTER ANOTHER, over what `answer` gave of a requirement
-module _ {b : Book} {t : Tally} {l : Lent} {part : List ℕ} {q : Requirement} {r : Answered} {c : Columns} (w : BookPages b t l part q r c)
+module _ {b : Book} {t : Tally} {l : Lent} {part : List ℕ} {q : Requirement} {r : Result Answer Refusal} {c : Columns} (w : BookPages b t l part q r c)
     (book_number : ℕ) where
   abbrev Pressing : Page → List Key → Page → List ℕ → List ℕ → Type 0
   Pressing = Presses book_number t part (shown_of (shown q (answer b q))) l (cents_of c)

@@ -1,5 +1,8 @@
 -- R-13, THE PANEL, over C: `dullavane_panel_press`, handed the reply's words and the columns of `dullavane_answer`, shows the page of the rules' answer that
 -- the key turns to. The tally's words hold the tally, and the reply's words say what the reply says.
+use Rattle.std.specs.Prelude.{Result}
+use Rattle.rules.specs.declared.Page.{Page}
+use Rattle.rules.specs.declared.Refusal.{Refusal}
 use mathlib.Core.Path.{◌≡◌, refl, ◌∙◌, ap, subst}
 use mathlib.Core.Bool.{true, false, ◌&&◌}
 use mathlib.Core.List.{List}
@@ -25,11 +28,9 @@ use Rattle.chain.specs.BookWay.{Hands}
 use Rattle.chain.specs.Answerable.{Answerable}
 use Rattle.chain.proofs.Answerable.{units_answerable}
 use Rattle.answer.specs.declared.Answer.{Answer}
-use Rattle.answer.specs.declared.Answered.{Answered}
 use Rattle.answer.specs.Promises.{Columns, columns_long, shown}
 use Rattle.answer.proofs.TestedLaws.{units_few}
 use Rattle.panel.specs.declared.Shown.{Shown}
-use Rattle.panel.specs.declared.Pressed.{Pressed}
 use Rattle.panel.specs.Press.{PressPromise}
 use Rattle.panel.specs.BookPages.{shown_of as reply_shown, cents_of}
 use Rattle.panel.proofs.BookPages.{lines_few, book_pages}
@@ -76,7 +77,7 @@ module _ {b : Book} {t : Tally} (ts : List ℕ) {l : Lent} (h : Answerable b t l
       let given = is_stepped _ _ _ _ (asked_held ts true (leb reply_words (length reply)) holds turn refl (le-leb _ _ words_long)) c.answer in
       let w = (book_pages h).shows part q asked long given.call in
       let members : a.members < 65_536 = omega (arith, lines_few h part q asked, units_few t turn) in
-      let left : reply' ≡ with_answer a reply = given.words ∙ ap (λ (y : Answered). answered_after y reply) w.given in
+      let left : reply' ≡ with_answer a reply = given.words ∙ ap (λ (y : Result Answer Refusal). answered_after y reply) w.given in
       let told : shown_of reply' ≡ reply_shown a = ap shown_of left ∙ words_shown a reply members in
       let eight : reply_words ≤ length reply' = rw left (omega arith) in
       let there : enough (length ws) (length reply') ≡ true = rw (le-leb page_words (length ws) room, le-leb reply_words (length reply') eight) in
@@ -86,7 +87,7 @@ module _ {b : Book} {t : Tally} (ts : List ℕ) {l : Lent} (h : Answerable b t l
       let y = w.pressed (page_of ws) (key_of key) number text_room promise in
       record {
         reply = pressed.reply ∙ ap pressed_number y.page;
-        words = pressed.words ∙ ap (λ (z : Pressed). page_after z ws) y.page;
+        words = pressed.words ∙ ap (λ (z : Result Page Refusal). page_after z ws) y.page;
         text = y.text;
       }
 

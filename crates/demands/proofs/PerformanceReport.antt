@@ -22,7 +22,7 @@ use Rattle.rules.specs.Plants.{Plant, plants}
 use Rattle.rules.specs.Listing.{joined}
 use Rattle.rules.specs.Calendar.{last_interval}
 use Rattle.rules.specs.Report.{member_row, residual_row, report_rows, report_text}
-use Rattle.rules.specs.ReportRow.{report_row, row_written, text_after, in_billionths}
+use Rattle.rules.specs.ReportRow.{report_row, row_written, in_billionths}
 use Rattle.rules.specs.ReportRead.{row_read}
 use Rattle.interval.specs.declared.Tally.{Tally}
 use Rattle.interval.specs.Tally.{units_end, in_range, answer_turn, before_units}

@@ -1,6 +1,6 @@
 -- R-2, THE TREND STRIP, over C: whatever `dullavane_trend` replies and leaves is a good unit's strip with all that `strip`, Shown says of it, a bad unit's three
 -- zeros, or a refusal that leaves every list as it came. 75 or 0 in the last list tells a plant on its set point from a bad one.
-use mathlib.Core.Path.{◌≡◌, refl, sym, ◌∙◌, ap, subst}
+use mathlib.Core.Path.{◌≡◌, refl, sym, ap, subst}
 use mathlib.Core.Bool.{Bool, true, false, cond, ◌&&◌}
 use mathlib.Core.List.{List}
 use Prim.Native.Nat.{ℕ, ◌<◌}
@@ -14,9 +14,9 @@ use Rattle.rules.specs.declared.Strip.{Strip}
 use Rattle.rules.specs.declared.Trend.{Trend}
 use Rattle.rules.specs.declared.Trend.TheVariants.{Drawn, Bad, Refused}
 use Rattle.rules.specs.Refusals.{located, number}
-use Rattle.rules.specs.Strip.{strip_reply, trend_of, points_after}
+use Rattle.rules.specs.Strip.{strip_reply, trend_of}
 use Rattle.strip.specs.Promise.{TrendPromise}
-use Rattle.strip.specs.Shown.{can_come, DrawnShown, BadShown}
+use Rattle.strip.specs.Shown.{DrawnShown, BadShown}
 use Rattle.strip.proofs.Shown.{drawn_shown, bad_shown, refused_shown}
 use Rattle.dullavane.specs.Trends.{strip_numbers, drawn_numbers, trend_told, strip_after, drawn_after, TrendCalled}
 use Rattle.dullavane.proofs.WordsLaws.{told_apart}

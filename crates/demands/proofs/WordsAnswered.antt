@@ -1,4 +1,7 @@
 -- THE ANSWER OVER WORDS: where the calls below give the rules' answer (crates/answer, RulesAnswer) and the words hold their tally, the C calls give it too.
+use Rattle.std.specs.Prelude.{Result}
+use Rattle.answer.specs.declared.Answer.{Answer}
+use Rattle.rules.specs.declared.Refusal.{Refusal}
 use mathlib.Core.Path.{◌≡◌, refl, sym, ◌∙◌, ap, ap₂, subst₂}
 use mathlib.Core.Bool.{Bool, true, false, cond, ◌&&◌}
 use mathlib.Core.List.{List, [], ◌∷◌, ◌++◌, map, map-append, map-map}
@@ -35,7 +38,6 @@ use Rattle.answer.specs.declared.Row.TheVariants as row
 use Rattle.answer.specs.Lists.{gathered}
 use Rattle.answer.proofs.Lists.{gathered_none, gathered_more}
 use Rattle.answer.specs.Roster.{Named, row_says, MemberPromise}
-use Rattle.answer.specs.declared.Answered.{Answered}
 use Rattle.answer.specs.Promises.{Columns, columns_long, last_standing}
 use Rattle.answer.proofs.CallLaws.{record_fine}
 use Rattle.answer.specs.BookAnswered.{line_named, RulesAnswer}
@@ -156,7 +158,7 @@ module _
       let x = a.answered long s.call in
       record {
         number = s.reply ∙ ap answered_number x.reply;
-        words = s.words ∙ ap (λ (y : Answered). answered_after y reply) x.reply;
+        words = s.words ∙ ap (λ (y : Result Answer Refusal). answered_after y reply) x.reply;
         columns = x.written;
       }
 

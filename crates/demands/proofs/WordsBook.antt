@@ -1,5 +1,6 @@
 -- DEMAND 2 OVER WORDS: once a chain of C calls has all units in, dullavane_answer and dullavane_member give the rules' answer about the book that was taken, to
 -- the cent, with names and standings. Of a book that the format takes the C calls take every record; of one that it refuses they meet its refusal, number, place and t.
+use Rattle.std.specs.Prelude.{Err}
 use mathlib.Core.Path.{◌≡◌, refl, sym, ◌∙◌, ap, subst⁻¹}
 use mathlib.Core.List.{List}
 use Prim.Native.Nat.{ℕ, suc, ◌+◌, ◌-◌, ◌≤◌, ◌<◌}
@@ -11,7 +12,6 @@ use Rattle.rules.specs.Refusals.{Reply, taken, refused, located, at}
 use Rattle.rules.specs.Book.{Requirement, Book}
 use Rattle.rules.specs.Contents.{Counts, contents}
 use Rattle.rules.specs.WholeBook.{book}
-use Rattle.interval.specs.declared.Opened as o
 use Rattle.interval.specs.declared.Step.{Step}
 use Rattle.interval.specs.Tally.{before_units}
 use Rattle.interval.specs.Lent.{Lent}
@@ -105,7 +105,7 @@ module _ {head : List ℕ} {part : ℕ → List ℕ} {l₀ : Lent} {ws₀ : List
           (s.reply ∙ ap (λ (s : Step). taking_said s.taking) e.0, s.words ∙ ap (λ (s : Step). words_after s ws) e.0, e.1)
 
   words_meets : {why : Located} → Meets head part l₀ why → WordsMeets head part l₀ ws₀ why
-  words_meets (below.at_contents {x} p e) = at_contents (contents_opened head ws₀ long (o.TheVariants.Refused x) p.reply (sym (ap said e)) refl)
+  words_meets (below.at_contents {x} p e) = at_contents (contents_opened head ws₀ long (Err x) p.reply (sym (ap said e)) refl)
   words_meets (below.at_record s) = at_record (words_stops s)
 
 -- ---- on any chain the C call for the next record returns 0 where the format takes the record, whatever was tried in its place before and refused

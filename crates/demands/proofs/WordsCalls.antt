@@ -1,5 +1,6 @@
 -- Laws of the C calls that take a record: a call that answers a number has changed nothing, and on words that hold a tally a call is the call below on that
 -- tally, its step told as a number and as words.
+use Rattle.std.specs.Prelude.{Result, ⊤}
 use mathlib.Core.Path.{◌≡◌, ap}
 use mathlib.Core.List.{List}
 use Prim.Native.Nat.{ℕ, ◌+◌, ◌<◌}
@@ -7,7 +8,6 @@ use Rattle.rules.specs.declared.Located.{Located}
 use Rattle.rules.specs.Refusals.{taken}
 use Rattle.rules.specs.Contents.{Counts}
 use Rattle.interval.specs.declared.Tally.{Tally}
-use Rattle.interval.specs.declared.Taking.{Taking}
 use Rattle.interval.specs.declared.Step.{Step}
 use Rattle.interval.specs.Lent.{Lent}
 use Rattle.interval.specs.Calls.{settled, counted, settings_reply, requirement_reply}
@@ -36,7 +36,7 @@ module _ (Call : Tally → Step → Type 0) (Kept Same : Type 0) {ws ws' : List 
       stays : (t : Tally) (s : Step) → Call t s → 0 < told s → (words_after s ws ≡ ws) × Same
       stays t s call some =
           let no = told_refused s some in
-          (ap (λ (x : Taking). words_left x s.tally ws) no.1, by_call t s no.0 call no.1)
+          (ap (λ (x : Result ⊤ Located). words_left x s.tally ws) no.1, by_call t s no.0 call no.1)
 
 module _ {p ws : List ℕ} {l : Lent} {r : ℕ} {ws' : List ℕ} {l' : Lent} where
   -- a call that answers a number leaves words and lists as they came, whatever the words hold

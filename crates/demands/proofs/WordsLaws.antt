@@ -1,4 +1,5 @@
 -- Laws of the tally's words and of the one form of promise that all C calls have (crates/dullavane, Words and Called).
+use Rattle.std.specs.Prelude.{Result, Ok, Err, ⊤}
 use mathlib.Core.Path.{◌≡◌, refl, sym, ◌∙◌, subst}
 use mathlib.Core.List.{List}
 use Prim.Native.Nat.{ℕ, ◌<◌}
@@ -11,8 +12,6 @@ use Rattle.rules.specs.declared.Standing.{Standing}
 use Rattle.rules.specs.declared.Standing.TheVariants.{Live, Default}
 use Rattle.rules.specs.Refusals.{Reply, taken, refused}
 use Rattle.interval.specs.declared.Tally.{Tally}
-use Rattle.interval.specs.declared.Taking as k
-use Rattle.interval.specs.declared.Taking.{Taking}
 use Rattle.interval.specs.declared.Step.{Step}
 use Rattle.dullavane.specs.Words.{tally_words, with_words, held, Narrow, taking_said, told}
 use Rattle.dullavane.proofs.WordsLaws.{held_by, narrow_but, said_some}
@@ -21,19 +20,19 @@ use Rattle.dullavane.specs.Asked.{standing_number}
 use Rattle.demands.specs.WordsLaws.{standing_of}
 
 -- ---- no refusal is told as 0, so 0 is told of a record taken alone
-pub told_taken : (s : Step) → told s ≡ 0 → s.taking ≡ k.TheVariants.Taken
+pub told_taken : (s : Step) → told s ≡ 0 → s.taking ≡ Ok tt
 told_taken s e = go s.taking e
   where
-    go : (x : Taking) → taking_said x ≡ 0 → x ≡ k.TheVariants.Taken
-    go k.TheVariants.Taken e = refl
-    go (k.TheVariants.Refused why) e = absurd (omega (arith, said_some why))
+    go : (x : Result ⊤ Located) → taking_said x ≡ 0 → x ≡ Ok tt
+    go (Ok tt) e = refl
+    go (Err why) e = absurd (omega (arith, said_some why))
 
-pub told_refused : (s : Step) → 0 < told s → (why : Located) × (s.taking ≡ k.TheVariants.Refused why)
+pub told_refused : (s : Step) → 0 < told s → (why : Located) × (s.taking ≡ Err why)
 told_refused s h = go s.taking h
   where
-    go : (x : Taking) → 0 < taking_said x → (why : Located) × (x ≡ k.TheVariants.Refused why)
-    go k.TheVariants.Taken h = absurd (omega arith)
-    go (k.TheVariants.Refused why) h = (why, refl)
+    go : (x : Result ⊤ Located) → 0 < taking_said x → (why : Located) × (x ≡ Err why)
+    go (Ok tt) h = absurd (omega arith)
+    go (Err why) h = (why, refl)
 
 -- ---- the words of a tally within its widths hold it
 pub words_hold : (t : Tally) (ws : List ℕ) → Narrow (with_words t ws) → held (with_words t ws) ≡ taken t

@@ -1,5 +1,6 @@
 -- THE CHAIN OVER WORDS: a chain of C calls is a chain of the calls below (crates/chain, Chain); its words are those of the chain's tally, and words past the
 -- eighth stay. And the other way round.
+use Rattle.std.specs.Prelude.{Result, Ok, ⊤}
 use mathlib.Core.Path.{◌≡◌, refl, sym, ◌∙◌, ap, ap₂, subst, subst⁻¹}
 use mathlib.Core.Bool.{Bool, true, false}
 use mathlib.Core.List.{List}
@@ -16,8 +17,6 @@ use Rattle.rules.specs.Book.{Settings}
 use Rattle.rules.specs.Contents.{Counts, contents}
 use Rattle.laws.proofs.LimitsLaws.{settings_fit}
 use Rattle.interval.specs.declared.Tally.{Tally}
-use Rattle.interval.specs.declared.Opened as o
-use Rattle.interval.specs.declared.Taking.{Taking}
 use Rattle.interval.specs.declared.Step.{Step}
 use Rattle.interval.specs.Tally.{settings_of}
 use Rattle.interval.specs.Lent.{Lent}
@@ -78,7 +77,7 @@ module _ {head : List ℕ} {part : ℕ → List ℕ} {l₀ : Lent} {n : ℕ} {t 
 -- ---- the table of contents, taken and refused
 record Opens (head ws ws' : List ℕ) : Type 0 where
   tally : Tally
-  promise : ContentsPromise head (o.TheVariants.Taken tally)
+  promise : ContentsPromise head (Ok tally)
   words : ws' ≡ with_words tally ws
   long : tally_words ≤ length ws
 
@@ -122,7 +121,7 @@ module _ {head : List ℕ} {part : ℕ → List ℕ} {l₀ : Lent} where
         let s = call_steps x.held call in
         let took = told_taken s.step (sym s.reply) in
         let t = s.step.tally in
-        let words = s.words ∙ ap (λ (k : Taking). words_left k t ws) took ∙ ap (with_words t) x.words in
+        let words = s.words ∙ ap (λ (k : Result ⊤ Located). words_left k t ws) took ∙ ap (with_words t) x.words in
         tallied (one_more x.chain s.call took) words x.long
 
     next_run :
@@ -163,18 +162,18 @@ module _ (head : List ℕ) (part : ℕ → List ℕ) (l₀ : Lent) (ws₀ : List
       {n : ℕ} {t : Tally} {l l' : Lent} {s : Step} {turn : Turn} →
       Chain head part l₀ n t l → StepCall (part n) t l s l' turn → Taken s → With n t l → With (suc n) s.tally l'
   goes_on {t = t} {s = s} d step h so_far =
-      let words = ap (λ (k : Taking). words_left k s.tally (with_words t ws₀)) h in
+      let words = ap (λ (k : Result ⊤ Located). words_left k s.tally (with_words t ws₀)) h in
       took so_far (step_calls (chain_held d ws₀) step (sym (ap taking_said h), sym words))
 
   stays :
       {n : ℕ} {t : Tally} {l l' : Lent} {s : Step} {turn : Turn} {p : List ℕ} {why : Located} →
       Chain head part l₀ n t l → StepCall p t l s l' turn → Refused s why → With n t l → With n s.tally l'
   stays {t = t} {s = s} {why = why} d step h so_far =
-      let words = ap (λ (k : Taking). words_left k s.tally (with_words t ws₀)) h in
+      let words = ap (λ (k : Result ⊤ Located). words_left k s.tally (with_words t ws₀)) h in
       rw (refused_stays step h) (refused_record so_far (step_calls (chain_held d ws₀) step (sym (ap taking_said h), sym words)) (said_some why))
 
   pub chain_words : {n : ℕ} {t : Tally} {l : Lent} → Chain head part l₀ n t l → WordsChain head part l₀ ws₀ n (with_words t ws₀) l
-  chain_words (below.begun {t} p) = begun (contents_opened head ws₀ long (o.TheVariants.Taken t) p.reply refl refl)
+  chain_words (below.begun {t} p) = begun (contents_opened head ws₀ long (Ok t) p.reply refl refl)
   chain_words (below.took_settings d p h) = goes_on d (settings_step p refl) h (chain_words d)
   chain_words (below.took_frequency d p h) = goes_on d (frequency_step p) h (chain_words d)
   chain_words (below.took_unit d p h) = goes_on d (unit_step p) h (chain_words d)

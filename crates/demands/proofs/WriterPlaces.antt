@@ -1,16 +1,15 @@
 -- No place that the book writer names is past 512, so the header's macros take its refusals apart.
-use mathlib.Core.Path.{◌≡◌, refl, sym, ◌∙◌, ap, subst}
+use mathlib.Core.Path.{◌≡◌, refl, subst}
 use mathlib.Core.Bool.{Bool, true, false, cond}
 use mathlib.Core.List.{List, [], ◌∷◌}
-use Prim.Native.Nat.{ℕ, zero, suc, ◌+◌, ◌≤◌, ◌<◌}
+use Prim.Native.Nat.{ℕ, zero, suc, ◌+◌, ◌≤◌}
 use native.Mathlib.Omega.{arith}
 use lib.Dec.{eqb}
-use Rattle.rules.specs.declared.Refusal.{Refusal}
 use Rattle.rules.specs.declared.Refusal.TheVariants.{TooShort, WrongCount}
 use Rattle.rules.specs.declared.Located.{Located}
 use Rattle.rules.specs.Refusals.{Reply, LocatedReply, taken, refused, number, at, located, ◌>>=◌}
 use Rattle.rules.specs.Quantities.{regions}
-use Rattle.rules.specs.Book.{Region, Unit, Requirement}
+use Rattle.rules.specs.Book.{Unit}
 use Rattle.rules.specs.Groups.{in_its_group}
 use Rattle.rules.specs.Given.{Given}
 use Rattle.rules.specs.Written.{

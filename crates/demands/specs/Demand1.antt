@@ -1,5 +1,5 @@
 -- What proofs/Demand1.antt speaks of.
-use Rattle.std.specs.Prelude.{◌≡◌, List, ℕ, ◌+◌, ◌-◌, ◌≤◌}
+use Rattle.std.specs.Prelude.{◌≡◌, List, ℕ, ◌+◌, ◌-◌, ◌≤◌, Result, Ok, Err}
 use Rattle.rules.specs.declared.Refusal.{Refusal}
 use Rattle.rules.specs.declared.Located.{Located}
 use Rattle.rules.specs.Quantities.{most_units}
@@ -15,8 +15,6 @@ use Rattle.interval.specs.Run.{in_run, records_in as records_of_run, RunPromise}
 use Rattle.chain.specs.Runs.{RunOutcome}
 use Rattle.chain.specs.BookWay.{records_in, Takes, Meets}
 use Rattle.answer.specs.declared.Answer.{Answer}
-use Rattle.answer.specs.declared.Answered.{Answered}
-use Rattle.answer.specs.declared.Answered.TheVariants.{Given, Refused}
 use Rattle.answer.specs.Promises.{Columns}
 use Rattle.dullavane.specs.Words.{said}
 use Rattle.demands.specs.WordsChain.{Turn, words_added}
@@ -37,9 +35,9 @@ pub record OneAnswer (turn : Turn) (t : Tally) (p : List ℕ) (l : Lent) : Type 
   pub outcome : Outcome t l reply lists
 
 -- ---- an answer to a requirement, asked for with any tally, bytes and lists: given, or refused with nothing written; the tally goes by value
-pub data AnswerOutcome (old : Columns) (r : Answered) (new : Columns) : Type 0 where
-  gives : (a : Answer) → r ≡ Given a → AnswerOutcome old r new
-  refuses : (why : Refusal) → r ≡ Refused why → new ≡ old → AnswerOutcome old r new
+pub data AnswerOutcome (old : Columns) (r : Result Answer Refusal) (new : Columns) : Type 0 where
+  gives : (a : Answer) → r ≡ Ok a → AnswerOutcome old r new
+  refuses : (why : Refusal) → r ≡ Err why → new ≡ old → AnswerOutcome old r new
 
 -- ---- a call from C on any words: 0, or a refusal with number, place and t, and then words and lists are as they came
 pub data WordsOutcome (ws : List ℕ) (l : Lent) (r : ℕ) (ws' : List ℕ) (l' : Lent) : Type 0 where

@@ -1,13 +1,11 @@
 -- What proofs/Demand3.antt speaks of.
-use Rattle.std.specs.Prelude.{◌≡◌, Bool, true, List, ℤ, pos, take}
+use Rattle.rules.specs.declared.Refusal.{Refusal}
+use Rattle.std.specs.Prelude.{◌≡◌, Bool, true, List, ℤ, pos, take, Result, Ok}
 use Rattle.std.specs.Int.Signed.{lt_z}
 use Rattle.integers.specs.Pairs.{gain, loss}
 use Rattle.integers.specs.Totals.{totalℕ}
 use Rattle.rules.specs.Book.{Requirement, Book}
-use Rattle.rules.specs.Members.{members}
 use Rattle.answer.specs.declared.Answer.{Answer}
-use Rattle.answer.specs.declared.Answered.{Answered}
-use Rattle.answer.specs.declared.Answered.TheVariants.{Given}
 use Rattle.answer.specs.Promises.{Columns}
 use Rattle.closing.specs.Parties.{some, no_default}
 
@@ -18,9 +16,9 @@ helps = some (λ x. lt_z (pos 0) x)
 abbrev pub harms : List ℤ → Bool
 harms = some (λ x. lt_z x (pos 0))
 
-pub record ColumnsClose (b : Book) (q : Requirement) (r : Answered) (new : Columns) : Type 0 where
+pub record ColumnsClose (b : Book) (q : Requirement) (r : Result Answer Refusal) (new : Columns) : Type 0 where
   pub figures : Answer
-  pub given : r ≡ Given figures
+  pub given : r ≡ Ok figures
   -- 'a helpful party exactly when it has an unhelpful one'
   pub parties : no_default b q ≡ true → helps (take figures.members new.performances) ≡ harms (take figures.members new.performances)
   -- 'where both are there, the payments' credits, the payments' debits and the pool are equal to the cent'

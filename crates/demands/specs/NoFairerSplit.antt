@@ -1,5 +1,6 @@
 -- What proofs/NoFairerSplit.antt speaks of: how far a split of T over weights is from the exact shares, T·weight/W each (02, R-14).
-use Rattle.std.specs.Prelude.{◌≡◌, Bool, List, map, ℕ, ◌*◌, ◌≤◌, ◌<◌, ℤ, pos, nat_abs, ◌-ℤ◌, ◌*ℤ◌, length, get_or}
+use Rattle.rules.specs.declared.Refusal.{Refusal}
+use Rattle.std.specs.Prelude.{◌≡◌, Bool, List, map, ℕ, ◌*◌, ◌≤◌, ◌<◌, ℤ, pos, nat_abs, ◌-ℤ◌, ◌*ℤ◌, length, get_or, Result, Ok}
 use Rattle.integers.specs.Pairs.{gain, loss}
 use Rattle.integers.specs.Sums.{sumℕ}
 use Rattle.integers.specs.Totals.{total, numbered}
@@ -11,8 +12,6 @@ use Rattle.rules.specs.Factors.{helpful, unhelpful}
 use Rattle.rules.specs.Cents.{used_weights, unused_weights}
 use Rattle.rules.specs.Answer.{answer}
 use Rattle.answer.specs.declared.Answer.{Answer}
-use Rattle.answer.specs.declared.Answered.{Answered}
-use Rattle.answer.specs.declared.Answered.TheVariants.{Given}
 use Rattle.answer.specs.Promises.{Columns}
 use Rattle.demands.specs.ColumnsFront.{front, columns_of}
 
@@ -59,7 +58,7 @@ RequirementFair b q =
     SplitsFair (members b q) a.pool a.used_pool a.unused_pool (columns_of a.lines)
 
 -- and of what a caller has after the call: the answer's figures, and a number of each member at the front of each column
-pub record ColumnsFair (b : Book) (q : Requirement) (r : Answered) (new : Columns) : Type 0 where
+pub record ColumnsFair (b : Book) (q : Requirement) (r : Result Answer Refusal) (new : Columns) : Type 0 where
   pub figures : Answer
-  pub given : r ≡ Given figures
+  pub given : r ≡ Ok figures
   pub fair : SplitsFair (members b q) figures.pool figures.used.pool figures.unused.pool (front figures.members new)

@@ -10,6 +10,7 @@ use borrow.Author.Tests.{ltb-true}
 use Rattle.integers.specs.Sums.{both}
 use Rattle.rules.specs.declared.Direction.{Direction}
 use Rattle.rules.specs.declared.Direction.TheVariants.{Lower}
+use Rattle.rules.specs.declared.Refusal.{Refusal}
 use Rattle.rules.specs.declared.Refusal.TheVariants.{WrongState, TooShort}
 use Rattle.rules.specs.Refusals.{Reply, taken, refused, unless, ◌>>=◌}
 use Rattle.interval.specs.declared.Tally.{Tally}
@@ -19,7 +20,7 @@ use Rattle.answer.proofs.RosterLaws.{member_only}
 use Rattle.dullavane.specs.Words.{held, reply_number, Held}
 use Rattle.dullavane.proofs.WordsLaws.{held_means}
 use Rattle.dullavane.proofs.Called.{alone_only}
-use Rattle.dullavane.specs.Asked.{MemberCalled, no_tally, held_or_none, asked_narrow, direction_of, in_turn, asked_tally, row_after, row_number}
+use Rattle.dullavane.specs.Asked.{MemberCalled, held_or_none, asked_narrow, direction_of, in_turn, asked_tally, row_after, row_number}
 
 pub dullavane_member_only : {ts : List ℕ} {row direction set : ℕ} {l : Lent} {ws : List ℕ} {r r₂ : ℕ} {ws' ws₂ : List ℕ} →
     MemberCalled ts row direction set l ws r ws' → MemberCalled ts row direction set l ws r₂ ws₂ → (r ≡ r₂) × (ws' ≡ ws₂)
@@ -37,14 +38,6 @@ pub direction_of_only : (n : ℕ) {r r₂ : Direction} → r ≡ direction_of n 
 direction_of_only n a b = a ∙ sym b
 
 -- ---- laws
--- where words hold none
-pub held_none : (ws : List ℕ) {r : ℕ} → r ≡ reply_number (held ws) → (r ≡ 0 → ⊥) → no_tally ≡ held_or_none (held ws)
-held_none ws e some = go (held ws) (λ z. some (e ∙ z))
-  where
-    go : (y : Reply Tally) → (reply_number y ≡ 0 → ⊥) → no_tally ≡ held_or_none y
-    go (taken t) some = absurd (some refl)
-    go (refused r) some = refl
-
 -- a tally that can be asked: the words hold it, what it is asked by is within its width, and the words for the answer are long enough
 pub record AskedTally (ws : List ℕ) (narrow long : Bool) : Type 0 where
   pub in_words : Held ws
@@ -74,20 +67,16 @@ asked_means ws narrow long e none = go (held ws) refl (sym e ∙ none)
         absurd (omega arith)
 
 -- by what the tests say of the tally that the words hold
-pub asked_number : (ws : List ℕ) (narrow long : Bool) {t : Tally} {x f m : Bool} →
+pub asked_by : (ws : List ℕ) (narrow long : Bool) {t : Tally} {x f m : Bool} →
     held ws ≡ taken t → (in_range t && answer_turn t) ≡ x → narrow ≡ f → long ≡ m →
-    reply_number (unless x WrongState (unless f WrongState (unless m TooShort (taken t)))) ≡ reply_number (asked_tally ws narrow long)
+    asked_tally ws narrow long ≡ unless x WrongState (unless f WrongState (unless m TooShort (taken t)))
 unfolding asked_tally in_turn
-asked_number ws narrow long h a b d = rw (h, a, b, d)
+asked_by ws narrow long h a b d = rw (h, a, b, d)
 
 -- where the words hold no tally, that is the answer
-pub refused_words : (ws : List ℕ) (narrow long : Bool) → (reply_number (held ws) ≡ 0 → ⊥) → reply_number (held ws) ≡ reply_number (asked_tally ws narrow long)
+pub asked_unheld : (ws : List ℕ) (narrow long : Bool) {r : Refusal} → held ws ≡ refused r → asked_tally ws narrow long ≡ refused r
 unfolding asked_tally
-refused_words ws narrow long some = go (held ws) some
-  where
-    go : (y : Reply Tally) → (reply_number y ≡ 0 → ⊥) → reply_number y ≡ reply_number (y >>= in_turn narrow long)
-    go (taken t) some = absurd (some refl)
-    go (refused r) some = refl
+asked_unheld ws narrow long h = rw h
 
 pub record AskedNarrow (row direction set : ℕ) : Type 0 where
   pub row_fits : row < 65_536

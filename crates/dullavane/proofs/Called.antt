@@ -2,7 +2,8 @@
 use mathlib.Core.Path.{◌≡◌, refl, sym, ◌∙◌, ap, subst⁻¹}
 use mathlib.Core.List.{List}
 use Prim.Native.Nat.{ℕ}
-use Rattle.rules.specs.Refusals.{Reply, taken, refused}
+use Rattle.rules.specs.declared.Refusal.{Refusal}
+use Rattle.rules.specs.Refusals.{Reply, taken, refused, number}
 use Rattle.interval.specs.declared.Tally.{Tally}
 use Rattle.dullavane.specs.Words.{reply_number}
 use Rattle.dullavane.specs.Called.{Called}
@@ -20,6 +21,11 @@ module _ {S : Type 0} (told : S → ℕ) (after : S → List ℕ → List ℕ) w
     unfolding Called
     was_refused (taken t) e some kept = absurd (some e)
     was_refused (refused refusal) e some kept = record { reply = e; words = refl; kept = kept }
+
+    pub was_unheld : {y : Reply Tally} {x : Refusal} {r : ℕ} → y ≡ refused x → r ≡ number x → Kept → Called told after Call Kept y ws r ws
+    unfolding Called
+    was_unheld {r = r} e told_so kept =
+        subst⁻¹ (λ (z : Reply Tally). Called told after Call Kept z ws r ws) e (record { reply = told_so; words = refl; kept = kept })
 
   -- any two answers that such a promise allows are equal, and with them what else is lent, if those of the call below are
   module _ (Call Call₂ : Tally → S → Type 0) (Kept Kept₂ Same : Type 0) (by_call : (t : Tally) (s s₂ : S) → Call t s → Call₂ t s₂ → (s ≡ s₂) × Same)

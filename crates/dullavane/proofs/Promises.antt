@@ -1,4 +1,6 @@
 -- Laws of the definitions in specs/Promises.antt.
+use Rattle.std.specs.Prelude.{Result, Ok, Err}
+use Rattle.rules.specs.declared.Refusal.{Refusal}
 use mathlib.Core.Path.{◌≡◌, refl, sym, ◌∙◌}
 use mathlib.Core.List.{List}
 use Prim.Native.Nat.{ℕ, ◌≤◌, ◌<◌}
@@ -8,8 +10,6 @@ use Rattle.rules.specs.declared.Refusal.TheVariants.{TooShort}
 use Rattle.rules.specs.Refusals.{Reply, taken, refused, located, at}
 use Rattle.rules.specs.Contents.{Counts, contents}
 use Rattle.interval.specs.declared.Tally.{Tally}
-use Rattle.interval.specs.declared.Opened.{Opened}
-use Rattle.interval.specs.declared.Opened.TheVariants.{Taken, Refused}
 use Rattle.interval.specs.Lent.{Lent}
 use Rattle.interval.specs.Calls.{fresh, opened, left}
 use Rattle.interval.proofs.Promises.{settings_only, frequency_only, unit_only, requirement_only}
@@ -22,15 +22,15 @@ pub dullavane_contents_only : {part ws : List ℕ} {r r₂ : ℕ} {ws' ws₂ : L
 dullavane_contents_only a b = (a.reply ∙ sym b.reply, a.tally ∙ sym b.tally)
 
 -- from the room for a tally, and from what the call of `interval` starts
-abbrev pub opened_reply : Opened → Reply Tally
-opened_reply (Taken t) = taken t
-opened_reply (Refused r) = refused r
+abbrev pub opened_reply : Result Tally Refusal → Reply Tally
+opened_reply (Ok t) = taken t
+opened_reply (Err r) = refused r
 
 module _ (part ws : List ℕ) where
   pub contents_short : length ws < tally_words → {r : ℕ} → r ≡ said (located 0 TooShort) → ContentsCalled part ws r ws
   contents_short short e = let l = lt-leb tally_words (length ws) short in record { reply = e ∙ rw l; tally = rw l }
 
-  pub contents_opened : tally_words ≤ length ws → (opening : Opened) {r : ℕ} {ws' : List ℕ} → opening ≡ opened (contents part) →
+  pub contents_opened : tally_words ≤ length ws → (opening : Result Tally Refusal) {r : ℕ} {ws' : List ℕ} → opening ≡ opened (contents part) →
       r ≡ reply_said (at 0 (opened_reply opening)) → ws' ≡ left with_words (opened_reply opening) ws → ContentsCalled part ws r ws'
   contents_opened long opening e told left_in =
       let l = le-leb tally_words (length ws) long in

@@ -1,5 +1,6 @@
 -- Laws of the definitions in specs/Reports.antt: what is not 0 is 1 where that is all it may be, and that no two answers are allowed.
-use mathlib.Core.Path.{◌≡◌, refl, sym, ◌∙◌, ap}
+use Rattle.std.specs.Prelude.{Result, Ok, Err}
+use mathlib.Core.Path.{◌≡◌, refl, sym, ◌∙◌, ap, subst}
 use mathlib.Core.Bool.{Bool, true, false, ◌&&◌, true≢false}
 use mathlib.Core.List.{List}
 use Prim.Native.Nat.{ℕ, zero, suc, ◌≤◌, ◌<◌}
@@ -24,13 +25,9 @@ use Rattle.interval.specs.declared.Tally.{Tally}
 use Rattle.interval.specs.Tally.{in_range, answer_turn}
 use Rattle.interval.specs.Lent.{Lent}
 use Rattle.kept.specs.KeptReport.{report_reply}
-use Rattle.report_row.specs.declared.RowWritten.{RowWritten}
-use Rattle.report_row.specs.declared.RowRead.{RowRead}
 use Rattle.report_row.specs.Promises.{written_answer, read_answer, WritePromise, ReadPromise}
-use Rattle.answer.specs.declared.ReportFound.{ReportFound}
-use Rattle.answer.specs.declared.ReportFound.TheVariants.{Found, Refused}
 use Rattle.answer.specs.Report.{ReportPromise}
-use Rattle.dullavane.specs.Words.{said, held, tally_of, words_fit, reply_number}
+use Rattle.dullavane.specs.Words.{said, held, tally_of, words_fit}
 use Rattle.dullavane.specs.Asked.{asked_tally, in_turn}
 use Rattle.dullavane.specs.Reports.{
   number_narrow,
@@ -93,7 +90,7 @@ pub narrow_refused : {narrow : Bool} {row : ReportRow} {old : List ℕ} {r : ℕ
 unfolding row_reply
 narrow_refused e told = record { reply = told ∙ rw e; text = rw e }
 
-pub row_was_told : {narrow : Bool} {row : ReportRow} {old new : List ℕ} {a : RowWritten} {r : ℕ} → narrow ≡ true → WritePromise row old a new →
+pub row_was_told : {narrow : Bool} {row : ReportRow} {old new : List ℕ} {a : Result ℕ Refusal} {r : ℕ} → narrow ≡ true → WritePromise row old a new →
     r ≡ row_told a → RowCalled narrow row old r new
 unfolding row_reply
 row_was_told {row = row} {old} e p told =
@@ -101,7 +98,7 @@ row_was_told {row = row} {old} e p told =
 
 -- the row as it is put together from the numbers
 pub row_made : (interval residual number raise_type lower_type version : ℕ) (raise lower : ℤ) {w : Reported} {t u : FigureType} {x y : ℤ} →
-    w ≡ whose_in residual number → x ≡ raise → t ≡ type_in raise_type → y ≡ lower → u ≡ type_in lower_type → {old new : List ℕ} {a : RowWritten} →
+    w ≡ whose_in residual number → x ≡ raise → t ≡ type_in raise_type → y ≡ lower → u ≡ type_in lower_type → {old new : List ℕ} {a : Result ℕ Refusal} →
     WritePromise (record {
       interval = interval;
       whose = w;
@@ -113,19 +110,19 @@ row_made interval residual number raise_type lower_type version raise lower whos
     rw (whose, up, up_type, down, down_type) at p
 
 -- ---- what a call found
-row_in_found : ReportRow → ReportFound → ReportRow
-row_in_found z (Found x) = x
-row_in_found z (Refused x) = z
+row_in_found : ReportRow → Result ReportRow Refusal → ReportRow
+row_in_found z (Ok x) = x
+row_in_found z (Err x) = z
 
-refusal_in : Refusal → ReportFound → Refusal
-refusal_in z (Found x) = z
-refusal_in z (Refused x) = x
+refusal_in : Refusal → Result ReportRow Refusal → Refusal
+refusal_in z (Ok x) = z
+refusal_in z (Err x) = x
 
-is_found : ReportFound → Bool
-is_found (Found x) = true
-is_found (Refused x) = false
+is_found : Result ReportRow Refusal → Bool
+is_found (Ok x) = true
+is_found (Err x) = false
 
-refused_found : {x : Refusal} {y : ReportRow} → Refused x ≡ Found y → ⊥
+refused_found : {x : Refusal} {y : ReportRow} → Err x ≡ Ok y → ⊥
 unfolding is_found
 refused_found e = true≢false (sym (ap is_found e))
 
@@ -153,17 +150,15 @@ abbrev words_of : List ℕ → ℕ → Reply Tally
 words_of ts version = asked_tally ts (ltb version 65_536) true
 
 module _ (ts : List ℕ) (row version : ℕ) (l : Lent) (old : List ℕ) where
-  pub words_refused : {r : ℕ} → r ≡ reply_number (words_of ts version) → (r ≡ 0 → ⊥) → ReportCalled ts row version l old r old
+  pub words_refused : {x : Refusal} {r : ℕ} → words_of ts version ≡ refused x → r ≡ number x → ReportCalled ts row version l old r old
   unfolding book_row report_answer
-  words_refused {r} e some = go (words_of ts version) (asked_plain ts (ltb version 65_536) true) refl e
-    where
-      go : (m : Reply Tally) → Plain m → words_of ts version ≡ m → r ≡ reply_number m → ReportCalled ts row version l old r old
-      go (taken t) p q told = absurd (some told)
-      go (refused x) p q told = record { reply = told ∙ sym p ∙ rw q; text = rw q }
+  words_refused {x} q told =
+      let p : said (located 0 x) ≡ number x = subst Plain q (asked_plain ts (ltb version 65_536) true) in
+      record { reply = told ∙ sym p ∙ rw q; text = rw q }
 
   -- past the words, what the two calls below answer
   module _ {t : Tally} (held : words_of ts version ≡ taken t) where
-    pub row_refused : {x : Refusal} {r : ℕ} → ReportPromise t row version l (Refused x) → r ≡ said (located 0 x) → ReportCalled ts row version l old r old
+    pub row_refused : {x : Refusal} {r : ℕ} → ReportPromise t row version l (Err x) → r ≡ said (located 0 x) → ReportCalled ts row version l old r old
     unfolding book_row report_answer refusal_in
     row_refused {x} {r} p told = go (report_reply t row version l) refl
       where
@@ -173,7 +168,7 @@ module _ (ts : List ℕ) (row version : ℕ) (l : Lent) (old : List ℕ) where
             let same : x ≡ y = ap (refusal_in x) (rw e at p.reply) in
             record { reply = told ∙ ap (λ (z : Refusal). said (located 0 z)) same ∙ rw (held, e); text = rw (held, e) }
 
-    pub row_reported : {x : ReportRow} {a : RowWritten} {r : ℕ} {new : List ℕ} → ReportPromise t row version l (Found x) → WritePromise x old a new →
+    pub row_reported : {x : ReportRow} {a : Result ℕ Refusal} {r : ℕ} {new : List ℕ} → ReportPromise t row version l (Ok x) → WritePromise x old a new →
         r ≡ row_told a → ReportCalled ts row version l old r new
     unfolding book_row report_answer row_in_found
     row_reported {x} {a} {r} {new} p w told = go (report_reply t row version l) refl
@@ -202,13 +197,13 @@ pub read_short : {bytes : List ℕ} {old : List ℤ} {r : ℕ} → length old < 
 unfolding read_reply
 read_short {old = old} h told = record { reply = told ∙ rw (lt-leb 8 (length old) h); numbers = rw (lt-leb 8 (length old) h) }
 
-pub row_was_read : {bytes : List ℕ} {old new : List ℤ} {a : RowRead} {r : ℕ} → 8 ≤ length old → ReadPromise bytes a → r ≡ read_told a →
+pub row_was_read : {bytes : List ℕ} {old new : List ℤ} {a : Result ReportRow Refusal} {r : ℕ} → 8 ≤ length old → ReadPromise bytes a → r ≡ read_told a →
     new ≡ numbers_after a old → ReadCalled bytes old r new
 unfolding read_reply
 row_was_read {bytes} {old} h p told left =
     record {
       reply = told ∙ ap read_told p.reply ∙ read_told_so (row_read bytes) ∙ rw (le-leb 8 (length old) h);
-      numbers = left ∙ ap (λ (x : RowRead). numbers_after x old) p.reply ∙ numbers_so (row_read bytes) old ∙ rw (le-leb 8 (length old) h);
+      numbers = left ∙ ap (λ (x : Result ReportRow Refusal). numbers_after x old) p.reply ∙ numbers_so (row_read bytes) old ∙ rw (le-leb 8 (length old) h);
     }
 
 -- no two answers are allowed

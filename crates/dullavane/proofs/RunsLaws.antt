@@ -1,14 +1,15 @@
 -- Laws of the definitions in specs/Runs.antt.
-use mathlib.Core.Path.{◌≡◌, refl, sym, ◌∙◌, ap}
+use mathlib.Core.Path.{◌≡◌, sym, ◌∙◌, ap}
 use mathlib.Core.List.{List}
 use Prim.Native.Nat.{ℕ, ◌+◌}
 use native.Mathlib.Omega.{arith}
-use Rattle.rules.specs.Refusals.{Reply, taken, refused}
+use Rattle.rules.specs.declared.Refusal.{Refusal}
+use Rattle.rules.specs.Refusals.{taken, refused, number}
 use Rattle.interval.specs.declared.Tally.{Tally}
 use Rattle.interval.specs.declared.Step.{Step}
 use Rattle.interval.specs.Lent.{Lent}
 use Rattle.interval.specs.Run.{in_run, RunPromise}
-use Rattle.dullavane.specs.Words.{held, reply_number, said, told, with_words}
+use Rattle.dullavane.specs.Words.{held, said, told, with_words}
 use Rattle.dullavane.specs.Runs.{UnitsCalled, unheld_told}
 use Rattle.dullavane.proofs.WordsLaws.{unheld_said}
 
@@ -29,11 +30,7 @@ module _ {ws run : List ℕ} {l : Lent} where
       }
 
   pub units_unheld :
-      {first r : ℕ} → first ≡ reply_number (held ws) → (first ≡ 0 → ⊥) → r ≡ unheld_told run (first + 0x1_0000_0000) → UnitsCalled ws run l r ws l
-  units_unheld {first} {r} e some told_so = go (held ws) refl (sym e)
-    where
-      go : (y : Reply Tally) → held ws ≡ y → reply_number y ≡ first → UnitsCalled ws run l r ws l
-      go (taken t) h n = absurd (some (sym n))
-      go (refused x) h n =
-          let same : first + 0x1_0000_0000 ≡ said (in_run 1 x) = omega (arith, n, unheld_said ws x h) in
-          record { reply = rw h (told_so ∙ ap (unheld_told run) same); tally = rw h; lent = rw h }
+      {x : Refusal} {first r : ℕ} → held ws ≡ refused x → first ≡ number x → r ≡ unheld_told run (first + 0x1_0000_0000) → UnitsCalled ws run l r ws l
+  units_unheld {x} {first} h n told_so =
+      let same : first + 0x1_0000_0000 ≡ said (in_run 1 x) = omega (arith, n, unheld_said ws x h) in
+      record { reply = rw h (told_so ∙ ap (unheld_told run) same); tally = rw h; lent = rw h }

@@ -1,13 +1,15 @@
 -- Laws of the definitions in specs/Weekly.antt.
+use Rattle.std.specs.Prelude.{Result, Ok, Err, ⊤}
+use Rattle.rules.specs.declared.Refusal.{Refusal}
 use mathlib.Core.Path.{◌≡◌, refl, sym, ◌∙◌, ap}
 use mathlib.Core.Bool.{Bool, true, false}
 use mathlib.Core.List.{List, [], ◌∷◌}
 use Prim.Native.Nat.{ℕ, zero, suc, ◌+◌, ◌*◌, ◌/◌, ◌%◌, ◌≤◌, ◌<◌}
 use native.Mathlib.Omega.{arith}
-use lib.Dec.{leb, ltb}
+use lib.Dec.{leb}
 use lib.IntN.{ℤ}
 use lib.ListN.{length, get_or, set, drop}
-use borrow.Author.Tests.{leb-true, leb-false, ltb-true, ltb-false, le-leb, lt-leb, lt-ltb, le-ltb}
+use borrow.Author.Tests.{leb-true, leb-false, le-leb, lt-leb, lt-ltb, le-ltb}
 use Rattle.integers.proofs.Division.{remains}
 use Rattle.rules.specs.declared.Refusal.TheVariants.{WrongState, TooShort}
 use Rattle.rules.specs.declared.RunningWeek.{RunningWeek}
@@ -18,10 +20,6 @@ use Rattle.rules.specs.Week.{interval, list_reply}
 use Rattle.rules.specs.RunningWeek.{add_reply, read_reply}
 use Rattle.rules.specs.WeekRoster.{whose_of}
 use Rattle.interval.specs.Calls.{left}
-use Rattle.weeks.specs.declared.Added.{Added}
-use Rattle.weeks.specs.declared.Told.{Told}
-use Rattle.weeks.specs.declared.Written.{Written}
-use Rattle.weeks.specs.declared.Written.TheVariants as written
 use Rattle.weeks.specs.Runs.{units_of}
 use Rattle.weeks.proofs.Runs.{added_as_group}
 use Rattle.weeks.specs.Promises.{told_of, added_of, written_of, reply_to, RosterPromise, WeekPromise, AddPromise, ReadPromise}
@@ -67,9 +65,9 @@ pub dullavane_week_read_only :
     {m : ℕ} {ws : List ℕ} {xs : List ℤ} {r r₂ : ℕ} {xs' xs₂ : List ℤ} → WeekReadCalled m ws xs r xs' → WeekReadCalled m ws xs r₂ xs₂ → (r ≡ r₂) × (xs' ≡ xs₂)
 dullavane_week_read_only a b = (a.reply ∙ sym b.reply, a.numbers ∙ sym b.numbers)
 
-abbrev pub written_number : Written → ℕ
-written_number written.Done = 0
-written_number (written.Refused r) = number r
+abbrev pub written_number : Result ⊤ Refusal → ℕ
+written_number (Ok tt) = 0
+written_number (Err r) = number r
 
 written_is : {A : Type 0} (y : Reply A) → written_number (written_of y) ≡ reply_number y
 written_is (taken a) = refl
@@ -96,21 +94,16 @@ unfolding week_held
 week_there ws h l =
     record { long = h; narrow = l; week = rw (le-leb week_words (length ws) h, lt-ltb (get_or ws 1 0) 281_474_976_710_656 l) }
 
--- known by the number of their refusal
-pub week_held_means : (ws : List ℕ) {r : ℕ} → r ≡ reply_number (week_held ws) → r ≡ 0 → WeekHeld ws
-week_held_means ws e none = go (leb week_words (length ws)) refl (ltb (get_or ws 1 0) 281_474_976_710_656) refl
+-- no fewer words hold one
+pub week_long : (ws : List ℕ) {w : RunningWeek} → week_held ws ≡ taken w → week_words ≤ length ws
+week_long ws {w} e = go (leb week_words (length ws)) refl
   where
-    twelve : ◌≡◌ {A = ℕ} 12 0 → WeekHeld ws
-    twelve e = absurd (omega arith)
-
-    eleven : ◌≡◌ {A = ℕ} 11 0 → WeekHeld ws
-    eleven e = absurd (omega arith)
-
-    go : (x : Bool) → leb week_words (length ws) ≡ x → (y : Bool) → ltb (get_or ws 1 0) 281_474_976_710_656 ≡ y → WeekHeld ws
-    go true l true n = week_there ws (leb-true week_words (length ws) l) (ltb-true (get_or ws 1 0) 281_474_976_710_656 n)
-    go true l false n = eleven (sym (ap reply_number (week_wide ws (leb-true week_words (length ws) l) (ltb-false (get_or ws 1 0) 281_474_976_710_656 n)))
-        ∙ sym e ∙ none)
-    go false l y n = twelve (sym (ap reply_number (week_short ws (leb-false week_words (length ws) l))) ∙ sym e ∙ none)
+    go : (x : Bool) → leb week_words (length ws) ≡ x → week_words ≤ length ws
+    go true l = leb-true week_words (length ws) l
+    go false l =
+        let f : ◌≡◌ {A = Reply RunningWeek} (refused TooShort) (taken w) = sym (week_short ws (leb-false week_words (length ws) l)) ∙ e in
+        let z : ◌≡◌ {A = ℕ} 12 0 = ap reply_number f in
+        absurd (omega arith)
 
 -- what an added interval leaves in the words is the running week that the next call reads there
 pub week_kept : (r : RunningWeek) (ws : List ℕ) → r.seen < 65_536 → r.live < 65_536 → r.high < 65_536 → week_held (with_week r ws) ≡ taken r
@@ -143,16 +136,16 @@ module _ (m : ℕ) (ps : List ℤ) (bits : List ℕ) (xs : List ℤ) where
   week_no_room h e = let l = lt-leb default_numbers (length xs) h in record { reply = e ∙ rw l; numbers = rw l }
 
   pub week_told :
-      default_numbers ≤ length xs → (t : Told) → WeekPromise (whose_of m) ps bits t → {r : ℕ} {xs' : List ℤ} → r ≡ told_number t → xs' ≡ default_after t xs →
+      default_numbers ≤ length xs → (t : Result WeekDefault Refusal) → WeekPromise (whose_of m) ps bits t → {r : ℕ} {xs' : List ℤ} → r ≡ told_number t → xs' ≡ default_after t xs →
       WeekCalled m ps bits xs r xs'
   week_told h t p e f =
       let l = le-leb default_numbers (length xs) h in
       let k = told_is (list_reply (whose_of m) ps bits) xs in
-      record { reply = e ∙ rw l (ap told_number p.reply ∙ k.0); numbers = f ∙ rw l (ap (λ (t : Told). default_after t xs) p.reply ∙ k.1) }
+      record { reply = e ∙ rw l (ap told_number p.reply ∙ k.0); numbers = f ∙ rw l (ap (λ (t : Result WeekDefault Refusal). default_after t xs) p.reply ∙ k.1) }
 
 module _ (n : ℕ) (ms : List ℕ) (ps : List ℤ) (bits counts : List ℕ) (defaults : List ℤ) where
   pub weeks_told :
-      (t : Written) {counts' : List ℕ} {defaults' : List ℤ} → RosterPromise n ms ps bits counts defaults t counts' defaults' → {r : ℕ} →
+      (t : Result ⊤ Refusal) {counts' : List ℕ} {defaults' : List ℤ} → RosterPromise n ms ps bits counts defaults t counts' defaults' → {r : ℕ} →
       r ≡ written_number t → WeeksCalled n ms ps bits counts defaults r counts' defaults'
   weeks_told t p e = record {
     reply = e ∙ ap written_number p.reply ∙ written_is
@@ -162,40 +155,29 @@ module _ (n : ℕ) (ms : List ℕ) (ps : List ℤ) (bits counts : List ℕ) (def
   }
 
 module _ (m live : ℕ) (p : ℤ) (ws : List ℕ) where
-  pub add_unheld : (reply_number (week_held ws) ≡ 0 → ⊥) → {r : ℕ} → r ≡ reply_number (week_held ws) → WeekAddCalled m live p ws r ws
-  add_unheld some {r} e = go (week_held ws) refl some
-    where
-      go : (y : Reply RunningWeek) → week_held ws ≡ y → (reply_number y ≡ 0 → ⊥) → WeekAddCalled m live p ws r ws
-      go (taken w) f some = absurd (some refl)
-      go (refused why) f some = record { reply = e ∙ rw f; words = rw f }
+  pub add_unheld : {x : Refusal} {r : ℕ} → week_held ws ≡ refused x → r ≡ number x → WeekAddCalled m live p ws r ws
+  add_unheld h e = record { reply = e ∙ rw h; words = rw h }
 
   pub add_told :
-      (w : RunningWeek) → week_held ws ≡ taken w → (t : Added) →
+      (w : RunningWeek) → week_held ws ≡ taken w → (t : Result RunningWeek Refusal) →
       AddPromise (Group (units_of (whose_of m))) (flag live) p w t → {r : ℕ} {ws' : List ℕ} → r ≡ added_number t →
       ws' ≡ week_after t ws → WeekAddCalled m live p ws r ws'
   add_told w h t q e f =
       let k = added_is (add_reply (whose_of m) (interval (flag live) p) w) ws in
       let same : t ≡ added_of (add_reply (whose_of m) (interval (flag live) p) w) =
       q.reply ∙ ap added_of (added_as_group (whose_of m) (interval (flag live) p) w) in
-      record { reply = e ∙ rw h (ap added_number same ∙ k.0); words = f ∙ rw h (ap (λ (t : Added). week_after t ws) same ∙ k.1) }
+      record { reply = e ∙ rw h (ap added_number same ∙ k.0); words = f ∙ rw h (ap (λ (t : Result RunningWeek Refusal). week_after t ws) same ∙ k.1) }
 
 module _ (m : ℕ) (ws : List ℕ) (xs : List ℤ) where
   pub read_no_room : length xs < default_numbers → {r : ℕ} → r ≡ 12 → WeekReadCalled m ws xs r xs
   read_no_room h e = let l = lt-leb default_numbers (length xs) h in record { reply = e ∙ rw l; numbers = rw l }
 
   pub read_unheld :
-      default_numbers ≤ length xs → (reply_number (week_held ws) ≡ 0 → ⊥) → {r : ℕ} → r ≡ reply_number (week_held ws) → WeekReadCalled m ws xs r xs
-  read_unheld h some {r} e = go (week_held ws) refl some
-    where
-      l : leb default_numbers (length xs) ≡ true
-      l = le-leb default_numbers (length xs) h
-
-      go : (y : Reply RunningWeek) → week_held ws ≡ y → (reply_number y ≡ 0 → ⊥) → WeekReadCalled m ws xs r xs
-      go (taken w) f some = absurd (some refl)
-      go (refused why) f some = record { reply = e ∙ rw (l, f); numbers = rw (l, f) }
+      default_numbers ≤ length xs → {x : Refusal} {r : ℕ} → week_held ws ≡ refused x → r ≡ number x → WeekReadCalled m ws xs r xs
+  read_unheld h f e = let l = le-leb default_numbers (length xs) h in record { reply = e ∙ rw (l, f); numbers = rw (l, f) }
 
   pub read_told :
-      default_numbers ≤ length xs → (w : RunningWeek) → week_held ws ≡ taken w → (t : Told) → ReadPromise (whose_of m) w t → {r : ℕ} {xs' : List ℤ} →
+      default_numbers ≤ length xs → (w : RunningWeek) → week_held ws ≡ taken w → (t : Result WeekDefault Refusal) → ReadPromise (whose_of m) w t → {r : ℕ} {xs' : List ℤ} →
       r ≡ told_number t → xs' ≡ default_after t xs → WeekReadCalled m ws xs r xs'
   read_told h w held t q e f =
       let l = le-leb default_numbers (length xs) h in
@@ -203,5 +185,5 @@ module _ (m : ℕ) (ws : List ℕ) (xs : List ℤ) where
       record {
         reply = e ∙ rw (l, held) (ap told_number q.reply ∙ k.0);
         numbers = f ∙ rw (l, held)
-            (ap (λ (t : Told). default_after t xs) q.reply ∙ k.1);
+            (ap (λ (t : Result WeekDefault Refusal). default_after t xs) q.reply ∙ k.1);
       }

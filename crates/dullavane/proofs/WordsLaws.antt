@@ -1,4 +1,5 @@
 -- Laws of the definitions in specs/Words.antt.
+use Rattle.std.specs.Prelude.{Result, Ok, Err}
 use mathlib.Core.Path.{◌≡◌, refl, sym, ◌∙◌, ap, subst}
 use mathlib.Core.Bool.{Bool, true, false}
 use mathlib.Core.List.{List, [], ◌∷◌}
@@ -11,10 +12,10 @@ use Rattle.integers.specs.Sums.{both}
 use Rattle.rules.specs.declared.Refusal.TheVariants.{WrongState, TooShort}
 use Rattle.rules.specs.declared.Refusal.{Refusal}
 use Rattle.rules.specs.declared.Located.{Located}
-use Rattle.rules.specs.Refusals.{taken, refused, number, point, located, unless}
+use Rattle.rules.specs.Refusals.{Reply, taken, refused, number, point, located, unless}
 use Rattle.laws.proofs.RefusalLaws.{tellable}
 use Rattle.interval.specs.declared.Tally.{Tally}
-use Rattle.dullavane.specs.Words.{Held, Narrow, held, reply_number, said, tally_of, tally_words, with_words, words_fit}
+use Rattle.dullavane.specs.Words.{Held, Narrow, handed, held, reply_number, said, tally_of, tally_words, with_words, words_fit}
 
 pub narrowed : (ws : List ℕ) → words_fit ws ≡ true → Narrow ws
 unfolding words_fit
@@ -53,6 +54,18 @@ unfolding held
 held_by ws {x} l n =
     ap (λ (b : Bool). unless b TooShort (unless (words_fit ws) WrongState (taken (tally_of ws)))) l
     ∙ ap (λ (b : Bool). unless x TooShort (unless b WrongState (taken (tally_of ws)))) n
+
+-- a reply, by what was handed on of it
+abbrev pub handed_back : {A : Type 0} → Result A Refusal → Reply A
+handed_back (Ok a) = taken a
+handed_back (Err r) = refused r
+
+back : {A : Type 0} (y : Reply A) → handed_back (handed y) ≡ y
+back (taken a) = refl
+back (refused r) = refl
+
+pub was_handed : {A : Type 0} (y : Reply A) {x z : Result A Refusal} → x ≡ handed y → x ≡ z → y ≡ handed_back z
+was_handed y e o = sym (back y) ∙ ap handed_back (sym e ∙ o)
 
 -- known by the number of their refusal
 pub held_means : (ws : List ℕ) {r : ℕ} → r ≡ reply_number (held ws) → r ≡ 0 → Held ws

@@ -1,10 +1,9 @@
 -- The answer to a requirement, over words: its figures in eight of them, its members' numbers in the columns.
-use Rattle.std.specs.Prelude.{◌≡◌, true, List, [], ◌∷◌, ◌++◌, ℕ, leb, length, drop}
+use Rattle.rules.specs.declared.Refusal.{Refusal}
+use Rattle.std.specs.Prelude.{◌≡◌, true, List, [], ◌∷◌, ◌++◌, ℕ, leb, length, drop, Result, Ok, Err}
 use Rattle.rules.specs.Refusals.{number}
 use Rattle.interval.specs.Lent.{Lent}
 use Rattle.answer.specs.declared.Answer.{Answer}
-use Rattle.answer.specs.declared.Answered.{Answered}
-use Rattle.answer.specs.declared.Answered.TheVariants.{Given, Refused}
 use Rattle.answer.specs.Promises.{Columns, AnswerPromise}
 use Rattle.dullavane.specs.Called.{Called}
 use Rattle.dullavane.specs.Asked.{asked_tally, standing_number}
@@ -20,13 +19,13 @@ figures_of a =
 abbrev pub with_answer : Answer → List ℕ → List ℕ
 with_answer a ws = figures_of a ++ drop reply_words ws
 
-abbrev pub answered_number : Answered → ℕ
-answered_number (Given a) = 0
-answered_number (Refused r) = number r
+abbrev pub answered_number : Result Answer Refusal → ℕ
+answered_number (Ok a) = 0
+answered_number (Err r) = number r
 
-abbrev pub answered_after : Answered → List ℕ → List ℕ
-answered_after (Given a) ws = with_answer a ws
-answered_after (Refused r) ws = ws
+abbrev pub answered_after : Result Answer Refusal → List ℕ → List ℕ
+answered_after (Ok a) ws = with_answer a ws
+answered_after (Err r) ws = ws
 
 pub record AnswerCalled (ts part : List ℕ) (l : Lent) (old : Columns) (ws : List ℕ) (r : ℕ) (new : Columns) (ws' : List ℕ) : Type 0 where
   pub answer :

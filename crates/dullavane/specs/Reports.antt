@@ -1,5 +1,6 @@
 -- The calls for the performance report (02, R-11): a row from its numbers, a row of a taken book, and a row read back into eight numbers.
-use Rattle.std.specs.Prelude.{◌≡◌, Bool, true, ◌&&◌, List, [], ◌∷◌, ◌++◌, ℕ, zero, suc, ◌*◌, leb, ltb, ℤ, pos, length, drop}
+use Rattle.rules.specs.declared.Refusal.{Refusal}
+use Rattle.std.specs.Prelude.{◌≡◌, Bool, true, ◌&&◌, List, [], ◌∷◌, ◌++◌, ℕ, zero, suc, ◌*◌, leb, ltb, ℤ, pos, length, drop, Result, Ok, Err}
 use Rattle.rules.specs.declared.Refusal.TheVariants.{WrongState, TooShort}
 use Rattle.rules.specs.declared.RegionName.{RegionName}
 use Rattle.rules.specs.declared.RegionName.TheVariants.{Qld1, Nsw1, Vic1, Sa1, Tas1}
@@ -15,10 +16,6 @@ use Rattle.rules.specs.ReportRow.{row_written, text_after}
 use Rattle.rules.specs.ReportRead.{row_read}
 use Rattle.interval.specs.Lent.{Lent}
 use Rattle.kept.specs.KeptReport.{report_reply}
-use Rattle.report_row.specs.declared.RowWritten.{RowWritten}
-use Rattle.report_row.specs.declared.RowWritten.TheVariants as w
-use Rattle.report_row.specs.declared.RowRead.{RowRead}
-use Rattle.report_row.specs.declared.RowRead.TheVariants as r
 use Rattle.dullavane.specs.Words.{said}
 use Rattle.dullavane.specs.Asked.{asked_tally}
 
@@ -120,14 +117,14 @@ pub record ReadCalled (bytes : List ℕ) (old : List ℤ) (r : ℕ) (new : List 
   pub numbers : new ≡ numbers_left (read_reply bytes (length old)) old
 
 -- ---- what is told of the answers of `report_row`
-abbrev pub row_told : RowWritten → ℕ
-row_told (w.Length n) = n * 0x1_0000_0000
-row_told (w.Refused x) = said (located 0 x)
+abbrev pub row_told : Result ℕ Refusal → ℕ
+row_told (Ok n) = n * 0x1_0000_0000
+row_told (Err x) = said (located 0 x)
 
-abbrev pub read_told : RowRead → ℕ
-read_told (r.Read row) = 0
-read_told (r.Refused x) = said (located 0 x)
+abbrev pub read_told : Result ReportRow Refusal → ℕ
+read_told (Ok row) = 0
+read_told (Err x) = said (located 0 x)
 
-abbrev pub numbers_after : RowRead → List ℤ → List ℤ
-numbers_after (r.Read row) xs = with_numbers row xs
-numbers_after (r.Refused x) xs = xs
+abbrev pub numbers_after : Result ReportRow Refusal → List ℤ → List ℤ
+numbers_after (Ok row) xs = with_numbers row xs
+numbers_after (Err x) xs = xs

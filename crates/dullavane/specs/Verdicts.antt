@@ -1,5 +1,6 @@
 -- The call that judges a factor sheet (02, R-12): its verdict stands in two words.
-use Rattle.std.specs.Prelude.{◌≡◌, List, ◌∷◌, ℕ, leb, ℤ, length, drop}
+use Rattle.rules.specs.declared.Refusal.{Refusal}
+use Rattle.std.specs.Prelude.{◌≡◌, List, ◌∷◌, ℕ, leb, ℤ, length, drop, Result, Ok, Err}
 use Rattle.rules.specs.declared.Refusal.TheVariants.{TooShort}
 use Rattle.rules.specs.declared.Side.TheVariants.{Positive, Negative}
 use Rattle.rules.specs.declared.Verdict.{Verdict}
@@ -7,8 +8,6 @@ use Rattle.rules.specs.declared.Verdict.TheVariants.{Possible, WrongMember, Wron
 use Rattle.rules.specs.Refusals.{Reply, unless, number}
 use Rattle.rules.specs.Sheet.{sheet_reply}
 use Rattle.interval.specs.Calls.{left}
-use Rattle.sheets.specs.declared.Told.{Told}
-use Rattle.sheets.specs.declared.Told.TheVariants as told
 use Rattle.dullavane.specs.Words.{reply_number}
 
 -- what is wrong, as a number: nothing, a member, the positive side, the negative side
@@ -40,10 +39,10 @@ pub record SheetCalled (ps fs : List ℤ) (ws : List ℕ) (r : ℕ) (ws' : List 
   pub words : ws' ≡ left with_verdict (sheet_answer ps fs ws) ws
 
 -- ---- what is told of the answer of `sheets`
-abbrev pub told_number : Told → ℕ
-told_number (told.Is v) = 0
-told_number (told.Refused r) = number r
+abbrev pub told_number : Result Verdict Refusal → ℕ
+told_number (Ok v) = 0
+told_number (Err r) = number r
 
-abbrev pub verdict_after : Told → List ℕ → List ℕ
-verdict_after (told.Is v) ws = with_verdict v ws
-verdict_after (told.Refused r) ws = ws
+abbrev pub verdict_after : Result Verdict Refusal → List ℕ → List ℕ
+verdict_after (Ok v) ws = with_verdict v ws
+verdict_after (Err r) ws = ws

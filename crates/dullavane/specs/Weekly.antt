@@ -1,5 +1,6 @@
 -- The calls for defaults from seven days of record (02, R-7): a running week stands in two words, a week's count and default in two numbers.
-use Rattle.std.specs.Prelude.{◌≡◌, Bool, not, List, ◌∷◌, ℕ, ◌+◌, ◌*◌, ◌/◌, ◌%◌, ◌≤◌, ◌<◌, leb, ltb, eqb, ℤ, pos, length, get_or, drop}
+use Rattle.rules.specs.declared.Refusal.{Refusal}
+use Rattle.std.specs.Prelude.{◌≡◌, Bool, not, List, ◌∷◌, ℕ, ◌+◌, ◌*◌, ◌/◌, ◌%◌, ◌≤◌, ◌<◌, leb, ltb, eqb, ℤ, pos, length, get_or, drop, Result, Ok, Err}
 use Rattle.rules.specs.declared.Refusal.TheVariants.{WrongState, TooShort}
 use Rattle.rules.specs.declared.RunningWeek.{RunningWeek}
 use Rattle.rules.specs.declared.WeekDefault.{WeekDefault}
@@ -8,10 +9,6 @@ use Rattle.rules.specs.Week.{interval, list_reply}
 use Rattle.rules.specs.RunningWeek.{add_reply, read_reply}
 use Rattle.rules.specs.WeekRoster.{whose_of, counts_after, defaults_after}
 use Rattle.interval.specs.Calls.{left}
-use Rattle.weeks.specs.declared.Added.{Added}
-use Rattle.weeks.specs.declared.Added.TheVariants as added
-use Rattle.weeks.specs.declared.Told.{Told}
-use Rattle.weeks.specs.declared.Told.TheVariants as told
 use Rattle.weeks.specs.Promises.{where_taken, reply_to}
 use Rattle.dullavane.specs.Words.{reply_number}
 
@@ -78,21 +75,21 @@ pub record WeekReadCalled (m : ℕ) (ws : List ℕ) (xs : List ℤ) (r : ℕ) (x
   pub numbers : xs' ≡ left with_default (read_answer m ws xs) xs
 
 -- ---- what is told of the answers of `weeks`
-abbrev pub told_number : Told → ℕ
-told_number (told.Is d) = 0
-told_number (told.Refused r) = number r
+abbrev pub told_number : Result WeekDefault Refusal → ℕ
+told_number (Ok d) = 0
+told_number (Err r) = number r
 
-abbrev pub default_after : Told → List ℤ → List ℤ
-default_after (told.Is d) xs = with_default d xs
-default_after (told.Refused r) xs = xs
+abbrev pub default_after : Result WeekDefault Refusal → List ℤ → List ℤ
+default_after (Ok d) xs = with_default d xs
+default_after (Err r) xs = xs
 
-abbrev pub added_number : Added → ℕ
-added_number (added.Next w) = 0
-added_number (added.Refused r) = number r
+abbrev pub added_number : Result RunningWeek Refusal → ℕ
+added_number (Ok w) = 0
+added_number (Err r) = number r
 
-abbrev pub week_after : Added → List ℕ → List ℕ
-week_after (added.Next w) ws = with_week w ws
-week_after (added.Refused r) ws = ws
+abbrev pub week_after : Result RunningWeek Refusal → List ℕ → List ℕ
+week_after (Ok w) ws = with_week w ws
+week_after (Err r) ws = ws
 
 -- words that hold a running week
 pub record WeekHeld (ws : List ℕ) : Type 0 where

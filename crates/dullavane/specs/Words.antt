@@ -1,12 +1,12 @@
 -- The tally as the firmware holds it: eight words, in the order of its fields. A word over its field's width is a tally out of range (01, Numbers the box
 -- can say no with); without eight words there is no tally to judge, so 12 is told first.
-use Rattle.std.specs.Prelude.{◌≡◌, Bool, ◌&&◌, List, [], ◌∷◌, ◌++◌, ℕ, ◌+◌, ◌*◌, ◌≤◌, ◌<◌, leb, ltb, length, get_or, drop}
+use Rattle.std.specs.Prelude.{◌≡◌, Bool, ◌&&◌, List, [], ◌∷◌, ◌++◌, ℕ, ◌+◌, ◌*◌, ◌≤◌, ◌<◌, leb, ltb, length, get_or, drop, Result, Ok, Err, ⊤}
+use Rattle.rules.specs.declared.Refusal.{Refusal}
 use Rattle.rules.specs.declared.Refusal.TheVariants.{WrongState, TooShort}
 use Rattle.rules.specs.declared.Located.{Located}
 use Rattle.rules.specs.Refusals.{Reply, LocatedReply, taken, refused, unless, number, point}
 use Rattle.interval.specs.declared.Tally.{Tally}
 use Rattle.interval.specs.declared.Step.{Step}
-use Rattle.interval.specs.declared.Taking as k
 
 -- how many words a tally takes
 abbrev pub tally_words : ℕ
@@ -47,6 +47,11 @@ words_fit ws =
 unfoldable pub held : List ℕ → Reply Tally
 held ws = unless (leb tally_words (length ws)) TooShort (unless (words_fit ws) WrongState (taken (tally_of ws)))
 
+-- a reply as functions hand it on
+abbrev pub handed : {A : Type 0} → Reply A → Result A Refusal
+handed (taken a) = Ok a
+handed (refused r) = Err r
+
 -- 0, or the refusal's number
 abbrev pub reply_number : {A : Type 0} → Reply A → ℕ
 reply_number (taken a) = 0
@@ -62,16 +67,16 @@ reply_said (taken a) = 0
 reply_said (refused r) = said r
 
 -- ---- after a step: 0 or the refusal, and the next tally's words or the words as they came
-abbrev pub taking_said : k.Taking → ℕ
-taking_said k.TheVariants.Taken = 0
-taking_said (k.TheVariants.Refused r) = said r
+abbrev pub taking_said : Result ⊤ Located → ℕ
+taking_said (Ok tt) = 0
+taking_said (Err r) = said r
 
 abbrev pub told : Step → ℕ
 told s = taking_said s.taking
 
-abbrev pub words_left : k.Taking → Tally → List ℕ → List ℕ
-words_left k.TheVariants.Taken t ws = with_words t ws
-words_left (k.TheVariants.Refused r) t ws = ws
+abbrev pub words_left : Result ⊤ Located → Tally → List ℕ → List ℕ
+words_left (Ok tt) t ws = with_words t ws
+words_left (Err r) t ws = ws
 
 abbrev pub words_after : Step → List ℕ → List ℕ
 words_after s ws = words_left s.taking s.tally ws

@@ -1,10 +1,9 @@
 -- The call that writes a book (02, R-4): what is told of it, in one number of 64 bits, and what it leaves in the buffer.
-use Rattle.std.specs.Prelude.{◌≡◌, List, ℕ, ◌*◌, ℤ, length}
+use Rattle.rules.specs.declared.Located.{Located}
+use Rattle.std.specs.Prelude.{◌≡◌, List, ℕ, ◌*◌, ℤ, length, Result, Ok, Err}
 use Rattle.rules.specs.Refusals.{LocatedReply, taken, refused}
 use Rattle.rules.specs.Given.{Given}
 use Rattle.rules.specs.Written.{written}
-use Rattle.writer.specs.declared.Written.{Written}
-use Rattle.writer.specs.declared.Written.TheVariants as w
 use Rattle.writer.specs.Values.{values}
 use Rattle.writer.specs.Promise.{write_kept}
 use Rattle.dullavane.specs.Words.{said}
@@ -23,6 +22,6 @@ pub record WriteCalled (g : Given) (old : List ℕ) (r : ℕ) (new : List ℕ) :
   pub book : new ≡ write_kept (written g (length old)) old
 
 -- what is told of the writer's answer
-abbrev pub answer_told : Written → ℕ
-answer_told (w.Length n) = n * 0x1_0000_0000
-answer_told (w.Refused r) = said r
+abbrev pub answer_told : Result ℕ Located → ℕ
+answer_told (Ok n) = n * 0x1_0000_0000
+answer_told (Err r) = said r

@@ -1,42 +1,50 @@
 // What can be asked once every unit is in, and how the answer stands in lent words.
 ghost use Rattle.std.specs.Prelude.{◌≡◌, ◌&&◌, ◌≤◌, length};
-ghost use Rattle.dullavane.specs.Words.{held, reply_number};
+ghost use Rattle.dullavane.specs.Words.{held, handed, reply_number};
 ghost use Rattle.dullavane.specs.Asked.{asked_tally, held_or_none, asked_narrow, direction_of, standing_number, with_row, row_number, row_after};
 ghost use Rattle.dullavane.specs.Answers.{with_answer, answered_number, answered_after};
 
-use super::words::{OVER_8_BITS, OVER_16_BITS, tally_in, words_refusal};
-use answer::{Answer, Answered, Row};
+use super::words::{OVER_8_BITS, OVER_16_BITS, held};
+use answer::{Answer, Row};
 use interval::Tally;
 use interval::turns::answer_turn;
 use rules::{Direction, Reason, Refusal, Standing, refusal_number};
 
-// 0 where words hold a tally with every unit in and the answer can be given, else why not: 12 and 11 for the words, 11 out of turn, 11 where
-// a number that it is asked by is over its width, then 12 where the words for the answer are too few.
+// The tally that words hold, with every unit in and room for the answer, or why there is none to ask: 12 and 11 for the words, 11 out of turn,
+// 11 where a number that it is asked by is over its width, then 12 where the words for the answer are too few.
+pub(crate) fn asked(words: &[u32], narrow: bool, long: bool) -> Result<Tally, Refusal>
+    ensures { result ≡ handed (asked_tally words.now narrow long) }
+{
+    let tally = held(words)?;
+    if !answer_turn(tally) {
+        return Err(Refusal::WrongState);
+    }
+    if !narrow {
+        return Err(Refusal::WrongState);
+    }
+    if !long {
+        return Err(Refusal::TooShort);
+    }
+    Ok(tally)
+}
+
+// 0 where words hold a tally that can be asked, else the number of why not, for calls of other crates.
 pub fn asked_refusal(words: &[u32], narrow: bool, long: bool) -> u32
     ensures { result ≡ reply_number (asked_tally words.now narrow long) }
 {
-    let refusal = words_refusal(words);
-    if refusal != 0 {
-        return refusal;
+    match asked(words, narrow, long) {
+        Ok(_) => 0,
+        Err(refusal) => refusal_number(refusal),
     }
-    if !answer_turn(tally_in(words)) {
-        return refusal_number(Refusal::WrongState);
-    }
-    if !narrow {
-        return refusal_number(Refusal::WrongState);
-    }
-    if !long {
-        return refusal_number(Refusal::TooShort);
-    }
-    0
 }
 
 // The tally that words hold, for calls of other crates; all zeros where they hold none.
 pub fn tally_held(words: &[u32]) -> Tally
     ensures { result ≡ held_or_none (held words.now) }
 {
-    if words_refusal(words) != 0 {
-        return Tally {
+    match held(words) {
+        Ok(tally) => tally,
+        Err(_) => Tally {
             units: 0,
             requirements: 0,
             records: 0,
@@ -45,9 +53,8 @@ pub fn tally_held(words: &[u32]) -> Tally
             limit: 0,
             percent: 0,
             interval: 0,
-        };
+        },
     }
-    tally_in(words)
 }
 
 // Is each number that a row is asked by within its width? A direction is 0 or 1.
@@ -134,15 +141,15 @@ fn put_answer(given: Answer, reply: &mut [u64])
 }
 
 // The number of an answer, with its figures in the words.
-pub(crate) fn tell_answer(answered: Answered, reply: &mut [u64]) -> u32
+pub(crate) fn tell_answer(answered: Result<Answer, Refusal>, reply: &mut [u64]) -> u32
     requires { 8 ≤ length reply.old }
     ensures { (result ≡ answered_number answered) × (reply.new ≡ answered_after answered reply.old) }
 {
     match answered {
-        Answered::Given(given) => {
+        Ok(given) => {
             put_answer(given, reply);
             0
         }
-        Answered::Refused(refusal) => refusal_number(refusal),
+        Err(refusal) => refusal_number(refusal),
     }
 }

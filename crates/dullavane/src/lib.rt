@@ -15,12 +15,10 @@ ghost use Rattle.dullavane.specs.Weekly.{WeekCalled, WeeksCalled, WeekAddCalled,
 ghost use Rattle.dullavane.specs.Runs.{UnitsCalled};
 ghost use Rattle.dullavane.specs.Promises.{ContentsCalled, SettingsCalled, FrequencyCalled, UnitCalled, RequirementCalled};
 
-use answer::ReportFound;
 use answer::report::report;
 use answer::roster::member;
-use asked::{asked_refusal, direction_of, narrow_asked, tell_answer, tell_row};
+use asked::{asked, direction_of, narrow_asked, tell_answer, tell_row};
 use frequencies::frequency::frequency;
-use interval::Opened;
 use interval::contents::contents;
 use interval::requirement::requirement;
 use interval::settings::settings;
@@ -35,12 +33,11 @@ use trends::{tell_trend, trend_fits};
 use units::run::run;
 use units::unit::unit;
 use verdicts::{VERDICT_WORDS, tell_verdict};
-use weekly::{DEFAULT_NUMBERS, as_group, tell_default, tell_week, week_in, week_unheld};
-use weeks::Written;
+use weekly::{DEFAULT_NUMBERS, as_group, tell_default, tell_week, week_held};
 use weeks::list::week;
 use weeks::roster::{roster, whose_of};
 use weeks::running::{add, read};
-use words::{OVER_16_BITS, TALLY_WORDS, put_words, said, tally_in, tell, words_refusal};
+use words::{OVER_16_BITS, TALLY_WORDS, held, put_words, said, tell};
 use writer::SettingsRow;
 use writer::write::write;
 use writing::tell_written;
@@ -72,11 +69,11 @@ pub fn dullavane_contents(part: &[u8], tally: &mut [u32]) -> u64
     }
     let opened = contents(part);
     match opened {
-        Opened::Taken(fresh) => {
+        Ok(fresh) => {
             put_words(fresh, tally);
             0
         }
-        Opened::Refused(refusal) => said(locate(0, refusal)),
+        Err(refusal) => said(locate(0, refusal)),
     }
 }
 
@@ -84,11 +81,10 @@ pub fn dullavane_contents(part: &[u8], tally: &mut [u32]) -> u64
 pub fn dullavane_settings(tally: &mut [u32], part: &[u8]) -> u64
     ensures { SettingsCalled tally.old part.now result tally.new }
 {
-    let refusal = words_refusal(tally);
-    if refusal != 0 {
-        return refusal as u64;
+    match held(tally) {
+        Ok(before) => tell(settings(before, part), tally),
+        Err(refusal) => refusal_number(refusal) as u64,
     }
-    tell(settings(tally_in(tally), part), tally)
 }
 
 // Takes the frequency record of the next region. Refuses 12 for the tally's words, 11, 12, then 1 and 71 to 74.
@@ -103,12 +99,13 @@ pub fn dullavane_frequency(
         (lent_frequency rest measures.old sums.old figures.old) result tally.new
         (lent_frequency rest measures.new sums.new figures.new) }
 {
-    let refusal = words_refusal(tally);
-    if refusal != 0 {
-        return refusal as u64;
+    match held(tally) {
+        Ok(before) => {
+            let step = frequency(before, part, measures, sums, figures);
+            tell(step, tally)
+        }
+        Err(refusal) => refusal_number(refusal) as u64,
     }
-    let step = frequency(tally_in(tally), part, measures, sums, figures);
-    tell(step, tally)
 }
 
 // Takes a unit. Refuses 12 for the tally's words, 11, 12, 11 for lent numbers, then 1, 81 to 84 and 9.
@@ -131,23 +128,15 @@ pub fn dullavane_unit(
         (lent_unit measures.now sums.new figures.now numbers.new homes.new rows.new
         groups.new deviations.new) }
 {
-    let refusal = words_refusal(tally);
-    if refusal != 0 {
-        return refusal as u64;
+    match held(tally) {
+        Ok(before) => {
+            let step = unit(
+                before, part, measures, sums, figures, numbers, homes, rows, groups, deviations,
+            );
+            tell(step, tally)
+        }
+        Err(refusal) => refusal_number(refusal) as u64,
     }
-    let step = unit(
-        tally_in(tally),
-        part,
-        measures,
-        sums,
-        figures,
-        numbers,
-        homes,
-        rows,
-        groups,
-        deviations,
-    );
-    tell(step, tally)
 }
 
 // Takes a run of units up to the first refused one, which is named by its place in the run; the records before it stay added. Refuses 1 for a run that is not
@@ -171,34 +160,25 @@ pub fn dullavane_units(
         (lent_unit measures.now sums.new figures.now numbers.new homes.new rows.new
         groups.new deviations.new) }
 {
-    let refusal = words_refusal(tally);
-    if refusal != 0 {
-        return unheld_told(records, refusal as u64 + FIRST_PLACE);
+    match held(tally) {
+        Ok(before) => {
+            let step = run(
+                before, records, measures, sums, figures, numbers, homes, rows, groups, deviations,
+            );
+            tell_run(step, tally)
+        }
+        Err(refusal) => unheld_told(records, refusal_number(refusal) as u64 + FIRST_PLACE),
     }
-    let step = run(
-        tally_in(tally),
-        records,
-        measures,
-        sums,
-        figures,
-        numbers,
-        homes,
-        rows,
-        groups,
-        deviations,
-    );
-    tell_run(step, tally)
 }
 
 // Takes a requirement. Refuses 12 for the tally's words, 11, then 1 and 10, then, with the last one, 4.
 pub fn dullavane_requirement(tally: &mut [u32], part: &[u8]) -> u64
     ensures { RequirementCalled tally.old part.now result tally.new }
 {
-    let refusal = words_refusal(tally);
-    if refusal != 0 {
-        return refusal as u64;
+    match held(tally) {
+        Ok(before) => tell(requirement(before, part), tally),
+        Err(refusal) => refusal_number(refusal) as u64,
     }
-    tell(requirement(tally_in(tally), part), tally)
 }
 
 // Answers a requirement: its members' numbers in the columns, its figures in eight words. Refuses 12 for the tally's words, 11 before the last unit,
@@ -225,25 +205,26 @@ pub fn dullavane_answer(
         (columns performances.new factors.new payments.new used.new unused.new)
         reply.new }
 {
-    let refusal = asked_refusal(tally, true, REPLY_WORDS <= reply.len());
-    if refusal != 0 {
-        return refusal;
+    match asked(tally, true, REPLY_WORDS <= reply.len()) {
+        Ok(before) => {
+            let answered = answer::call::answer(
+                before,
+                part,
+                measures,
+                sums,
+                figures,
+                homes,
+                rows,
+                performances,
+                factors,
+                payments,
+                used,
+                unused,
+            );
+            tell_answer(answered, reply)
+        }
+        Err(refusal) => refusal_number(refusal),
     }
-    let answered = answer::call::answer(
-        tally_in(tally),
-        part,
-        measures,
-        sums,
-        figures,
-        homes,
-        rows,
-        performances,
-        factors,
-        payments,
-        used,
-        unused,
-    );
-    tell_answer(answered, reply)
 }
 
 // Who stands in a row, for a requirement of this direction and region set: three words. Refuses 12 for the tally's words, 11 out of turn or
@@ -262,16 +243,16 @@ pub fn dullavane_member(
         (lent_member rest figures.now numbers.now homes.now) words.old result words.new }
 {
     let narrow = narrow_asked(row, direction, set);
-    let refusal = asked_refusal(tally, narrow, MEMBER_WORDS <= words.len());
-    if refusal != 0 {
-        return refusal;
+    match asked(tally, narrow, MEMBER_WORDS <= words.len()) {
+        Ok(before) => {
+            let toward = direction_of(direction);
+            let found = member(
+                before, row as u16, toward, set as u8, figures, numbers, homes,
+            );
+            tell_row(found, words)
+        }
+        Err(refusal) => refusal_number(refusal),
     }
-    let before = tally_in(tally);
-    let toward = direction_of(direction);
-    let found = member(
-        before, row as u16, toward, set as u8, figures, numbers, homes,
-    );
-    tell_row(found, words)
 }
 
 // Count and default of a member's week, in two numbers. Refuses 12, 5 for who the member is, 17, then 14.
@@ -298,8 +279,8 @@ pub fn dullavane_weeks(
 {
     let written = roster(intervals, whose, performances, live, counts, defaults);
     match written {
-        Written::Done => 0,
-        Written::Refused(refusal) => refusal_number(refusal),
+        Ok(()) => 0,
+        Err(refusal) => refusal_number(refusal),
     }
 }
 
@@ -307,12 +288,13 @@ pub fn dullavane_weeks(
 pub fn dullavane_week_add(whose: u16, live: u8, performance: i64, week: &mut [u64]) -> u32
     ensures { WeekAddCalled whose live performance week.old result week.new }
 {
-    let refusal = week_unheld(week);
-    if refusal != 0 {
-        return refusal;
+    match week_held(week) {
+        Ok(before) => {
+            let added = add(as_group(whose), live != 0, performance, before);
+            tell_week(added, week)
+        }
+        Err(refusal) => refusal_number(refusal),
     }
-    let added = add(as_group(whose), live != 0, performance, week_in(week));
-    tell_week(added, week)
 }
 
 // Reads count and default off a running week. Refuses 12 for either list, 11, 5, then 14.
@@ -322,11 +304,10 @@ pub fn dullavane_week_read(whose: u16, week: &[u64], reply: &mut [i64]) -> u32
     if reply.len() < DEFAULT_NUMBERS {
         return refusal_number(Refusal::TooShort);
     }
-    let refusal = week_unheld(week);
-    if refusal != 0 {
-        return refusal;
+    match week_held(week) {
+        Ok(running) => tell_default(read(whose_of(whose), running), reply),
+        Err(refusal) => refusal_number(refusal),
     }
-    tell_default(read(whose_of(whose), week_in(week)), reply)
 }
 
 // Is a factor sheet possible? What is wrong and the member, from 1, in two words. Refuses 12 for fewer than two words, then 5 for more than 513 factors, 12
@@ -446,22 +427,15 @@ pub fn dullavane_report(
     ensures { (rest : Lent) → ReportCalled tally.now row version
         (lent_report rest figures.now numbers.now homes.now rows.now) text.old result text.new }
 {
-    let refusal = asked_refusal(tally, version < OVER_16_BITS, true);
-    if refusal != 0 {
-        return refusal as u64;
-    }
-    let found = report(
-        tally_in(tally),
-        row,
-        version as u16,
-        figures,
-        numbers,
-        homes,
-        rows,
-    );
-    match found {
-        ReportFound::Found(shown) => tell_row_written(write_row(shown, text)),
-        ReportFound::Refused(why) => said(locate(0, why)),
+    match asked(tally, version < OVER_16_BITS, true) {
+        Ok(before) => {
+            let found = report(before, row, version as u16, figures, numbers, homes, rows);
+            match found {
+                Ok(shown) => tell_row_written(write_row(shown, text)),
+                Err(why) => said(locate(0, why)),
+            }
+        }
+        Err(refusal) => refusal_number(refusal) as u64,
     }
 }
 

@@ -6,8 +6,7 @@ ghost use Rattle.dullavane.specs.Reports.{with_numbers, row_told, read_told, num
 use super::words::{OVER_16_BITS, said};
 use answer::report::region_name;
 use book::REGIONS;
-use report_row::{RowRead, RowWritten};
-use rules::{FigureType, RegionName, ReportRow, Reported, locate};
+use rules::{FigureType, Refusal, RegionName, ReportRow, Reported, locate};
 
 // Is a number within its field: a unit's of 16 bits, or one of five regions?
 fn number_narrow(residual: u32, number: u32) -> bool
@@ -125,25 +124,25 @@ fn put_numbers(row: ReportRow, numbers: &mut [i64])
 }
 
 // The row's length in the upper half, above 0; or the refusal, which has no place.
-pub(crate) fn tell_row_written(written: RowWritten) -> u64
+pub(crate) fn tell_row_written(written: Result<u32, Refusal>) -> u64
     ensures { result ≡ row_told written }
 {
     match written {
-        RowWritten::Length(length) => length as u64 * 0x1_0000_0000,
-        RowWritten::Refused(refusal) => said(locate(0, refusal)),
+        Ok(length) => length as u64 * 0x1_0000_0000,
+        Err(refusal) => said(locate(0, refusal)),
     }
 }
 
 // 0, with the row's numbers in the list; or the refusal, 18 with its column as t.
-pub(crate) fn tell_row_read(read: RowRead, numbers: &mut [i64]) -> u64
+pub(crate) fn tell_row_read(read: Result<ReportRow, Refusal>, numbers: &mut [i64]) -> u64
     requires { 8 ≤ length numbers.old }
     ensures { (result ≡ read_told read) × (numbers.new ≡ numbers_after read numbers.old) }
 {
     match read {
-        RowRead::Read(row) => {
+        Ok(row) => {
             put_numbers(row, numbers);
             0
         }
-        RowRead::Refused(refusal) => said(locate(0, refusal)),
+        Err(wrong) => said(locate(0, wrong)),
     }
 }

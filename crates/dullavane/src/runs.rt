@@ -4,7 +4,7 @@ ghost use Rattle.dullavane.specs.Words.{told, with_words};
 ghost use Rattle.dullavane.specs.Runs.{unheld_told};
 
 use super::words::{put_words, said};
-use interval::{Step, Taking};
+use interval::Step;
 use rules::{Refusal, refusal_number};
 use units::run::is_whole;
 
@@ -33,7 +33,7 @@ pub(crate) fn tell_run(step: Step, words: &mut [u32]) -> u64
     put_words(added, words);
     let taking = step.taking;
     match taking {
-        Taking::Taken => 0,
-        Taking::Refused(refused) => said(refused),
+        Ok(()) => 0,
+        Err(refused) => said(refused),
     }
 }

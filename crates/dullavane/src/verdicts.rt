@@ -2,8 +2,7 @@
 ghost use Rattle.std.specs.Prelude.{◌≡◌, ◌≤◌, length};
 ghost use Rattle.dullavane.specs.Verdicts.{wrong_number, member_number, with_verdict, told_number, verdict_after};
 
-use rules::{Side, Verdict, refusal_number};
-use sheets::Told;
+use rules::{Refusal, Side, Verdict, refusal_number};
 
 pub(crate) const VERDICT_WORDS: usize = 2;
 
@@ -44,15 +43,15 @@ fn put_verdict(verdict: Verdict, words: &mut [u64])
 }
 
 // The number of a verdict, with what is wrong in the words.
-pub(crate) fn tell_verdict(told: Told, words: &mut [u64]) -> u32
+pub(crate) fn tell_verdict(told: Result<Verdict, Refusal>, words: &mut [u64]) -> u32
     requires { 2 ≤ length words.old }
     ensures { (result ≡ told_number told) × (words.new ≡ verdict_after told words.old) }
 {
     match told {
-        Told::Is(verdict) => {
+        Ok(verdict) => {
             put_verdict(verdict, words);
             0
         }
-        Told::Refused(refusal) => refusal_number(refusal),
+        Err(refusal) => refusal_number(refusal),
     }
 }

@@ -4,11 +4,10 @@ ghost use Rattle.rules.specs.declared.Whose.TheVariants.{Group};
 ghost use Rattle.rules.specs.Refusals.{taken};
 ghost use Rattle.rules.specs.WeekRoster.{whose_of};
 ghost use Rattle.weeks.specs.Runs.{units_of};
-ghost use Rattle.dullavane.specs.Words.{reply_number};
+ghost use Rattle.dullavane.specs.Words.{handed};
 ghost use Rattle.dullavane.specs.Weekly.{week_held, WeekHeld, with_week, added_number, week_after, with_default, told_number, default_after};
 
 use rules::{MOST_UNITS, Refusal, RunningWeek, WeekDefault, Whose, refusal_number};
-use weeks::{Added, Told};
 
 pub(crate) const WEEK_WORDS: usize = 2;
 
@@ -21,21 +20,21 @@ const THIRD_FIELD: u64 = 0x1_0000_0000;
 
 const PAST_THE_FIELDS: u64 = 0x1_0000_0000_0000;
 
-// 0 where words hold a running week, else why they hold none: 12 for fewer than two words, then 11 for a bit past the second word's three fields.
-pub(crate) fn week_unheld(words: &[u64]) -> u32
-    ensures { result ≡ reply_number (week_held words.now) }
+// The running week that words hold, or why they hold none: 12 for fewer than two words, then 11 for a bit past the second word's three fields.
+pub(crate) fn week_held(words: &[u64]) -> Result<RunningWeek, Refusal>
+    ensures { result ≡ handed (week_held words.now) }
 {
     if words.len() < WEEK_WORDS {
-        return refusal_number(Refusal::TooShort);
+        return Err(Refusal::TooShort);
     }
     if PAST_THE_FIELDS <= words[1] {
-        return refusal_number(Refusal::WrongState);
+        return Err(Refusal::WrongState);
     }
-    0
+    Ok(week_in(words))
 }
 
-// The running week that words hold.
-pub(crate) fn week_in(words: &[u64]) -> RunningWeek
+// The running week in words that hold one.
+fn week_in(words: &[u64]) -> RunningWeek
     requires { WeekHeld words.now }
     ensures { week_held words.now ≡ taken result }
 {
@@ -70,16 +69,16 @@ fn put_week(week: RunningWeek, words: &mut [u64])
 }
 
 // The number of an interval added, with the week in the words where it was taken.
-pub(crate) fn tell_week(added: Added, words: &mut [u64]) -> u32
+pub(crate) fn tell_week(added: Result<RunningWeek, Refusal>, words: &mut [u64]) -> u32
     requires { 2 ≤ length words.old }
     ensures { (result ≡ added_number added) × (words.new ≡ week_after added words.old) }
 {
     match added {
-        Added::Next(week) => {
+        Ok(week) => {
             put_week(week, words);
             0
         }
-        Added::Refused(refusal) => refusal_number(refusal),
+        Err(refusal) => refusal_number(refusal),
     }
 }
 
@@ -95,15 +94,15 @@ fn put_default(default: WeekDefault, reply: &mut [i64])
 }
 
 // The number of a week's answer, with count and default in the reply.
-pub(crate) fn tell_default(told: Told, reply: &mut [i64]) -> u32
+pub(crate) fn tell_default(told: Result<WeekDefault, Refusal>, reply: &mut [i64]) -> u32
     requires { 2 ≤ length reply.old }
     ensures { (result ≡ told_number told) × (reply.new ≡ default_after told reply.old) }
 {
     match told {
-        Told::Is(default) => {
+        Ok(default) => {
             put_default(default, reply);
             0
         }
-        Told::Refused(refusal) => refusal_number(refusal),
+        Err(refusal) => refusal_number(refusal),
     }
 }

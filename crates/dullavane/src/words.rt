@@ -1,9 +1,9 @@
 // The tally in eight lent words, in the order of its fields.
 ghost use Rattle.std.specs.Prelude.{◌≡◌, ◌&&◌, ◌≤◌, ltb, length};
-ghost use Rattle.dullavane.specs.Words.{held, with_words, said, told, words_after, words_fit, Held, reply_number};
+ghost use Rattle.dullavane.specs.Words.{held, handed, with_words, said, told, words_after, words_fit, Held};
 ghost use Rattle.rules.specs.Refusals.{taken};
 
-use interval::{Step, Taking, Tally};
+use interval::{Step, Tally};
 use rules::{Located, Refusal, refusal_number, refusal_point};
 
 pub(crate) const TALLY_WORDS: usize = 8;
@@ -35,21 +35,21 @@ fn narrow(words: &[u32]) -> bool
     words[6] < OVER_8_BITS
 }
 
-// 0 where words hold a tally, else why they hold none: 12 for fewer than eight words, then 11 for a word over its field's width.
-pub(crate) fn words_refusal(words: &[u32]) -> u32
-    ensures { result ≡ reply_number (held words.now) }
+// The tally that words hold, or why they hold none: 12 for fewer than eight words, then 11 for a word over its field's width.
+pub(crate) fn held(words: &[u32]) -> Result<Tally, Refusal>
+    ensures { result ≡ handed (held words.now) }
 {
     if words.len() < TALLY_WORDS {
-        return refusal_number(Refusal::TooShort);
+        return Err(Refusal::TooShort);
     }
     if !narrow(words) {
-        return refusal_number(Refusal::WrongState);
+        return Err(Refusal::WrongState);
     }
-    0
+    Ok(tally_in(words))
 }
 
-// The tally that words hold.
-pub(crate) fn tally_in(words: &[u32]) -> Tally
+// The tally in words that hold one.
+fn tally_in(words: &[u32]) -> Tally
     requires { Held words.now }
     ensures { held words.now ≡ taken result }
 {
@@ -97,11 +97,11 @@ pub(crate) fn tell(step: Step, words: &mut [u32]) -> u64
 {
     let taking = step.taking;
     match taking {
-        Taking::Taken => {
+        Ok(()) => {
             let next = step.tally;
             put_words(next, words);
             0
         }
-        Taking::Refused(refused) => said(refused),
+        Err(refused) => said(refused),
     }
 }

@@ -3,13 +3,13 @@ ghost use Rattle.std.specs.Prelude.{◌≡◌};
 ghost use Rattle.dullavane.specs.Writing.{answer_told};
 
 use super::words::said;
-use writer::Written;
+use rules::Located;
 
-pub(crate) fn tell_written(written: Written) -> u64
+pub(crate) fn tell_written(written: Result<u32, Located>) -> u64
     ensures { result ≡ answer_told written }
 {
     match written {
-        Written::Length(length) => length as u64 * 0x1_0000_0000,
-        Written::Refused(refused) => said(refused),
+        Ok(length) => length as u64 * 0x1_0000_0000,
+        Err(refused) => said(refused),
     }
 }

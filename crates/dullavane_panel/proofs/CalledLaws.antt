@@ -1,4 +1,6 @@
 -- No promise of a call allows two answers; and what the calls' proofs cite.
+use Rattle.std.specs.Prelude.{Result, ⊤}
+use Rattle.rules.specs.declared.Refusal.{Refusal}
 use mathlib.Core.Path.{◌≡◌, refl, sym, ◌∙◌, ap, subst}
 use mathlib.Core.Bool.{Bool, true, false}
 use mathlib.Core.List.{List}
@@ -17,12 +19,10 @@ use Rattle.report_row.proofs.PieceLaws.{both_first, both_second}
 use Rattle.interval.specs.declared.Tally.{Tally}
 use Rattle.rules.specs.Panel.{first_page, member_page}
 use Rattle.rules.specs.Keys.{step}
-use Rattle.pages.specs.declared.Drawn.{Drawn}
 use Rattle.pages.specs.declared.Who.{Who}
 use Rattle.pages.specs.Promises.{Draws, line_of}
 use Rattle.interval.specs.Lent.{Lent}
 use Rattle.panel.specs.declared.Shown.{Shown}
-use Rattle.panel.specs.declared.Pressed.{Pressed}
 use Rattle.panel.specs.Press.{Cents, PressPromise}
 use Rattle.dullavane.specs.Words.{held, Held}
 use Rattle.dullavane.specs.Asked.{held_or_none}
@@ -61,7 +61,7 @@ module _ {narrow : Bool} {page old : List ℕ} where
   unfolding page_reply
   page_refused e told = record { reply = rw e told; text = rw e }
 
-  pub page_drawn : narrow ≡ true → {d : Drawn} {r : ℕ} {new : List ℕ} → Draws 80 page old d new → r ≡ drawn_number d → PageCalled narrow page old r new
+  pub page_drawn : narrow ≡ true → {d : Result ⊤ Refusal} {r : ℕ} {new : List ℕ} → Draws 80 page old d new → r ≡ drawn_number d → PageCalled narrow page old r new
   unfolding page_reply
   page_drawn e {d} {r} {new} p told = go (leb 80 (length old)) refl
     where
@@ -76,7 +76,7 @@ pub member_same : {w w' : Who} {s s' : Standing} (payment used unused : ℤ) →
     member_page (line_of w s payment used unused) ≡ member_page (line_of w' s' payment used unused)
 member_same payment used unused a b = rw (a, b)
 
-pub drawn_as : {page page' old : List ℕ} {d : Drawn} {new : List ℕ} → page ≡ page' → Draws 80 page old d new → Draws 80 page' old d new
+pub drawn_as : {page page' old : List ℕ} {d : Result ⊤ Refusal} {new : List ℕ} → page ≡ page' → Draws 80 page old d new → Draws 80 page' old d new
 drawn_as {old = old} {d = d} {new = new} e p = subst (λ (x : List ℕ). Draws 80 x old d new) e p
 
 -- ---- a key over the page's words
@@ -99,7 +99,7 @@ pub step_same : {p p' : Page} {k k' : Key} (book requirement members : ℕ) → 
 step_same book requirement members a b = rw (a, b)
 
 -- ---- a key press, by what stands in the words
-module _ {p p' : Page} {k k' : Key} {book : ℕ} {t : Tally} {part : List ℕ} {s s' : Shown} {l : Lent} {c : Cents} {old new : List ℕ} {r : Pressed} where
+module _ {p p' : Page} {k k' : Key} {book : ℕ} {t : Tally} {part : List ℕ} {s s' : Shown} {l : Lent} {c : Cents} {old new : List ℕ} {r : Result Page Refusal} where
   pub press_same : p ≡ p' → k ≡ k' → s ≡ s' → PressPromise p k book t part s l c old r new → PressPromise p' k' book t part s' l c old r new
   press_same a b d x =
       subst (λ (q : Page). PressPromise q k' book t part s' l c old r new) a

@@ -1,5 +1,6 @@
 -- Numbers and words as C hands them over, and what they say.
-use Rattle.std.specs.Prelude.{Bool, cond, ◌&&◌, List, ◌∷◌, ℕ, zero, suc, ◌%◌, leb, ltb, get_or, drop}
+use Rattle.rules.specs.declared.Refusal.{Refusal}
+use Rattle.std.specs.Prelude.{Bool, cond, ◌&&◌, List, ◌∷◌, ℕ, zero, suc, ◌%◌, leb, ltb, get_or, drop, Result, Ok, Err, ⊤}
 use Rattle.rules.specs.declared.Key.{Key}
 use Rattle.rules.specs.declared.Key.TheVariants.{Show, Next, Previous, Home}
 use Rattle.rules.specs.declared.Page.{Page}
@@ -7,13 +8,9 @@ use Rattle.rules.specs.declared.Reason.TheVariants.{UnreliableRegion, BadUnit, N
 use Rattle.rules.specs.declared.Standing.{Standing}
 use Rattle.rules.specs.declared.Standing.TheVariants.{Live, Default}
 use Rattle.rules.specs.Refusals.{number}
-use Rattle.pages.specs.declared.Drawn.{Drawn}
-use Rattle.pages.specs.declared.Drawn.TheVariants as d
 use Rattle.pages.specs.declared.Who.{Who}
 use Rattle.pages.specs.declared.Who.TheVariants.{Unit, Residual}
 use Rattle.panel.specs.declared.Shown.{Shown}
-use Rattle.panel.specs.declared.Pressed.{Pressed}
-use Rattle.panel.specs.declared.Pressed.TheVariants as p
 
 -- ---- numbers within their fields: a unit's or a requirement's number 16 bits, a direction 0 or 1, a standing 0 to 3; the residual has no number
 unfoldable pub first_narrow : ℕ → ℕ → Bool
@@ -79,14 +76,14 @@ shown_of ws =
     }
 
 -- ---- 0, or the refusal's number; the page's words where it was drawn
-abbrev pub drawn_number : Drawn → ℕ
-drawn_number d.Done = 0
-drawn_number (d.Refused r) = number r
+abbrev pub drawn_number : Result ⊤ Refusal → ℕ
+drawn_number (Ok tt) = 0
+drawn_number (Err r) = number r
 
-abbrev pub pressed_number : Pressed → ℕ
-pressed_number (p.Drawn page) = 0
-pressed_number (p.Refused r) = number r
+abbrev pub pressed_number : Result Page Refusal → ℕ
+pressed_number (Ok page) = 0
+pressed_number (Err r) = number r
 
-abbrev pub page_after : Pressed → List ℕ → List ℕ
-page_after (p.Drawn page) ws = with_page page ws
-page_after (p.Refused r) ws = ws
+abbrev pub page_after : Result Page Refusal → List ℕ → List ℕ
+page_after (Ok page) ws = with_page page ws
+page_after (Err r) ws = ws

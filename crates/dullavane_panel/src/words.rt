@@ -3,9 +3,9 @@ ghost use Rattle.std.specs.Prelude.{◌≡◌, ◌≤◌, length, true};
 ghost use Rattle.dullavane_panel.specs.Words.{first_narrow, member_narrow, who_in, standing_in, key_of, page_of, with_page, enough};
 ghost use Rattle.dullavane_panel.specs.Words.{members_of, shown_of, drawn_number, pressed_number, page_after};
 
-use pages::{Drawn, Who};
-use panel::{Pressed, Shown};
-use rules::{Key, Page, Reason, Standing, refusal_number};
+use pages::Who;
+use panel::Shown;
+use rules::{Key, Page, Reason, Refusal, Standing, refusal_number};
 
 const OVER_16_BITS: u32 = 65_536;
 
@@ -131,25 +131,25 @@ fn members_in(members: u64, standing: u64) -> u16
     members as u16
 }
 
-pub(crate) fn tell_drawn(drawn: Drawn) -> u32
+pub(crate) fn tell_drawn(drawn: Result<(), Refusal>) -> u32
     ensures { result ≡ drawn_number drawn }
 {
     match drawn {
-        Drawn::Done => 0,
-        Drawn::Refused(refusal) => refusal_number(refusal),
+        Ok(()) => 0,
+        Err(refusal) => refusal_number(refusal),
     }
 }
 
 // The number of a press, with the page in its words where it was drawn.
-pub(crate) fn tell_pressed(then: Pressed, words: &mut [u32]) -> u32
+pub(crate) fn tell_pressed(then: Result<Page, Refusal>, words: &mut [u32]) -> u32
     requires { 3 ≤ length words.old }
     ensures { (result ≡ pressed_number then) × (words.new ≡ page_after then words.old) }
 {
     match then {
-        Pressed::Drawn(page) => {
+        Ok(page) => {
             put_page(page, words);
             0
         }
-        Pressed::Refused(refusal) => refusal_number(refusal),
+        Err(why) => refusal_number(why),
     }
 }

@@ -1,4 +1,7 @@
 -- Laws of the definitions in specs/Came.antt: a walk of the reading has taken records of a book, one after the other, or met a refusal.
+use Rattle.std.specs.Prelude.{Result, Ok, Err, ⊤}
+use Rattle.rules.specs.declared.Located.{Located}
+use Rattle.rules.specs.declared.Refusal.{Refusal}
 use mathlib.Core.Path.{◌≡◌, refl, sym, ◌∙◌, ap₂, subst}
 use mathlib.Core.Bool.{Bool, true, false, cond}
 use mathlib.Core.List.{List}
@@ -11,10 +14,6 @@ use Rattle.rules.specs.Refusals.{taken}
 use Rattle.rules.specs.Book.{Book}
 use Rattle.rules.specs.WholeBook.{book}
 use Rattle.interval.specs.declared.Tally.{Tally}
-use Rattle.interval.specs.declared.Opened as o
-use Rattle.interval.specs.declared.Opened.{Opened}
-use Rattle.interval.specs.declared.Taking as k
-use Rattle.interval.specs.declared.Taking.{Taking}
 use Rattle.interval.specs.Tally.{before_units, book_end}
 use Rattle.interval.specs.Lent.{Lent}
 use Rattle.interval.specs.Promises.{ContentsPromise}
@@ -48,9 +47,9 @@ Took l₀ (r.TheVariants.Refused why) l = RefusedBook l₀ why l
 contents_took : {p : List ℕ} {x : r.Came} (l₀ : Lent) → ContentsCame p x → Took l₀ x l₀
 contents_took {p} l₀ w = subst (λ (x : r.Came). Took l₀ x l₀) (sym w.reply) (go w.opened w.promise)
   where
-    go : (x : Opened) → ContentsPromise p x → Took l₀ (after_contents x) l₀
-    go (o.TheVariants.Taken t) q = tt
-    go (o.TheVariants.Refused x) q = at_contents q refl refl
+    go : (x : Result Tally Refusal) → ContentsPromise p x → Took l₀ (after_contents x) l₀
+    go (Ok t) q = tt
+    go (Err x) q = at_contents q refl refl
 
 record_took :
     {head : List ℕ} {part : ℕ → List ℕ} {l₀ : Lent} {t : Tally} {l l' : Lent} {p : List ℕ} {x : r.Came} → Chain head part l₀ t.records t l →
@@ -61,11 +60,11 @@ record_took {head} {part} {l₀} {t} {l} {l'} {p} d inside w =
     tally : Tally
     tally = w.step.tally
 
-    go : (x : Taking) → w.step.taking ≡ x → Took l₀ (after_record x tally) l'
-    go (k.TheVariants.Refused why) e = at_record d (chain_calls d inside w.turn) e
-    go k.TheVariants.Taken e = ends (is_end tally.records tally) refl
+    go : (x : Result ⊤ Located) → w.step.taking ≡ x → Took l₀ (after_record x tally) l'
+    go (Err why) e = at_record d (chain_calls d inside w.turn) e
+    go (Ok tt) e = ends (is_end tally.records tally) refl
       where
-        ends : (x : Bool) → is_end tally.records tally ≡ x → Took l₀ (after_record k.TheVariants.Taken tally) l'
+        ends : (x : Bool) → is_end tally.records tally ≡ x → Took l₀ (after_record (Ok tt) tally) l'
         ends x f =
             subst (λ (b : Bool). Took l₀ (cond b (r.TheVariants.Taken tally) (r.TheVariants.Wants (Record tally 0))) l') (sym f) (at x f)
           where

@@ -1,11 +1,10 @@
 -- What a book that came is, whatever bytes a file gave: the calls have taken records of some book, one after the other, and tally and lists are as they left
 -- them; or they have refused the one that came next.
-use Rattle.std.specs.Prelude.{◌≡◌, Bool, List, ℕ, ◌-◌, ◌≤◌, ◌<◌, get_or, take}
+use Rattle.std.specs.Prelude.{◌≡◌, Bool, List, ℕ, ◌-◌, ◌≤◌, ◌<◌, get_or, take, Err}
 use Rattle.rules.specs.declared.Refusal.{Refusal}
 use Rattle.rules.specs.declared.Located.{Located}
 use Rattle.rules.specs.Refusals.{located}
 use Rattle.interval.specs.declared.Tally.{Tally}
-use Rattle.interval.specs.declared.Opened as o
 use Rattle.interval.specs.declared.Step.{Step}
 use Rattle.interval.specs.Tally.{book_end}
 use Rattle.interval.specs.Lent.{Lent}
@@ -26,7 +25,7 @@ pub record Came (l₀ : Lent) (records : ℕ) (t : Tally) (l : Lent) : Type 0 wh
 
 -- the table of contents was refused, or the record that came next; l is what the lists hold then
 pub data RefusedBook (l₀ : Lent) (why : Located) (l : Lent) : Type 0 where
-  at_contents : {head : List ℕ} {x : Refusal} → ContentsPromise head (o.TheVariants.Refused x) → located 0 x ≡ why → l ≡ l₀ → RefusedBook l₀ why l
+  at_contents : {head : List ℕ} {x : Refusal} → ContentsPromise head (Err x) → located 0 x ≡ why → l ≡ l₀ → RefusedBook l₀ why l
   at_record :
       {head p : List ℕ} {part : ℕ → List ℕ} {records : ℕ} {t : Tally} {l₁ : Lent} {r : Step} → Chain head part l₀ records t l₁ →
       Call (counts_in head) p records t l₁ r l → Refused r why → RefusedBook l₀ why l

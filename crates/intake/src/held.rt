@@ -7,7 +7,7 @@ use super::input::fill;
 use book::{CONTENTS, POINTS};
 use interval::contents::contents;
 use interval::turns::BEFORE_UNITS;
-use interval::{FIGURES_LENGTH, Opened, ROWS_LENGTH, SERIES_LENGTH, SUMS_LENGTH, Taking, Tally};
+use interval::{FIGURES_LENGTH, ROWS_LENGTH, SERIES_LENGTH, SUMS_LENGTH, Tally};
 use reader::turn::{size, take};
 use rules::{Located, locate};
 use std::io::Read;
@@ -55,8 +55,8 @@ fn take_records(
 ) -> Outcome {
     let mut tally = opened;
     let mut start = CONTENTS;
-    let mut left = BEFORE_UNITS as u32 + tally.units as u32 + tally.requirements as u32;
-    while left > 0 {
+    let records = BEFORE_UNITS as u32 + tally.units as u32 + tally.requirements as u32;
+    for record in 0..records {
         let next = start + size(tally);
         let step = take(
             tally,
@@ -71,12 +71,11 @@ fn take_records(
             deviations,
         );
         let outcome = step.taking;
-        if let Taking::Refused(said) = outcome {
+        if let Err(said) = outcome {
             return Outcome::Refused(said);
         }
         tally = step.tally;
         start = next;
-        left -= 1;
     }
     Outcome::Taken(tally)
 }
@@ -108,8 +107,8 @@ fn take_bodies(tally: Tally, book: &[u8]) -> Outcome {
 fn take_all(book: &[u8]) -> Outcome {
     let opened = contents(book);
     match opened {
-        Opened::Taken(tally) => take_bodies(tally, book),
-        Opened::Refused(refusal) => Outcome::Refused(locate(0, refusal)),
+        Ok(tally) => take_bodies(tally, book),
+        Err(refusal) => Outcome::Refused(locate(0, refusal)),
     }
 }
 

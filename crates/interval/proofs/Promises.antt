@@ -1,4 +1,5 @@
 -- Laws of the definitions in specs/Promises.antt.
+use Rattle.std.specs.Prelude.{Result}
 use mathlib.Core.Path.{◌≡◌, sym, ◌∙◌}
 use mathlib.Core.Bool.{Bool, ◌&&◌}
 use mathlib.Core.List.{List}
@@ -10,7 +11,6 @@ use Rattle.integers.specs.Pairs.{gain, loss}
 use lib.ListN.{length}
 use Rattle.rules.specs.declared.Refusal.{Refusal}
 use Rattle.interval.specs.declared.Tally.{Tally}
-use Rattle.interval.specs.declared.Opened.{Opened}
 use Rattle.interval.specs.declared.Step.{Step}
 use Rattle.interval.specs.Tally.{in_range, frequency_turn, unit_turn, answer_turn}
 use Rattle.interval.specs.Lent.{Lent, figures_length, of_interval, measure_held, row_fine}
@@ -18,7 +18,7 @@ use Rattle.interval.specs.Ranges.{six_fine}
 use Rattle.interval.specs.Calls.{refused_step, count_step, least_after}
 use Rattle.interval.specs.Promises.{ContentsPromise, FrequencyPromise, RequirementPromise, SettingsPromise, UnitPromise}
 
-pub contents_only : {part : List ℕ} {r r' : Opened} → ContentsPromise part r → ContentsPromise part r' → r ≡ r'
+pub contents_only : {part : List ℕ} {r r' : Result Tally Refusal} → ContentsPromise part r → ContentsPromise part r' → r ≡ r'
 contents_only a b = a.reply ∙ sym b.reply
 
 pub settings_only : {t : Tally} {part : List ℕ} {r r' : Step} → SettingsPromise t part r → SettingsPromise t part r' → r ≡ r'

@@ -1,4 +1,5 @@
 -- Laws of the definitions in specs/Run.antt: a run goes on by a unit call, and any two answers that its promise allows are equal.
+use Rattle.std.specs.Prelude.{Ok, Err}
 use mathlib.Core.Path.{◌≡◌, refl, sym, ◌∙◌, ap, ap₂}
 use mathlib.Core.Bool.{Bool, true, false}
 use mathlib.Core.List.{List, []}
@@ -13,7 +14,6 @@ use Rattle.rules.specs.Refusals.{Reply, taken, refused, located, at}
 use Rattle.rules.specs.Book.{Unit}
 use Rattle.rules.specs.Contents.{unit_size}
 use Rattle.interval.specs.declared.Tally.{Tally}
-use Rattle.interval.specs.declared.Taking as k
 use Rattle.interval.specs.declared.Step.{Step}
 use Rattle.interval.specs.Tally.{next_place}
 use Rattle.interval.specs.Lent.{Lent}
@@ -63,14 +63,14 @@ pub record Added (t : Tally) (part : List ℕ) (l : Lent) (r : Step) (l' : Lent)
   pub lent : l' ≡ unit_kept t unit l
 
 module _ {t : Tally} {part : List ℕ} {l : Lent} {r : Step} {l' : Lent} (p : UnitPromise t part l r l') where
-  pub was_added : r.taking ≡ k.TheVariants.Taken → Added t part l r l'
+  pub was_added : r.taking ≡ Ok tt → Added t part l r l'
   was_added h =
       let s = step_taken (unit_counted t) t (unit_reply t part l) p.reply h in
       record { unit = s.0; is = s.1; tally = s.2; lent = p.lent ∙ ap (λ (y : Reply Unit). left (unit_kept t) y l) s.1 }
 
   -- the run goes on behind a record that was taken, with the tally and the lists that its call has left
   pub goes_behind :
-      (rest place : ℕ) → r.taking ≡ k.TheVariants.Taken → ran (suc rest) place t part l ≡ ran rest (place + 1) r.tally (drop unit_size part) l'
+      (rest place : ℕ) → r.taking ≡ Ok tt → ran (suc rest) place t part l ≡ ran rest (place + 1) r.tally (drop unit_size part) l'
   unfolding ran
   goes_behind rest place h =
       let a = was_added h in
@@ -79,7 +79,7 @@ module _ {t : Tally} {part : List ℕ} {l : Lent} {r : Step} {l' : Lent} (p : Un
       ∙ sym (ap₂ (λ (t' : Tally) (m : Lent). ran rest (place + 1) t' (drop unit_size part) m) a.tally a.lent)
 
   -- and stops at one that was refused, whose call has left them as they came
-  pub stops_at : {why : Located} (rest place : ℕ) → r.taking ≡ k.TheVariants.Refused why → ran (suc rest) place t part l ≡ stops place t l' why.refusal
+  pub stops_at : {why : Located} (rest place : ℕ) → r.taking ≡ Err why → ran (suc rest) place t part l ≡ stops place t l' why.refusal
   unfolding ran
   stops_at {why} rest place h =
       let s = step_refused (unit_counted t) t (unit_reply t part l) p.reply h in

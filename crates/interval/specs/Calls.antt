@@ -1,6 +1,6 @@
 -- What each call answers: what it takes of the book, or the refusal, tested in document 01's order: 11 for the tally, 12, 11 for lent numbers, 1,
 -- then content by place. What is lent stands as it came.
-use Rattle.std.specs.Prelude.{Bool, cond, ◌&&◌, List, ℕ, ◌+◌, eqb, leb, ltb, length}
+use Rattle.std.specs.Prelude.{Bool, cond, ◌&&◌, List, ℕ, ◌+◌, eqb, leb, ltb, length, Result, Ok, Err}
 use Rattle.rules.specs.declared.Refusal.{Refusal}
 use Rattle.rules.specs.declared.Refusal.TheVariants.{WrongState, TooShort, WrongGroup}
 use Rattle.rules.specs.declared.Located.{Located}
@@ -13,8 +13,6 @@ use Rattle.rules.specs.FrequencyRecord.{frequency_record}
 use Rattle.rules.specs.UnitRecord.{unit_record}
 use Rattle.rules.specs.RequirementRecord.{requirement_record}
 use Rattle.interval.specs.declared.Tally.{Tally}
-use Rattle.interval.specs.declared.Opened as o
-use Rattle.interval.specs.declared.Taking as k
 use Rattle.interval.specs.declared.Step.{Step}
 use Rattle.interval.specs.Tally.{
   in_range,
@@ -45,16 +43,16 @@ use Rattle.interval.specs.Lent.{
 abbrev pub fresh : Counts → Tally
 fresh c = record { units = c.units; requirements = c.requirements; records = 0; least = 0; smoothing = 0; limit = 0; percent = 0; interval = 0 }
 
-abbrev pub opened : Reply Counts → o.Opened
-opened (taken c) = o.TheVariants.Taken (fresh c)
-opened (refused r) = o.TheVariants.Refused r
+abbrev pub opened : Reply Counts → Result Tally Refusal
+opened (taken c) = Ok (fresh c)
+opened (refused r) = Err r
 
 -- ---- a step: the tally that the record leads to, or the one that was handed in
 abbrev pub taken_step : Tally → Step
-taken_step t = record { tally = t; taking = k.TheVariants.Taken }
+taken_step t = record { tally = t; taking = Ok tt }
 
 abbrev pub stopped_step : Tally → Located → Step
-stopped_step t r = record { tally = t; taking = k.TheVariants.Refused r }
+stopped_step t r = record { tally = t; taking = Err r }
 
 -- a refusal names the place of the record that was to be taken
 abbrev pub refused_step : Tally → Refusal → Step

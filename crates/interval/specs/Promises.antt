@@ -1,10 +1,10 @@
 -- What each call promises, completely: its reply, the tally and all that is lent, on refusals too. l is what is lent as it came, l' as the call leaves it.
-use Rattle.std.specs.Prelude.{◌≡◌, List, ℕ, ◌+◌, ◌*◌, ℤ, pos, get_or, set}
+use Rattle.rules.specs.declared.Refusal.{Refusal}
+use Rattle.std.specs.Prelude.{◌≡◌, List, ℕ, ◌+◌, ◌*◌, ℤ, pos, get_or, set, Result}
 use Rattle.rules.specs.Quantities.{points}
 use Rattle.rules.specs.Book.{Region, Unit}
 use Rattle.rules.specs.Contents.{contents}
 use Rattle.interval.specs.declared.Tally.{Tally}
-use Rattle.interval.specs.declared.Opened.{Opened}
 use Rattle.interval.specs.declared.Step.{Step}
 use Rattle.interval.specs.Tally.{settings_of, next_region, units_taken}
 use Rattle.interval.specs.Lent.{
@@ -32,7 +32,7 @@ use Rattle.interval.specs.Lent.{
 use Rattle.interval.specs.Calls.{opened, stepped, left, settings_reply, settled, frequency_reply, counted, unit_reply, unit_counted, requirement_reply}
 
 -- ---- contents
-pub record ContentsPromise (part : List ℕ) (r : Opened) : Type 0 where
+pub record ContentsPromise (part : List ℕ) (r : Result Tally Refusal) : Type 0 where
   pub reply : r ≡ opened (contents part)
 
 -- ---- settings

@@ -58,23 +58,9 @@ pub struct Tally {
     pub interval: u32,
 }
 
-// What the table of contents starts, or the refusal alone.
-#[derive(Clone, Copy)]
-pub enum Opened {
-    Taken(Tally),
-    Refused(Refusal),
-}
-
-// A record was taken, or the refusal with the record's place.
-#[derive(Clone, Copy)]
-pub enum Taking {
-    Taken,
-    Refused(Located),
-}
-
 // The tally after a call: one record further, or as it came.
 #[derive(Clone, Copy)]
 pub struct Step {
     pub tally: Tally,
-    pub taking: Taking,
+    pub taking: Result<(), Located>,
 }

@@ -6,7 +6,6 @@ ghost use Rattle.interval.specs.Promises.{RequirementPromise};
 use super::steps::{count, refuse};
 use super::turns::{BEFORE_UNITS, requirement_turn};
 use super::{Step, Tally};
-use book::RequirementRead;
 use rules::Refusal;
 
 // Is the record that comes next the book's last?
@@ -28,7 +27,7 @@ pub fn requirement(tally: Tally, part: &[u8]) -> Step
     let last = comes_last(tally);
     let read = book::requirement::read_requirement(part, least, last);
     match read {
-        RequirementRead::Taken(fields) => count(tally, fields.number as u32 + 1),
-        RequirementRead::Refused(refusal) => refuse(tally, refusal),
+        Ok(fields) => count(tally, fields.number as u32 + 1),
+        Err(refusal) => refuse(tally, refusal),
     }
 }

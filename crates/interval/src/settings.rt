@@ -4,8 +4,7 @@ ghost use Rattle.interval.specs.Promises.{SettingsPromise};
 
 use super::steps::refuse;
 use super::turns::settings_turn;
-use super::{Step, Taking, Tally};
-use book::SettingsRead;
+use super::{Step, Tally};
 use rules::Refusal;
 
 // Takes the settings. Refuses 11, then 1 and 6.
@@ -17,7 +16,7 @@ pub fn settings(tally: Tally, part: &[u8]) -> Step
     }
     let read = book::settings::read_settings(part);
     match read {
-        SettingsRead::Taken(fields) => Step {
+        Ok(fields) => Step {
             tally: Tally {
                 units: tally.units,
                 requirements: tally.requirements,
@@ -28,8 +27,8 @@ pub fn settings(tally: Tally, part: &[u8]) -> Step
                 percent: fields.percent,
                 interval: fields.interval,
             },
-            taking: Taking::Taken,
+            taking: Ok(()),
         },
-        SettingsRead::Refused(refusal) => refuse(tally, refusal),
+        Err(refusal) => refuse(tally, refusal),
     }
 }

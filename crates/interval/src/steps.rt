@@ -4,7 +4,7 @@ ghost use Rattle.interval.specs.Tally.{next_place};
 ghost use Rattle.interval.specs.Calls.{refused_step, count_step, least_after};
 
 use super::turns::BEFORE_UNITS;
-use super::{Step, Taking, Tally};
+use super::{Step, Tally};
 use rules::{Refusal, locate};
 
 // Settings, five regions, 512 units and 32 requirements.
@@ -34,7 +34,7 @@ pub fn refuse(tally: Tally, refusal: Refusal) -> Step
     let place = next_place(tally);
     Step {
         tally: tally,
-        taking: Taking::Refused(locate(place, refusal)),
+        taking: Err(locate(place, refusal)),
     }
 }
 
@@ -56,7 +56,7 @@ pub fn count(tally: Tally, least: u32) -> Step
             percent: tally.percent,
             interval: tally.interval,
         },
-        taking: Taking::Taken,
+        taking: Ok(()),
     }
 }
 

@@ -1,5 +1,7 @@
 -- What is left of a taken book's listing at a cursor, and that every move says the front of it: nothing is refused, and it ends where nothing is left. The
 -- members' lines are read back from the columns, and the rows of the requirement's regions name them in their order.
+use Rattle.std.specs.Prelude.{Result, Ok, Err}
+use Rattle.rules.specs.declared.Refusal.{Refusal}
 use mathlib.Core.Path.{◌≡◌, refl, sym, ◌∙◌, ap, subst, subst₂}
 use mathlib.Core.Bool.{Bool, true, false, cond}
 use mathlib.Core.List.{List, [], ◌∷◌, ◌++◌, map, append_assoc}
@@ -27,8 +29,6 @@ use Rattle.interval.specs.Lent.{Lent}
 use Rattle.interval.specs.Calls.{left}
 use Rattle.kept.specs.Kept.{region_of, row_standing, residual_row, kept_answer}
 use Rattle.answer.specs.declared.Answer.{Answer}
-use Rattle.answer.specs.declared.Answered.{Answered}
-use Rattle.answer.specs.declared.Answered.TheVariants as reply
 use Rattle.answer.specs.declared.Row.TheVariants.{Unit as Member, Other}
 use Rattle.answer.specs.Lists.{headed}
 use Rattle.answer.proofs.Lists.{headed_length, headed_take}
@@ -240,11 +240,11 @@ module _ (b : Book) (t : Tally) (bytes : List ℕ) (l : Lent) where
   Leads rest (refuses r) = ⊥
 
 -- a reply that gives an answer
-abbrev IsGiven : Answered → Type 0
-IsGiven (reply.Given a) = Unit {0}
-IsGiven (reply.Refused r) = ⊥
+abbrev IsGiven : Result Answer Refusal → Type 0
+IsGiven (Ok a) = Unit {0}
+IsGiven (Err r) = ⊥
 
-given_same : {a a₂ : Answer} → reply.Given a ≡ reply.Given a₂ → a ≡ a₂
+given_same : {a a₂ : Answer} → ◌≡◌ {A = Result Answer Refusal} (Ok a) (Ok a₂) → a ≡ a₂
 given_same e = cc
 
 module _ {b : Book} {t : Tally} {bytes : List ℕ} {l : Lent} (h : Taken b t bytes l) where
@@ -271,7 +271,7 @@ module _ {b : Book} {t : Tally} {bytes : List ℕ} {l : Lent} (h : Taken b t byt
           (h.answers part q is).answered w.long (record { reply = refl; written = refl }) in
           by x (rw e at a.reply) (rw e at a.written)
         where
-          by : (x : Reply Requirement) → replied t l x ≡ reply.Given (shown q (answer b q)) →
+          by : (x : Reply Requirement) → replied t l x ≡ Ok (shown q (answer b q)) →
               left (λ p. with_lines (kept_answer t l p)) x c ≡ with_lines (answer b q) c → Leads b t bytes l rest (answering t bytes l k c x)
           by (taken p) f g = (
             answer_lines (answer b q) ++ lines_of_all b (drop (suc k) qs),

@@ -1,4 +1,5 @@
 -- Laws of a turn: a requirement's lines from each cursor on.
+use Rattle.std.specs.Prelude.{Result, Ok, Err}
 use mathlib.Core.Path.{◌≡◌, refl, sym, ◌∙◌, ap, subst}
 use mathlib.Core.Bool.{Bool, true, false, cond, true≢false}
 use mathlib.Core.List.{List, [], ◌∷◌}
@@ -19,8 +20,6 @@ use Rattle.interval.specs.Lent.{Lent}
 use Rattle.interval.specs.Calls.{left}
 use Rattle.kept.specs.Kept.{kept_answer}
 use Rattle.answer.specs.declared.Answer.{Answer}
-use Rattle.answer.specs.declared.Answered.{Answered}
-use Rattle.answer.specs.declared.Answered.TheVariants.{Given, Refused}
 use Rattle.answer.specs.Promises.{Columns, columns_long, answer_reply, shown, replied, with_lines, AnswerPromise}
 use Rattle.listing.specs.Lines.{answer_of, residual_of}
 use Rattle.lister.specs.declared.Cursor.{Cursor}
@@ -123,20 +122,20 @@ module _ (t : Tally) (bytes : List ℕ) (l : Lent) (c : Columns) (k : ℕ) where
       none false = omega arith
 
 -- ---- a requirement that is answered first
-figures_of : Answer → Answered → Answer
-figures_of other (Given a) = a
-figures_of other (Refused r) = other
+figures_of : Answer → Result Answer Refusal → Answer
+figures_of other (Ok a) = a
+figures_of other (Err r) = other
 
-is_given : Answered → Bool
-is_given (Given a) = true
-is_given (Refused r) = false
+is_given : Result Answer Refusal → Bool
+is_given (Ok a) = true
+is_given (Err r) = false
 
-module _ (t : Tally) (bytes : List ℕ) (l : Lent) (c : Columns) (k : ℕ) (one : k < t.requirements) {r : Answered} {c₁ : Columns}
+module _ (t : Tally) (bytes : List ℕ) (l : Lent) (c : Columns) (k : ℕ) (one : k < t.requirements) {r : Result Answer Refusal} {c₁ : Columns}
     (w : AnswerPromise t (drop (24 * k) bytes) l c r c₁) where
   abbrev reply : Reply Requirement
   reply = answer_reply t (drop (24 * k) bytes) l c
 
-  answer_moves : (a : Answer) → r ≡ Given a → move t bytes l (at.Requirement k) c ≡ moves [] (at.Answered k a) c₁
+  answer_moves : (a : Answer) → r ≡ Ok a → move t bytes l (at.Requirement k) c ≡ moves [] (at.Answered k a) c₁
   unfolding figures_of is_given
   answer_moves a e = move_requirement t bytes l c k one ∙ go reply refl
     where
@@ -147,7 +146,7 @@ module _ (t : Tally) (bytes : List ℕ) (l : Lent) (c : Columns) (k : ℕ) (one 
           rw (same, there)
       go (refused why) f = absurd (true≢false (sym (ap is_given (sym (w.reply ∙ ap (replied t l) f) ∙ e))))
 
-  refused_moves : (why : Refusal) → r ≡ Refused why → (move t bytes l (at.Requirement k) c ≡ refuses why) × (c₁ ≡ c)
+  refused_moves : (why : Refusal) → r ≡ Err why → (move t bytes l (at.Requirement k) c ≡ refuses why) × (c₁ ≡ c)
   unfolding is_given
   refused_moves why e = go reply refl
     where
@@ -159,17 +158,17 @@ module _ (t : Tally) (bytes : List ℕ) (l : Lent) (c : Columns) (k : ℕ) (one 
             w.written ∙ ap (λ (y : Reply Requirement). left (λ q. with_lines (kept_answer t l q)) y c) f,
           )
         where
-          refusal_of : Refusal → Answered → Refusal
-          refusal_of other (Given a) = other
-          refusal_of other (Refused y) = y
+          refusal_of : Refusal → Result Answer Refusal → Refusal
+          refusal_of other (Ok a) = other
+          refusal_of other (Err y) = y
 
   pub answer_then :
-      (a : Answer) → r ≡ Given a → {done : ℕ} {old new : List ℕ} {s : Step} → done ≤ length old → Turns t bytes l (at.Answered k a) c₁ done old s c₁ new →
+      (a : Answer) → r ≡ Ok a → {done : ℕ} {old new : List ℕ} {s : Step} → done ≤ length old → Turns t bytes l (at.Answered k a) c₁ done old s c₁ new →
       Turns t bytes l (at.Requirement k) c done old s c₁ new
   answer_then a e fits x = record { runs = run_then (run_silent (answer_moves a e) fits) x.runs; less = x.less }
 
   pub answer_refused :
-      (why : Refusal) → r ≡ Refused why → {done : ℕ} {old : List ℕ} → done ≤ length old →
+      (why : Refusal) → r ≡ Err why → {done : ℕ} {old : List ℕ} → done ≤ length old →
       Turns t bytes l (at.Requirement k) c done old (record { at = at.Requirement k; done = done; halt = halt.Refused why }) c₁ old
   answer_refused why e {done} {old} fits =
       let x = refused_moves why e in

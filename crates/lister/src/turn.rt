@@ -9,9 +9,9 @@ ghost use Rattle.lister.specs.Steps.{lent_listing, halt_behind, Turns};
 use super::members::{amounts, list_units};
 use super::said::{say_interval, say_requirement, say_residual};
 use super::{Cursor, Halt, Step};
+use answer::Answer;
 use answer::call::answer;
 use answer::lent::columns_long;
-use answer::{Answer, Answered};
 use book::REQUIREMENT;
 use interval::Tally;
 use rules::Refusal;
@@ -342,7 +342,7 @@ fn from_requirement(
         unused,
     );
     match answered {
-        Answered::Given(given) => from_answered(
+        Ok(given) => from_answered(
             tally,
             requirement,
             given,
@@ -357,7 +357,7 @@ fn from_requirement(
             done,
             text,
         ),
-        Answered::Refused(refusal) => Step {
+        Err(refusal) => Step {
             at: Cursor::Requirement(requirement),
             done: done,
             halt: Halt::Refused(refusal),

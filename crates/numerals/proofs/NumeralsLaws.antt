@@ -1,4 +1,5 @@
 -- Laws of the definitions in specs/Numerals.antt.
+use Rattle.std.specs.Prelude.{Option, ℤ}
 use mathlib.Core.Path.{◌≡◌, sym, ◌∙◌, ap}
 use Prim.Native.Nat.{ℕ, zero, suc, ◌-◌, ◌≤◌, ◌<◌, ◌^◌}
 use native.Mathlib.Omega.{arith}
@@ -6,7 +7,6 @@ use lib.IntN.{pos, negsuc, neg_ℤ}
 use borrow.Author.Tests.{le-ltb}
 use Rattle.rules.specs.Bytes.{signed}
 use Rattle.numerals.specs.declared.Word.{Word}
-use Rattle.numerals.specs.declared.Value.{Value}
 use Rattle.numerals.specs.Numerals.{most, blank, byte_added, number_of}
 
 -- any two replies that a promise allows are equal
@@ -16,7 +16,7 @@ no_word_only a b = a ∙ sym b
 pub longer_only : (word : Word) (byte : ℕ) {r s : Word} → r ≡ byte_added word byte → s ≡ byte_added word byte → r ≡ s
 longer_only word byte a b = a ∙ sym b
 
-pub number_in_only : (word : Word) {r s : Value} → r ≡ number_of word → s ≡ number_of word → r ≡ s
+pub number_in_only : (word : Word) {r s : Option ℤ} → r ≡ number_of word → s ≡ number_of word → r ≡ s
 number_in_only word a b = a ∙ sym b
 
 -- ---- the bits of a number below zero

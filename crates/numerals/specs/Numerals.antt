@@ -1,8 +1,6 @@
 -- A word as a whole number within i64, a byte at a time: a word so far, the same with a byte more, and the number that it is.
-use Rattle.std.specs.Prelude.{true, false, cond, ℕ, ◌+◌, ◌*◌, ◌-◌, ◌^◌, eqb, ltb, leb, pos, neg_ℤ}
+use Rattle.std.specs.Prelude.{true, false, cond, ℕ, ◌+◌, ◌*◌, ◌-◌, ◌^◌, eqb, ltb, leb, pos, neg_ℤ, Option, Some, None, ℤ}
 use Rattle.numerals.specs.declared.Word.{Word}
-use Rattle.numerals.specs.declared.Value.{Value}
-use Rattle.numerals.specs.declared.Value.TheVariants.{Is, None}
 
 -- the size of i64's least number, one more than its largest
 abbrev pub most : ℕ
@@ -33,13 +31,13 @@ byte_added w byte =
     (cond (ltb byte 48) (wrong_word w) (cond (ltb 57 byte) (wrong_word w) (digit_added w (byte - 48))))
 
 -- a number of this size with a minus before it
-abbrev pub below_zero : ℕ → Value
-below_zero size = cond (leb size most) (Is (neg_ℤ (pos size))) None
+abbrev pub below_zero : ℕ → Option ℤ
+below_zero size = cond (leb size most) (Some (neg_ℤ (pos size))) None
 
 -- and with none
-abbrev pub from_zero : ℕ → Value
-from_zero size = cond (ltb size most) (Is (pos size)) None
+abbrev pub from_zero : ℕ → Option ℤ
+from_zero size = cond (ltb size most) (Some (pos size)) None
 
 -- the number that a word is
-abbrev pub number_of : Word → Value
+abbrev pub number_of : Word → Option ℤ
 number_of w = cond w.fine (cond w.digits (cond w.minus (below_zero w.size) (from_zero w.size)) None) None

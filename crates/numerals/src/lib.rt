@@ -19,12 +19,6 @@ pub struct Word {
     pub fine: bool,
 }
 
-#[derive(Clone, Copy)]
-pub enum Value {
-    Is(i64),
-    None,
-}
-
 // A word of which nothing has come.
 pub fn no_word() -> Word
     ensures { result ≡ blank }
@@ -104,33 +98,33 @@ pub fn longer(word: Word, byte: u8) -> Word
 }
 
 // A number below zero, or -0, which is 0. The least i64 has no negative of its own, so it is taken from its bits.
-fn turned(size: u64) -> Value
+fn turned(size: u64) -> Option<i64>
     ensures { result ≡ below_zero size }
 {
     if MOST < size {
-        return Value::None;
+        return None;
     }
     if size == 0 {
-        return Value::Is(0);
+        return Some(0);
     }
-    Value::Is(signed_eight(u64::MAX - (size - 1)))
+    Some(signed_eight(u64::MAX - (size - 1)))
 }
 
 // What a word says that has come to its end.
-pub fn number_in(word: Word) -> Value
+pub fn number_in(word: Word) -> Option<i64>
     ensures { result ≡ number_of word }
 {
     if !word.fine {
-        return Value::None;
+        return None;
     }
     if !word.digits {
-        return Value::None;
+        return None;
     }
     if word.minus {
         return turned(word.size);
     }
     if MOST <= word.size {
-        return Value::None;
+        return None;
     }
-    Value::Is(signed_eight(word.size))
+    Some(signed_eight(word.size))
 }

@@ -1,4 +1,5 @@
 -- Laws of lines and pages that are put together from their end.
+use Rattle.std.specs.Prelude.{Ok, Err}
 use mathlib.Core.Path.{◌≡◌, refl, sym, ◌∙◌, ap, subst}
 use mathlib.Core.List.{List, [], ◌∷◌, ◌++◌, append_assoc, append-nil}
 use Prim.Native.Nat.{ℕ, zero, suc, ◌+◌, ◌-◌, ◌≤◌, ◌<◌}
@@ -11,7 +12,6 @@ use Rattle.rules.specs.declared.Refusal.TheVariants.{TooShort}
 use Rattle.rules.specs.Panel.{repeated, spaces, at_left, at_ends, labelled, figure}
 use Rattle.listing.specs.Pieces.{Room, Put, PutWhereRoom}
 use Rattle.listing.proofs.PiecesLaws.{put_before, put_there, room_after}
-use Rattle.pages.specs.declared.Drawn.TheVariants.{Done, Refused}
 use Rattle.pages.specs.Promises.{Draws}
 use Rattle.pages.proofs.RepeatedLaws.{repeated_long, repeated_joined}
 use Rattle.pages.proofs.FigureLaws.{placed_long}
@@ -52,10 +52,10 @@ left_ends left = ap (λ (l : List ℕ). left ++ l) (append-nil (spaces (20 - (le
 
 -- ---- what is drawn at the front of a text
 module _ {places : ℕ} {drawing old : List ℕ} where
-  pub drawn_there : {new : List ℕ} → places ≤ length old → Put drawing places old 0 new → Draws places drawing old Done new
+  pub drawn_there : {new : List ℕ} → places ≤ length old → Put drawing places old 0 new → Draws places drawing old (Ok tt) new
   drawn_there h p = record { reply = rw (le-leb places (length old) h); written = rw (le-leb places (length old) h) p.bytes }
 
-  pub drawn_not : length old < places → Draws places drawing old (Refused TooShort) old
+  pub drawn_not : length old < places → Draws places drawing old (Err TooShort) old
   drawn_not h = record { reply = rw (lt-leb places (length old) h); written = rw (lt-leb places (length old) h) }
 
 -- three labelled figures, from the last line up
@@ -115,14 +115,14 @@ unit_short number h = omega (arith, digits_few 4 20 number (omega arith))
 
 -- ---- a page: line one before the three figures
 pub page_put : {top rest old mid new : List ℕ} {at r : ℕ} → at ≡ 20 → r ≡ 0 → 80 ≤ length old → Put rest 80 old at mid → Put top 20 mid r new →
-    Draws 80 (top ++ rest) old Done new
+    Draws 80 (top ++ rest) old (Ok tt) new
 page_put {top} {rest} {old} {mid} {new} {at} {r} e z h p q =
     drawn_there h
     (put_before (subst (λ (k : ℕ). Put rest 80 old k mid) e p) (subst (λ (k : ℕ). Put top 20 mid k new) z q))
 
 -- line one, and spaces to the end
 pub phrase_put : (said : List ℕ) {old mid new : List ℕ} {at r : ℕ} → length said ≤ 20 → 80 ≤ length old → Put (repeated 32 60) 80 old at mid →
-    PutWhereRoom (length (at_left 20 said)) (at_left 20 said) at mid r new → Draws 80 (at_left 80 said) old Done new
+    PutWhereRoom (length (at_left 20 said)) (at_left 20 said) at mid r new → Draws 80 (at_left 80 said) old (Ok tt) new
 phrase_put said {old} {mid} {new} {at} {r} short h p q =
     let n = length said in
     let long : length (at_left 20 said) ≡ 20 = length-append said (spaces (20 - n)) ∙ omega (arith, repeated_long 32 (20 - n)) in
@@ -140,7 +140,7 @@ phrase_put said {old} {mid} {new} {at} {r} short h p q =
 -- a figure, from the end of a line of its own
 pub figure_drawn : (x : ℤ) {line old new part : List ℕ} {start r : ℕ} {a : List ℕ} → length line ≡ 20 → 16 ≤ length old →
     Put (figure x) 20 line start a → part ≡ take (20 - start) (drop start a) →
-    PutWhereRoom (length part) part 16 old r new → Draws 16 (figure x) old Done new
+    PutWhereRoom (length part) part 16 old r new → Draws 16 (figure x) old (Ok tt) new
 figure_drawn x {line} {old} {new} {part} {start} {r} e h p cut q =
     let is : part ≡ figure x = cut ∙ line_part e p in
     let long : length part ≡ 16 = ap length is ∙ placed_long (integer x) in

@@ -1,4 +1,6 @@
 -- No promise allows two answers: any two that it allows are the same.
+use Rattle.std.specs.Prelude.{Result, ⊤}
+use Rattle.rules.specs.declared.Refusal.{Refusal}
 use mathlib.Core.Path.{◌≡◌, sym, ◌∙◌}
 use mathlib.Core.List.{List}
 use Prim.Native.Nat.{ℕ}
@@ -7,14 +9,13 @@ use Rattle.rules.specs.declared.Direction.{Direction}
 use Rattle.rules.specs.Answer.{Line}
 use Rattle.rules.specs.Panel.{at_left, figure, first_page, member_page, refusal_page}
 use Rattle.rules.specs.Phrases.{phrase}
-use Rattle.pages.specs.declared.Drawn.{Drawn}
 use Rattle.pages.specs.Promises.{Draws}
 
-drawing_only : (places : ℕ) (drawing old : List ℕ) {r r' : Drawn} {new new' : List ℕ} → Draws places drawing old r new →
+drawing_only : (places : ℕ) (drawing old : List ℕ) {r r' : Result ⊤ Refusal} {new new' : List ℕ} → Draws places drawing old r new →
     Draws places drawing old r' new' → (r ≡ r') × (new ≡ new')
 drawing_only places drawing old p q = (p.reply ∙ sym q.reply, p.written ∙ sym q.written)
 
-module _ (old : List ℕ) {r r' : Drawn} {new new' : List ℕ} where
+module _ (old : List ℕ) {r r' : Result ⊤ Refusal} {new new' : List ℕ} where
   pub figure_only : (x : ℤ) → Draws 16 (figure x) old r new → Draws 16 (figure x) old r' new' → (r ≡ r') × (new ≡ new')
   figure_only x = drawing_only 16 (figure x) old
 

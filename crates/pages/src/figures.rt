@@ -8,7 +8,7 @@ ghost use Rattle.pages.specs.Promises.{Draws};
 
 use super::amounts::signed_amount;
 use super::pieces::put_repeated;
-use super::{Amount, Drawn, FIGURE, LINE};
+use super::{Amount, FIGURE, LINE};
 use listing::pieces::{put_number, put_word};
 use rules::Refusal;
 
@@ -55,14 +55,14 @@ pub(crate) fn put_figure(x: Amount, at: usize, text: &mut [u8]) -> usize
 }
 
 // Draws a figure at the front of the text. Refuses 12 for a text under 16 bytes.
-pub fn figure(x: i64, text: &mut [u8]) -> Drawn
+pub fn figure(x: i64, text: &mut [u8]) -> Result<(), Refusal>
     ensures { Draws 16 (drawn x) text.old result text.new }
 {
     if text.len() < FIGURE {
-        return Drawn::Refused(Refusal::TooShort);
+        return Err(Refusal::TooShort);
     }
     let mut line = [0u8; LINE];
     let start = put_figure(signed_amount(x), LINE, &mut line);
     put_word(&line[start..], FIGURE, text);
-    Drawn::Done
+    Ok(())
 }

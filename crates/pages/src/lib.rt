@@ -10,8 +10,6 @@ pub mod page;
 pub mod phrases;
 mod pieces;
 
-use rules::Refusal;
-
 // How many bytes the text of a page has, one of its lines, and a figure behind its label.
 pub const PAGE: usize = 80;
 
@@ -31,11 +29,4 @@ pub(crate) struct Amount {
 pub enum Who {
     Unit(u16),
     Residual,
-}
-
-// The text is drawn, or the refusal.
-#[derive(Clone, Copy)]
-pub enum Drawn {
-    Done,
-    Refused(Refusal),
 }

@@ -6,7 +6,7 @@ ghost use Rattle.pages.specs.Promises.{Draws, line_of};
 use super::lines::{put_labelled, put_member, put_requirement};
 use super::phrases::phrase;
 use super::pieces::put_repeated;
-use super::{Drawn, LINE, PAGE, Who};
+use super::{LINE, PAGE, Who};
 use listing::pieces::put_word;
 use rules::{Direction, Refusal, Standing};
 
@@ -18,17 +18,17 @@ pub fn first_page(
     pool: i64,
     cost: i64,
     text: &mut [u8],
-) -> Drawn
+) -> Result<(), Refusal>
     ensures { Draws 80 (first_page number direction rcr pool cost) text.old result text.new }
 {
     if text.len() < PAGE {
-        return Drawn::Refused(Refusal::TooShort);
+        return Err(Refusal::TooShort);
     }
     let fourth = put_labelled(b"COST", cost, PAGE, text);
     let third = put_labelled(b"POOL", pool, fourth, text);
     put_labelled(b"RCR ", rcr, third, text);
     put_requirement(number, direction, text);
-    Drawn::Done
+    Ok(())
 }
 
 // A member's page: its name and standing, payment, used and unused.
@@ -39,28 +39,28 @@ pub fn member_page(
     used: i64,
     unused: i64,
     text: &mut [u8],
-) -> Drawn
+) -> Result<(), Refusal>
     ensures { Draws 80 (member_page (line_of who standing payment used unused)) text.old result text.new }
 {
     if text.len() < PAGE {
-        return Drawn::Refused(Refusal::TooShort);
+        return Err(Refusal::TooShort);
     }
     let fourth = put_labelled(b"IDLE", unused, PAGE, text);
     let third = put_labelled(b"USED", used, fourth, text);
     put_labelled(b"PAY ", payment, third, text);
     put_member(who, standing, text);
-    Drawn::Done
+    Ok(())
 }
 
 // A refusal's page: its phrase, and spaces.
-pub fn refusal_page(number: u32, text: &mut [u8]) -> Drawn
+pub fn refusal_page(number: u32, text: &mut [u8]) -> Result<(), Refusal>
     ensures { Draws 80 (refusal_page number) text.old result text.new }
 {
     if text.len() < PAGE {
-        return Drawn::Refused(Refusal::TooShort);
+        return Err(Refusal::TooShort);
     }
     let said = phrase(number);
     let start = put_repeated(b' ', PAGE - LINE, PAGE, text);
     put_word(&said, start, text);
-    Drawn::Done
+    Ok(())
 }

@@ -8,10 +8,6 @@ pub(crate) fn put_repeated(byte: u8, count: usize, at: usize, text: &mut [u8]) -
     ensures { Put (repeated byte count) at text.old result text.new }
 {
     let from = at - count;
-    let mut to = at;
-    while from < to {
-        to -= 1;
-        text[to] = byte;
-    }
-    to
+    text[from..at].fill(byte);
+    from
 }

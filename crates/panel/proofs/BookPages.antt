@@ -1,6 +1,8 @@
 -- WHAT AN OPERATOR READS IS THE RULES' ANSWER: once all units of a book are in, `answer` is asked about a requirement, and its reply and columns are handed to
 -- key presses, each press shows the page of the rules' answer that the step turns to. What `answer` wrote is read back row by row, and the rows of the
 -- requirement's regions name the answer's lines in their order.
+use Rattle.std.specs.Prelude.{Result}
+use Rattle.rules.specs.declared.Refusal.{Refusal}
 use mathlib.Core.Path.{◌≡◌, refl, sym, ◌∙◌, ap}
 use mathlib.Core.Bool.{true, false, ◌&&◌}
 use mathlib.Core.List.{List, [], ◌∷◌, ◌++◌, map}
@@ -32,15 +34,14 @@ use Rattle.kept.specs.Kept.{figure, row_standing, residual_row}
 use Rattle.kept.specs.Range.{from_0, region_fine, unit_fine, series_fine, figures_fine, rows_fine}
 use Rattle.chain.specs.Answerable.{Answerable}
 use Rattle.chain.proofs.ChainLaws.{all_listed}
+use Rattle.answer.specs.declared.Answer.{Answer}
 use Rattle.answer.specs.Lists.{headed}
 use Rattle.answer.proofs.Lists.{headed_length}
 use Rattle.answer.specs.Roster.{Named}
-use Rattle.answer.specs.declared.Answered.{Answered}
 use Rattle.answer.specs.Promises.{Columns, columns_long, last_standing, shown, with_lines, AnswerPromise}
 use Rattle.answer.specs.BookAnswered.{line_named}
 use Rattle.answer.proofs.BookAnswered.{figures_answered, lines_named}
 use Rattle.panel.specs.declared.Shown.{Shown}
-use Rattle.panel.specs.declared.Pressed.{Pressed}
 use Rattle.panel.specs.Press.{
   Cents,
   press_long,
@@ -230,7 +231,7 @@ module _ {b : Book} {t : Tally} {l : Lent} (h : Answerable b t l) where
       decided text room = past_tests t part told l column text turn (long_enough text room) fine asked ∙ rw (eq-eqb _ _ many)
 
       pressed :
-          (p : Page) (key : Key) (number : ℕ) {text text' : List ℕ} {x : Pressed} → page_places ≤ length text →
+          (p : Page) (key : Key) (number : ℕ) {text text' : List ℕ} {x : Result Page Refusal} → page_places ≤ length text →
           PressPromise p key number t part told l column text x text' → PageShown b q p key number text x text'
       pressed p key number {text} room w =
           let e = decided (length text) room in
@@ -243,7 +244,7 @@ module _ {b : Book} {t : Tally} {l : Lent} (h : Answerable b t l) where
           }
 
     given_shown :
-        {old new : Columns} {r : Answered} → columns_long t.units old ≡ true → AnswerPromise t part l old r new → BookPages b t l part q r new
+        {old new : Columns} {r : Result Answer Refusal} → columns_long t.units old ≡ true → AnswerPromise t part l old r new → BookPages b t l part q r new
     given_shown {old} long w =
         let a = figures_answered h part q asked long w in
         rw (a.reply, a.written) (record { given = refl; pressed = pressed old long })

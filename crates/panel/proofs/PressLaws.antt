@@ -1,4 +1,5 @@
 -- Laws of a key press: how turning to the page and the press meet their promises, and what is known of a page that is drawn and of a short text.
+use Rattle.std.specs.Prelude.{Result, Ok, Err, ⊤}
 use mathlib.Core.Path.{◌≡◌, refl, ◌∙◌, ap}
 use mathlib.Core.Bool.{Bool, true, false, ◌&&◌}
 use mathlib.Core.List.{List}
@@ -21,11 +22,8 @@ use Rattle.interval.specs.declared.Tally.{Tally}
 use Rattle.interval.specs.Tally.{in_range, answer_turn}
 use Rattle.interval.specs.Lent.{Lent, figures_length}
 use Rattle.answer.proofs.CallLaws.{record_fine}
-use Rattle.pages.specs.declared.Drawn.{Drawn}
 use Rattle.pages.specs.Promises.{Draws}
 use Rattle.panel.specs.declared.Shown.{Shown}
-use Rattle.panel.specs.declared.Pressed.{Pressed}
-use Rattle.panel.specs.declared.Pressed.TheVariants as pressed
 use Rattle.panel.specs.Press.{
   Cents,
   press_long_by,
@@ -45,11 +43,11 @@ use Rattle.panel.proofs.KeysLaws.{step_there}
 
 -- ---- turning to the page
 module _ (p : Page) (key : Key) (book units : ℕ) (q : Requirement) (s : Shown) (l : Lent) (c : Cents) (old : List ℕ) where
-  pub another_number : (s.members ≡ members_of units l.homes q → ⊥) → TurnPromise p key book units q s l c old (pressed.Refused WrongState) old
+  pub another_number : (s.members ≡ members_of units l.homes q → ⊥) → TurnPromise p key book units q s l c old (Err WrongState) old
   another_number h = let e = ne_eqb s.members (members_of units l.homes q) h in record { reply = rw e; written = rw e }
 
   pub turned :
-      {r : Drawn} {new : List ℕ} → s.members ≡ members_of units l.homes q → page_places ≤ length old →
+      {r : Result ⊤ Refusal} {new : List ℕ} → s.members ≡ members_of units l.homes q → page_places ≤ length old →
       Draws page_places (shown_page units l q s c (page_then p key book s q).page) old r new →
       TurnPromise p key book units q s l c old (told_as (page_then p key book s q) r) new
   turned e room d =
@@ -82,7 +80,7 @@ pub record PageThere (book : ℕ) (t : Tally) (part : List ℕ) (s : Shown) (l :
   pub of_requirement : then.requirement ≡ q.number
 
 was_drawn :
-    (y : Reply Requirement) (f : Requirement → Page) {then : Page} → pressed.Drawn then ≡ pressed_as f y →
+    (y : Reply Requirement) (f : Requirement → Page) {then : Page} → Ok then ≡ pressed_as f y →
     (q : Requirement) × (y ≡ taken q) × (then ≡ f q)
 was_drawn (taken q) f e = (q, refl, cc)
 was_drawn (refused x) f e = let z : ◌≡◌ {A = ℕ} 0 1 = cc in absurd (omega arith)
@@ -120,16 +118,16 @@ module _ (t : Tally) (part : List ℕ) (s : Shown) (l : Lent) (c : Cents) (text 
 
 -- ---- the press, by its reply
 module _ (p : Page) (key : Key) (book : ℕ) (t : Tally) (part : List ℕ) (s : Shown) (l : Lent) (c : Cents) (old : List ℕ) where
-  pub refuses : (x : Refusal) → press_reply t part s l c (length old) ≡ refused x → PressPromise p key book t part s l c old (pressed.Refused x) old
+  pub refuses : (x : Refusal) → press_reply t part s l c (length old) ≡ refused x → PressPromise p key book t part s l c old (Err x) old
   refuses x e = record { reply = rw e; written = rw e }
 
   pub turns :
-      {q : Requirement} {r : Pressed} {new : List ℕ} → press_reply t part s l c (length old) ≡ members_told t.units l.homes s q →
+      {q : Requirement} {r : Result Page Refusal} {new : List ℕ} → press_reply t part s l c (length old) ≡ members_told t.units l.homes s q →
       TurnPromise p key book t.units q s l c old r new → PressPromise p key book t part s l c old r new
   turns e w = record { reply = rw e w.reply; written = rw e w.written }
 
   pub page_there :
-      {then : Page} {new : List ℕ} → PressPromise p key book t part s l c old (pressed.Drawn then) new → (q : Requirement) × PageThere book t part s l q then
+      {then : Page} {new : List ℕ} → PressPromise p key book t part s l c old (Ok then) new → (q : Requirement) × PageThere book t part s l q then
   unfolding press_reply
   page_there {then} w =
       let drawn = was_drawn (press_reply t part s l c (length old)) (page_then p key book s) w.reply in
@@ -152,8 +150,8 @@ module _ (p : Page) (key : Key) (book : ℕ) (t : Tally) (part : List ℕ) (s : 
 
   -- ---- a short text, of a book at its turn, is told, and kept
   pub refused_kept :
-      {r : Pressed} {new : List ℕ} → (in_range t && answer_turn t) ≡ true → length old < page_places → PressPromise p key book t part s l c old r new →
-      (r ≡ pressed.Refused TooShort) × (new ≡ old)
+      {r : Result Page Refusal} {new : List ℕ} → (in_range t && answer_turn t) ≡ true → length old < page_places → PressPromise p key book t part s l c old r new →
+      (r ≡ Err TooShort) × (new ≡ old)
   unfolding press_reply
   refused_kept turn short w =
       let long = too_short (press_long t.units l c (length old)) refl in

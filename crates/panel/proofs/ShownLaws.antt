@@ -1,4 +1,6 @@
 -- Laws of what a page shows: the first page the requirement, any other the line of the member before it.
+use Rattle.std.specs.Prelude.{Result, ⊤}
+use Rattle.rules.specs.declared.Refusal.{Refusal}
 use mathlib.Core.Path.{◌≡◌, refl, sym, ◌∙◌, ap, subst}
 use mathlib.Core.Bool.{Bool, true, false, cond}
 use mathlib.Core.List.{List}
@@ -14,7 +16,6 @@ use Rattle.rules.specs.declared.Direction.{Direction}
 use Rattle.rules.specs.Text.{natural}
 use Rattle.rules.specs.Panel.{page_places, figure, first_page, member_page}
 use Rattle.interval.specs.Lent.{Lent}
-use Rattle.pages.specs.declared.Drawn.{Drawn}
 use Rattle.pages.specs.Promises.{Draws, line_of}
 use Rattle.panel.specs.declared.Shown.{Shown}
 use Rattle.panel.specs.declared.who.Named.{Named}
@@ -50,7 +51,7 @@ module _ (units : ℕ) (l : Lent) (q : Requirement) (s : Shown) (c : Cents) wher
   unfolding shown_line
   line_is n hx hy hz = rw (n.name, n.standing, hx, hy, hz)
 
-  module _ {old : List ℕ} {r : Drawn} {new : List ℕ} where
+  module _ {old : List ℕ} {r : Result ⊤ Refusal} {new : List ℕ} where
     pub first_shown :
         {page : ℕ} {x y z : ℤ} → page ≡ 0 → x ≡ drawn_alike s.rcr → y ≡ drawn_alike s.pool → z ≡ drawn_alike q.cost →
         Draws page_places (first_page q.number q.direction x y z) old r new → Draws page_places (shown_page units l q s c page) old r new

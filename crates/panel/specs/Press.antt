@@ -1,6 +1,7 @@
 -- What a key press promises, completely: its reply, with the page record, and every byte of the text, on refusals too (02, R-13). The page is the step's; what
 -- it shows is read off what the calls have kept of the book, by the rows of the requirement's regions in roster order, and off the answer's reply and columns.
-use Rattle.std.specs.Prelude.{◌≡◌, Bool, false, cond, ◌&&◌, List, ◌++◌, ℕ, zero, suc, ◌+◌, ◌*◌, ◌/◌, eqb, leb, ltb, ℤ, pos, length, get_or, drop}
+use Rattle.rules.specs.declared.Refusal.{Refusal}
+use Rattle.std.specs.Prelude.{◌≡◌, Bool, false, cond, ◌&&◌, List, ◌++◌, ℕ, zero, suc, ◌+◌, ◌*◌, ◌/◌, eqb, leb, ltb, ℤ, pos, length, get_or, drop, Result, Ok, Err}
 use Rattle.integers.specs.Sums.{every}
 use Rattle.integers.specs.Totals.{those}
 use Rattle.rules.specs.declared.Page.{Page}
@@ -23,8 +24,6 @@ use Rattle.interval.specs.Calls.{left}
 use Rattle.kept.specs.Kept.{row_standing}
 use Rattle.kept.specs.Range.{from_0}
 use Rattle.panel.specs.declared.Shown.{Shown}
-use Rattle.panel.specs.declared.Pressed.{Pressed}
-use Rattle.panel.specs.declared.Pressed.TheVariants.{Drawn, Refused}
 
 -- three columns of an answer: payment, used and unused of each member
 pub record Cents : Type 0 where
@@ -115,9 +114,9 @@ page_then p key book s q = step p key book q.number s.members
 abbrev pub text_then : ℕ → Lent → Shown → Cents → (Requirement → Page) → Requirement → List ℕ → List ℕ
 text_then units l s c then q text = shown_page units l q s c (then q).page ++ drop page_places text
 
-abbrev pub pressed_as : (Requirement → Page) → Reply Requirement → Pressed
-pressed_as then (taken q) = Drawn (then q)
-pressed_as then (refused r) = Refused r
+abbrev pub pressed_as : (Requirement → Page) → Reply Requirement → Result Page Refusal
+pressed_as then (taken q) = Ok (then q)
+pressed_as then (refused r) = Err r
 
 pub record PressPromise
     (p : Page)
@@ -129,7 +128,7 @@ pub record PressPromise
     (l : Lent)
     (c : Cents)
     (old : List ℕ)
-    (r : Pressed)
+    (r : Result Page Refusal)
     (new : List ℕ)
     : Type 0 where
   pub reply : r ≡ pressed_as (page_then p key book s) (press_reply t part s l c (length old))

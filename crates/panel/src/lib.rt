@@ -19,10 +19,3 @@ pub struct Shown {
     pub pool: u64,
     pub residual: Standing,
 }
-
-// The page that is drawn, for the record; or the refusal, with the record as it was.
-#[derive(Clone, Copy)]
-pub enum Pressed {
-    Drawn(Page),
-    Refused(Refusal),
-}

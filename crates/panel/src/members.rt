@@ -18,12 +18,10 @@ pub(crate) fn rows_in(set: u8, units: usize, homes: &[u8]) -> u16
     ensures { (result ≡ length (set_rows set units homes.now)) × (result ≤ units) }
 {
     let mut rows: u16 = 0;
-    let mut row: usize = 0;
-    while row < units {
+    for row in 0..units {
         if in_set(set, homes[row]) {
             rows += 1;
         }
-        row += 1;
     }
     rows
 }
@@ -34,15 +32,13 @@ pub(crate) fn row_of(member: u32, set: u8, units: usize, homes: &[u8]) -> usize
     ensures { RowFound set units homes.now member result }
 {
     let mut before = member;
-    let mut at: usize = 0;
-    while at < units {
+    for at in 0..units {
         if in_set(set, homes[at]) {
             if before == 0 {
                 return at;
             }
             before -= 1;
         }
-        at += 1;
     }
     units
 }

@@ -8,16 +8,15 @@ ghost use Rattle.panel.specs.Press.{cents, shown_page, PressPromise};
 ghost use Rattle.panel.specs.Past.{Ready};
 ghost use Rattle.panel.specs.Turned.{drawn_alike, told_as, TurnPromise};
 
+use super::Shown;
 use super::keys::pressed;
 use super::members::rows_in;
 use super::tested::{lengths_enough, lent_in_range};
 use super::who::member_at;
-use super::{Pressed, Shown};
+use book::RequirementFields;
 use book::requirement::read_requirement;
-use book::{RequirementFields, RequirementRead};
 use interval::Tally;
 use interval::turns::answer_turn;
-use pages::Drawn;
 use pages::page::{first_page, member_page};
 use rules::{Key, Page, Refusal};
 
@@ -35,13 +34,11 @@ fn unsigned(n: u64) -> i64
 }
 
 // The page as it is drawn, for the record.
-fn told(page: Page, drawn: Drawn) -> Pressed
+fn told(page: Page, drawn: Result<(), Refusal>) -> Result<Page, Refusal>
     ensures { result ≡ told_as page drawn }
 {
-    match drawn {
-        Drawn::Done => Pressed::Drawn(page),
-        Drawn::Refused(refusal) => Pressed::Refused(refusal),
-    }
+    drawn?;
+    Ok(page)
 }
 
 // Draws a page of the requirement: 0 is the first, any other that of the member before it.
@@ -57,7 +54,7 @@ fn draw(
     used: &[i64],
     unused: &[i64],
     text: &mut [u8],
-) -> Drawn
+) -> Result<(), Refusal>
     requires { Ready tally fields.set (lent_member no_lists figures.now numbers.now homes.now)
         (cents payments.now used.now unused.now) (length text.old) × (page ≤ tally.units + 1) }
     ensures { (rest : Lent) → Draws 80 (shown_page tally.units
@@ -98,7 +95,7 @@ fn turn_to(
     used: &[i64],
     unused: &[i64],
     text: &mut [u8],
-) -> Pressed
+) -> Result<Page, Refusal>
     requires { Ready tally fields.set (lent_member no_lists figures.now numbers.now homes.now)
         (cents payments.now used.now unused.now) (length text.old) }
     ensures { (rest : Lent) → TurnPromise page key book tally.units (required fields) shown
@@ -107,7 +104,7 @@ fn turn_to(
 {
     let members = rows_in(fields.set, tally.units as usize, homes) + 1;
     if shown.members != members {
-        return Pressed::Refused(Refusal::WrongState);
+        return Err(Refusal::WrongState);
     }
     let then = pressed(page, key, book, fields.number as u32, members as u32);
     let drawn = draw(
@@ -133,13 +130,13 @@ pub fn press(
     used: &[i64],
     unused: &[i64],
     text: &mut [u8],
-) -> Pressed
+) -> Result<Page, Refusal>
     ensures { (rest : Lent) → PressPromise page key book tally part.now shown
         (lent_member rest figures.now numbers.now homes.now)
         (cents payments.now used.now unused.now) text.old result text.new }
 {
     if !answer_turn(tally) {
-        return Pressed::Refused(Refusal::WrongState);
+        return Err(Refusal::WrongState);
     }
     let units = tally.units as usize;
     if !lengths_enough(
@@ -152,16 +149,14 @@ pub fn press(
         unused.len(),
         text.len(),
     ) {
-        return Pressed::Refused(Refusal::TooShort);
+        return Err(Refusal::TooShort);
     }
     if !lent_in_range(tally.interval, units, figures, homes) {
-        return Pressed::Refused(Refusal::WrongState);
+        return Err(Refusal::WrongState);
     }
-    match read_requirement(part, 0, false) {
-        RequirementRead::Taken(fields) => turn_to(
-            page, key, book, tally, fields, shown, figures, numbers, homes, payments, used, unused,
-            text,
-        ),
-        RequirementRead::Refused(refusal) => Pressed::Refused(refusal),
-    }
+    let fields = read_requirement(part, 0, false)?;
+    turn_to(
+        page, key, book, tally, fields, shown, figures, numbers, homes, payments, used, unused,
+        text,
+    )
 }

@@ -51,12 +51,10 @@ fn homes_in_range(units: usize, homes: &[u8]) -> bool
     requires { units ≤ length homes.now }
     ensures { result ≡ homes_fine units homes.now }
 {
-    let mut row: usize = 0;
-    while row < units {
+    for row in 0..units {
         if PASSED_OVER < homes[row] {
             return false;
         }
-        row += 1;
     }
     true
 }
@@ -77,12 +75,10 @@ fn reliabilities_in_range(figures: &[i64]) -> bool
     requires { 50 ≤ length figures.now }
     ensures { result ≡ reliabilities_fine figures.now }
 {
-    let mut region: usize = 0;
-    while region < REGIONS {
+    for region in 0..REGIONS {
         if !reliable_in_range(region, figures) {
             return false;
         }
-        region += 1;
     }
     true
 }

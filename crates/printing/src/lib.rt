@@ -30,10 +30,8 @@ pub fn put_bytes(bytes: &[u8], at: usize, text: &mut [u8; TEXT]) -> usize
     ensures { line result text.new ≡ with_bytes bytes.now (line at text.old) }
 {
     let mut to = at;
-    let mut i: usize = 0;
-    while i < bytes.len() {
-        to = put_byte(bytes[i], to, text);
-        i += 1;
+    for &byte in bytes {
+        to = put_byte(byte, to, text);
     }
     to
 }

@@ -1,4 +1,6 @@
 -- Laws of the definitions in specs/Reading.antt: what the code computes is theirs, and any two answers that a promise allows are equal.
+use Rattle.std.specs.Prelude.{Result, Ok, ⊤}
+use Rattle.rules.specs.declared.Located.{Located}
 use mathlib.Core.Path.{◌≡◌, refl, sym, ◌∙◌, ap, ap₂, subst}
 use mathlib.Core.Bool.{Bool, true, false, not, cond}
 use mathlib.Core.List.{List}
@@ -8,8 +10,6 @@ use native.Mathlib.Omega.{arith}
 use lib.ListN.{length, take, drop}
 use Rattle.rules.specs.Contents.{contents}
 use Rattle.interval.specs.declared.Tally.{Tally}
-use Rattle.interval.specs.declared.Taking as k
-use Rattle.interval.specs.declared.Taking.{Taking}
 use Rattle.interval.specs.declared.Step.{Step}
 use Rattle.interval.specs.Tally.{before_units, units_end}
 use Rattle.interval.specs.Lent.{Lent}
@@ -118,10 +118,10 @@ handed_record {t = t} {q = q} {l = l} {l'} {r} e f w =
     subst (λ (x : Reading). HandedOn x q l r l') (sym e) (subst (λ (p : List ℕ). RecordCame t p l r l') f w)
 
 pub after_taken :
-    {answer : Taking} (t : Tally) (end : Bool) → answer ≡ k.TheVariants.Taken → end ≡ is_end t.records t →
+    {answer : Result ⊤ Located} (t : Tally) (end : Bool) → answer ≡ Ok tt → end ≡ is_end t.records t →
     cond end (n.TheVariants.Taken t) (n.TheVariants.Wants (Record t 0)) ≡ after_record answer t
 after_taken t end e f =
-    ap (λ (b : Bool). cond b (n.TheVariants.Taken t) (n.TheVariants.Wants (Record t 0))) f ∙ ap (λ (a : Taking). after_record a t) (sym e)
+    ap (λ (b : Bool). cond b (n.TheVariants.Taken t) (n.TheVariants.Wants (Record t 0))) f ∙ ap (λ (a : Result ⊤ Located). after_record a t) (sym e)
 
 module _ {p : List ℕ} {r r₂ : Came} where
   contents_came_only : ContentsCame p r → ContentsCame p r₂ → r ≡ r₂

@@ -1,4 +1,6 @@
 -- One arrival: from where a walk stands it leads to such a place again, to the book's end, or to the format's refusal.
+use Rattle.std.specs.Prelude.{Result, Ok, Err, ⊤}
+use Rattle.rules.specs.declared.Refusal.{Refusal}
 use mathlib.Core.Path.{◌≡◌, refl, sym, ◌∙◌, ap, ap₂, subst}
 use mathlib.Core.Bool.{Bool, true, false, cond}
 use mathlib.Core.Logic.{◌⊎◌, inl, inr}
@@ -14,10 +16,6 @@ use Rattle.rules.specs.Refusals.{taken, refused}
 use Rattle.rules.specs.Contents.{contents, contents_size, requirement_size}
 use Rattle.rules.specs.WholeBook.{book}
 use Rattle.interval.specs.declared.Tally.{Tally}
-use Rattle.interval.specs.declared.Opened as o
-use Rattle.interval.specs.declared.Opened.{Opened}
-use Rattle.interval.specs.declared.Taking as k
-use Rattle.interval.specs.declared.Taking.{Taking}
 use Rattle.interval.specs.declared.Step.{Step}
 use Rattle.interval.specs.Tally.{before_units, units_end, book_end}
 use Rattle.interval.specs.Lent.{Lent}
@@ -233,11 +231,11 @@ module _
               call_alike s.chain (handed_alike looks)
               (subst (λ (q : List ℕ). Call (counts_in bs) q n t l step l') handed_is (chain_calls s.chain s.inside turn))
 
-          call_refused : {why : Located} → step.taking ≡ k.TheVariants.Refused why → Fair alone bs l₀ → book bs ≡ refused why
+          call_refused : {why : Located} → step.taking ≡ Err why → Fair alone bs l₀ → book bs ≡ refused why
           call_refused e fair =
               refused_here l₀ (hands_whole bs) fair.long fair.bytes s.chain (omega (arith, same_end, s.inside)) (call (looks_seen fair.seen)) e
 
-          module _ (h : step.taking ≡ k.TheVariants.Taken) where
+          module _ (h : step.taking ≡ Ok tt) where
             more : OneMore t step.tally
             more = one_more s.chain s.inside turn h
 
@@ -327,10 +325,10 @@ module _
             tally = w.step.tally
 
             go :
-                (x : Taking) → w.step.taking ≡ x → (e : Bool) → is_end tally.records tally ≡ e →
+                (x : Result ⊤ Located) → w.step.taking ≡ x → (e : Bool) → is_end tally.records tally ≡ e →
                 After alone bs l₀ count (p + count) (after_record x tally) new l'
-            go (k.TheVariants.Refused why) e _ _ = call_refused w.turn e
-            go k.TheVariants.Taken e x f =
+            go (Err why) e _ _ = call_refused w.turn e
+            go (Ok tt) e x f =
                 subst (λ (b : Bool). After alone bs l₀ count (p + count) (cond b (Taken tally) (Wants (Record tally 0))) new l') (sym f) (ends x f)
               where
                 o : OneMore t tally
@@ -396,12 +394,12 @@ module _
             subst (λ (q : List ℕ). Alike contents_size q bs) (sym same) (whole contents_size bs)
 
     table_promise :
-        {x : Opened} → ContentsPromise (there_of (span_of (Contents got) alone) (wanted_part (Contents got) alone (length new)) count new) x →
+        {x : Result Tally Refusal} → ContentsPromise (there_of (span_of (Contents got) alone) (wanted_part (Contents got) alone (length new)) count new) x →
         ContentsPromise bs x
     table_promise {x} w = contents_alike table_alike (omega arith) (subst (λ (q : List ℕ). ContentsPromise q x) table_handed w)
 
     -- the book is opened
-    table_taken : {t : Tally} → ContentsPromise bs (o.TheVariants.Taken t) → (1 ≤ count) × AtRecord alone bs l₀ (p + count) t 0 new l₀
+    table_taken : {t : Tally} → ContentsPromise bs (Ok t) → (1 ≤ count) × AtRecord alone bs l₀ (p + count) t 0 new l₀
     unfolding record_start
     table_taken {t} w =
         let d : Chain bs (part_of bs) l₀ 0 t l₀ = begun w in
@@ -435,10 +433,10 @@ module _
     table_next {r} {l'} w e =
         subst (λ (x : Came). After alone bs l₀ count (p + count) x new l') (sym w.reply) (go w.opened (table_promise w.promise))
       where
-        go : (x : Opened) → ContentsPromise bs x → After alone bs l₀ count (p + count) (after_contents x) new l'
-        go (o.TheVariants.Taken t) q =
+        go : (x : Result Tally Refusal) → ContentsPromise bs x → After alone bs l₀ count (p + count) (after_contents x) new l'
+        go (Ok t) q =
             subst (λ (l : Lent). (1 ≤ count) × AtRecord alone bs l₀ (p + count) t 0 new l) (sym (e ∙ s.lent)) (table_taken q)
-        go (o.TheVariants.Refused x) q = λ fair. refused_book l₀ (hands_whole bs) fair.long fair.bytes (at_contents q refl)
+        go (Err x) q = λ fair. refused_book l₀ (hands_whole bs) fair.long fair.bytes (at_contents q refl)
 
 -- ---- ONE ARRIVAL
 -- no more comes than was wanted

@@ -1,13 +1,11 @@
 -- The reading of a book as a step: where the next bytes go, and what follows once so many have come. Any reading, any place and any bytes have one answer.
-use Rattle.std.specs.Prelude.{◌≡◌, Bool, cond, ◌&&◌, List, ℕ, ◌+◌, ◌*◌, ◌-◌, ◌≤◌, ◌<◌, min, eqb, length, take, drop}
+use Rattle.rules.specs.declared.Located.{Located}
+use Rattle.rules.specs.declared.Refusal.{Refusal}
+use Rattle.std.specs.Prelude.{◌≡◌, Bool, cond, ◌&&◌, List, ℕ, ◌+◌, ◌*◌, ◌-◌, ◌≤◌, ◌<◌, min, eqb, length, take, drop, Result, Ok, Err, ⊤}
 use Rattle.rules.specs.declared.Refusal.TheVariants.{WrongState}
 use Rattle.rules.specs.Refusals.{located}
 use Rattle.rules.specs.Contents.{contents_size, requirement_size}
 use Rattle.interval.specs.declared.Tally.{Tally}
-use Rattle.interval.specs.declared.Opened as o
-use Rattle.interval.specs.declared.Opened.{Opened}
-use Rattle.interval.specs.declared.Taking as k
-use Rattle.interval.specs.declared.Taking.{Taking}
 use Rattle.interval.specs.declared.Step.{Step}
 use Rattle.interval.specs.Tally.{units_end, book_end}
 use Rattle.interval.specs.Lent.{Lent}
@@ -58,16 +56,16 @@ abbrev pub there_of : Span → Wanted → ℕ → List ℕ → List ℕ
 there_of s w count bytes = take (w.from + count - s.start) (drop s.start bytes)
 
 -- what follows an opened book, and a record that went to its call
-abbrev pub after_contents : Opened → Came
-after_contents (o.TheVariants.Taken t) = c.TheVariants.Wants (Record t 0)
-after_contents (o.TheVariants.Refused x) = c.TheVariants.Refused (located 0 x)
+abbrev pub after_contents : Result Tally Refusal → Came
+after_contents (Ok t) = c.TheVariants.Wants (Record t 0)
+after_contents (Err x) = c.TheVariants.Refused (located 0 x)
 
-abbrev pub after_record : Taking → Tally → Came
-after_record k.TheVariants.Taken t = cond (is_end t.records t) (c.TheVariants.Taken t) (c.TheVariants.Wants (Record t 0))
-after_record (k.TheVariants.Refused why) t = c.TheVariants.Refused why
+abbrev pub after_record : Result ⊤ Located → Tally → Came
+after_record (Ok tt) t = cond (is_end t.records t) (c.TheVariants.Taken t) (c.TheVariants.Wants (Record t 0))
+after_record (Err why) t = c.TheVariants.Refused why
 
 pub record ContentsCame (p : List ℕ) (r : Came) : Type 0 where
-  pub opened : Opened
+  pub opened : Result Tally Refusal
   pub promise : ContentsPromise p opened
   pub reply : r ≡ after_contents opened
 

@@ -18,9 +18,9 @@ ghost use Rattle.reader.specs.Reading.{
 use super::turn::{size, take};
 use super::{Came, Reading, Span, Wanted};
 use book::{CONTENTS, REQUIREMENT};
+use interval::Tally;
 use interval::contents::contents;
 use interval::turns::BEFORE_UNITS;
-use interval::{Opened, Taking, Tally};
 use rules::{Refusal, locate};
 
 // No more than there are.
@@ -120,8 +120,8 @@ fn open(part: &[u8]) -> Came
 {
     let opened = contents(part);
     match opened {
-        Opened::Taken(tally) => Came::Wants(Reading::Record(tally, 0)),
-        Opened::Refused(refusal) => Came::Refused(locate(0, refusal)),
+        Ok(tally) => Came::Wants(Reading::Record(tally, 0)),
+        Err(refusal) => Came::Refused(locate(0, refusal)),
     }
 }
 
@@ -148,7 +148,7 @@ fn take_record(
         tally, part, measures, sums, figures, numbers, homes, rows, groups, deviations,
     );
     let taking = step.taking;
-    if let Taking::Refused(said) = taking {
+    if let Err(said) = taking {
         return Came::Refused(said);
     }
     let next = step.tally;

@@ -129,10 +129,8 @@ fn step(line: Line, c: u8, bytes: &mut [u8]) -> Line {
 
 fn pass(start: Line, text: &[u8], bytes: &mut [u8]) -> Line {
     let mut line = start;
-    let mut i: usize = 0;
-    while i < text.len() {
-        line = step(line, text[i], bytes);
-        i += 1;
+    for &byte in text {
+        line = step(line, byte, bytes);
     }
     line
 }
@@ -147,17 +145,14 @@ fn turn(line: Line, bytes: &mut [u8]) -> Passed {
     }
 }
 
-// The loop counts its turns down from a number that no input uses up.
+// No input uses up so many turns.
 pub(crate) fn all(bytes: &mut [u8]) {
     let mut line = fresh();
-    let mut turns = u64::MAX;
-    while turns > 0 {
+    for _ in 0..u64::MAX {
         let t = turn(line, bytes);
         if !t.more {
             return;
         }
-        let next = t.line;
-        line = next;
-        turns -= 1;
+        line = t.line;
     }
 }

@@ -1,26 +1,23 @@
 // Each record's reader, and its answer as a line.
 use super::say;
-use book::{
-    ContentsRead, FrequencyFields, FrequencyRead, RequirementFields, RequirementRead, SettingsRead,
-    Three, UnitFields, UnitRead,
-};
+use book::{FrequencyFields, RequirementFields, Three, UnitFields};
 use rules::{Direction, Kind};
 
 pub(crate) fn contents(bytes: &[u8]) {
     match book::contents::read_contents(bytes) {
-        ContentsRead::Taken(c) => {
+        Ok(c) => {
             say::taken();
             say::unsigned(c.units as u64);
             say::unsigned(c.requirements as u64);
             say::end();
         }
-        ContentsRead::Refused(r) => say::refused(r),
+        Err(r) => say::refused(r),
     }
 }
 
 pub(crate) fn settings(bytes: &[u8]) {
     match book::settings::read_settings(bytes) {
-        SettingsRead::Taken(s) => {
+        Ok(s) => {
             say::taken();
             say::unsigned(s.smoothing as u64);
             say::unsigned(s.limit as u64);
@@ -28,7 +25,7 @@ pub(crate) fn settings(bytes: &[u8]) {
             say::unsigned(s.interval as u64);
             say::end();
         }
-        SettingsRead::Refused(r) => say::refused(r),
+        Err(r) => say::refused(r),
     }
 }
 
@@ -55,11 +52,11 @@ fn frequency_fields(f: FrequencyFields) {
 
 pub(crate) fn frequency(bytes: &[u8], position: u32) {
     match book::frequency::read_frequency(bytes, (position % 256) as u8) {
-        FrequencyRead::Taken(f) => {
+        Ok(f) => {
             frequency_fields(f);
             say::end();
         }
-        FrequencyRead::Refused(r) => say::refused(r),
+        Err(r) => say::refused(r),
     }
 }
 
@@ -88,11 +85,11 @@ fn unit_fields(u: UnitFields) {
 
 pub(crate) fn unit(bytes: &[u8], least: u32) {
     match book::unit::read_unit(bytes, least) {
-        UnitRead::Taken(u) => {
+        Ok(u) => {
             unit_fields(u);
             say::end();
         }
-        UnitRead::Refused(r) => say::refused(r),
+        Err(r) => say::refused(r),
     }
 }
 
@@ -118,7 +115,7 @@ fn requirement_fields(q: RequirementFields) {
 
 pub(crate) fn requirement(bytes: &[u8], least: u32, last: bool) {
     match book::requirement::read_requirement(bytes, least, last) {
-        RequirementRead::Taken(q) => requirement_fields(q),
-        RequirementRead::Refused(r) => say::refused(r),
+        Ok(q) => requirement_fields(q),
+        Err(r) => say::refused(r),
     }
 }

@@ -14,7 +14,7 @@ use printing::print_refused;
 use rows::print_rows;
 use rules::{Refusal, locate};
 use std::io::Stdin;
-use version::{Asked, what_is_asked};
+use version::what_is_asked;
 
 // Standard error.
 const STDERR_FILENO: i32 = 2;
@@ -78,7 +78,7 @@ fn tell(version: u16, input: &mut Stdin) {
 fn main(rt: HostRuntime) {
     let mut input = rt.stdin();
     match what_is_asked(&rt) {
-        Asked::Version(version) => tell(version, &mut input),
-        Asked::Nothing => usage(),
+        Some(version) => tell(version, &mut input),
+        None => usage(),
     }
 }

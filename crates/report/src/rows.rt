@@ -1,27 +1,20 @@
 // The rows of a book that was taken, as text. They are gathered, and written whenever there may be no room for one more.
 ghost use Rattle.std.specs.Prelude.{◌≤◌};
 
-use answer::ReportFound;
 use answer::report::report;
 use intake::UNITS;
 use interval::{FIGURES_LENGTH, ROWS_LENGTH, Tally};
 use printing::print_refused;
+use report_row::ROW_MOST;
 use report_row::write::write_row;
-use report_row::{ROW_MOST, RowWritten};
 use rules::{Refusal, ReportRow, locate};
+use std::ops::ControlFlow;
 
 // Standard output.
 const STDOUT_FILENO: i32 = 1;
 
 // So many bytes of rows are gathered at most.
 const GATHERED: usize = 4_096;
-
-// The rows that are gathered end there, or the report is over, and it was written or not.
-#[derive(Clone, Copy)]
-enum Turn {
-    On(usize),
-    Over(bool),
-}
 
 // No more than there are.
 fn within(count: usize, most: usize) -> usize
@@ -39,33 +32,31 @@ fn write_rows(count: usize, text: &[u8; GATHERED]) -> bool {
     io::write_all(STDOUT_FILENO, &whole[0..end])
 }
 
-// Writes the rows that are gathered where the longest one has no room behind them.
-fn make_room(count: usize, text: &[u8; GATHERED]) -> Turn {
+// Writes the rows that are gathered where the longest one has no room behind them. Here and below: the rows that are gathered end there, or the report is over,
+// and it was written or not.
+fn make_room(count: usize, text: &[u8; GATHERED]) -> ControlFlow<bool, usize> {
     if count <= GATHERED - ROW_MOST {
-        return Turn::On(count);
+        return ControlFlow::Continue(count);
     }
     if write_rows(count, text) {
-        return Turn::On(0);
+        return ControlFlow::Continue(0);
     }
-    Turn::Over(false)
+    ControlFlow::Break(false)
 }
 
 // A row behind so many bytes. A year past 9999 is refused with the first row, before anything is written; nothing else is.
-fn put_row(row: ReportRow, count: usize, text: &mut [u8]) -> Turn {
+fn put_row(row: ReportRow, count: usize, text: &mut [u8]) -> ControlFlow<bool, usize> {
     let from = within(count, text.len());
     let room = text.len() - from;
     let written = write_row(row, &mut text[from..]);
     match written {
-        RowWritten::Length(length) => Turn::On(from + within(length as usize, room)),
-        RowWritten::Refused(refusal) => Turn::Over(print_refused(locate(0, refusal))),
+        Ok(length) => ControlFlow::Continue(from + within(length as usize, room)),
+        Err(refusal) => ControlFlow::Break(print_refused(locate(0, refusal))),
     }
 }
 
-fn add_row(row: ReportRow, count: usize, text: &mut [u8; GATHERED]) -> Turn {
-    let turn = make_room(count, text);
-    let Turn::On(from) = turn else {
-        return turn;
-    };
+fn add_row(row: ReportRow, count: usize, text: &mut [u8; GATHERED]) -> ControlFlow<bool, usize> {
+    let from = make_room(count, text)?;
     put_row(row, from, text)
 }
 
@@ -77,10 +68,14 @@ fn end_rows(refusal: Refusal, count: usize, text: &[u8; GATHERED]) -> bool {
     print_refused(locate(0, refusal))
 }
 
-fn take_found(found: ReportFound, count: usize, text: &mut [u8; GATHERED]) -> Turn {
+fn take_found(
+    found: Result<ReportRow, Refusal>,
+    count: usize,
+    text: &mut [u8; GATHERED],
+) -> ControlFlow<bool, usize> {
     match found {
-        ReportFound::Found(row) => add_row(row, count, text),
-        ReportFound::Refused(refusal) => Turn::Over(end_rows(refusal, count, text)),
+        Ok(row) => add_row(row, count, text),
+        Err(refusal) => ControlFlow::Break(end_rows(refusal, count, text)),
     }
 }
 
@@ -95,17 +90,15 @@ pub(crate) fn print_rows(
 ) -> bool {
     let mut text = [0u8; GATHERED];
     let mut count: usize = 0;
-    let mut row: u32 = 0;
-    while row < u32::MAX {
+    for row in 0..u32::MAX {
         let found = report(tally, row, version, figures, numbers, homes, rows);
         let turn = take_found(found, count, &mut text);
         match turn {
-            Turn::On(next) => {
+            ControlFlow::Continue(next) => {
                 count = next;
             }
-            Turn::Over(written) => return written,
+            ControlFlow::Break(written) => return written,
         }
-        row += 1;
     }
     true
 }

@@ -14,56 +14,48 @@ const MOST: u64 = 65_535;
 // The longest argument that is looked at: a longer one has no place, so that nothing is there of it, and nothing is no number.
 const LONGEST: usize = 20;
 
-#[derive(Clone, Copy)]
-pub(crate) enum Asked {
-    Version(u16),
-    Nothing,
-}
-
 fn word_of(bytes: &[u8]) -> Word
     ensures { result ≡ bytes_added blank bytes.now }
 {
     let mut word = no_word();
-    let mut i: usize = 0;
-    while i < bytes.len() {
-        word = longer(word, bytes[i]);
-        i += 1;
+    for &byte in bytes {
+        word = longer(word, byte);
     }
     word
 }
 
 // The number that a word is. A minus is no digit, not even before 0.
-fn version_of(word: Word) -> Asked
+fn version_of(word: Word) -> Option<u16>
     ensures { result ≡ version_of word }
 {
     if !word.fine {
-        return Asked::Nothing;
+        return None;
     }
     if !word.digits {
-        return Asked::Nothing;
+        return None;
     }
     if word.minus {
-        return Asked::Nothing;
+        return None;
     }
     if MOST < word.size {
-        return Asked::Nothing;
+        return None;
     }
-    Asked::Version(word.size as u16)
+    Some(word.size as u16)
 }
 
-fn version_in(bytes: &[u8]) -> Asked
+fn version_in(bytes: &[u8]) -> Option<u16>
     ensures { result ≡ version_of (bytes_added blank bytes.now) }
 {
     version_of(word_of(bytes))
 }
 
-pub(crate) fn what_is_asked(rt: &HostRuntime) -> Asked {
+pub(crate) fn what_is_asked(rt: &HostRuntime) -> Option<u16> {
     let arguments = argument_count(rt);
     if arguments == 1 {
-        return Asked::Version(FIRST);
+        return Some(FIRST);
     }
     if arguments != 2 {
-        return Asked::Nothing;
+        return None;
     }
     let mut bytes = [0u8; LONGEST];
     let count = argument(rt, 1, &mut bytes);

@@ -1,4 +1,4 @@
--- Laws of what the reader's loops walk over: the number that bytes say never falls, two lists are compared byte by byte, and a column ends before its comma.
+-- Laws of what the reader's loops walk over: the number that bytes say never falls, and a column ends before its comma.
 use mathlib.Core.Path.{◌≡◌, refl, sym, ◌∙◌, ap}
 use mathlib.Core.Bool.{Bool, true, false, ◌&&◌, cond}
 use mathlib.Core.List.{List, [], ◌∷◌}
@@ -10,7 +10,7 @@ use borrow.Author.Tests.{le-leb, lt-leb, leb-true, eq-eqb, ne_eqb}
 use lib.Dec.{leb, eqb}
 use lib.ListN.{length, get_or, take, drop, drop_of_length-le}
 use lib.Seq.{drop-cons}
-use Rattle.rules.specs.ReportRead.{before_comma, behind_comma, is_digit, with_digit, said_from, said, same, billionths_most}
+use Rattle.rules.specs.ReportRead.{before_comma, behind_comma, is_digit, with_digit, said_from, said, billionths_most}
 use Rattle.report_row.specs.Reading.{limited, SaidFirst, ColumnAt}
 
 -- what stands from a place on: the byte there, and what stands behind it
@@ -149,58 +149,6 @@ module _ {bytes : List ℕ} {number i : ℕ} (s : FewTo bytes number i) where
 pub few_over : {most : ℕ} {bytes : List ℕ} {number i : ℕ} → SaidFirst bytes i number → most < number → limited most (said bytes) ≡ most + 1
 few_over {most} {bytes} {number} {i} s h =
     limited_over most (said bytes) (omega (arith, h, s.is, said_grows number (drop i bytes)))
-
--- ---- two lists
--- from a place on
-pub same_next : (xs ys : List ℕ) (i : ℕ) → i < length xs → i < length ys →
-    same (drop i xs) (drop i ys) ≡ (eqb (get_or xs i 0) (get_or ys i 0) && same (drop (i + 1) xs) (drop (i + 1) ys))
-unfolding same
-same_next xs ys i h l = rw (drop_next xs i h, drop_next ys i l)
-
--- at the end of both
-pub same_end : (xs ys : List ℕ) (i : ℕ) → length xs ≤ i → length ys ≤ i → same (drop i xs) (drop i ys) ≡ true
-unfolding same
-same_end xs ys i h l = rw (drop_of_length-le xs h, drop_of_length-le ys l)
-
--- lists of two lengths differ
-pub other_length : (xs ys : List ℕ) → (length xs ≡ length ys → ⊥) → same xs ys ≡ false
-unfolding same
-other_length [] [] h = absurd (h refl)
-other_length [] (y ∷ ys) h = refl
-other_length (x ∷ xs) [] h = refl
-other_length (x ∷ xs) (y ∷ ys) h = rest (eqb x y) (other_length xs ys (λ e. h (ap suc e)))
-  where
-    rest : (t : Bool) → same xs ys ≡ false → (t && same xs ys) ≡ false
-    rest true p = p
-    rest false p = refl
-
--- lists of one length that are the same if they are from a place on
-pub record SameTo (xs ys : List ℕ) (i : ℕ) : Type 0 where
-  pub inside : i ≤ length ys
-  pub long : length xs ≡ length ys
-  pub is : same xs ys ≡ same (drop i xs) (drop i ys)
-
--- before any byte
-pub same_none : (xs ys : List ℕ) → length xs ≡ length ys → SameTo xs ys 0
-same_none xs ys e = record { inside = omega arith; long = e; is = refl }
-
-module _ {xs ys : List ℕ} {i : ℕ} (s : SameTo xs ys i) where
-  -- a byte that is the same
-  pub same_one : i < length ys → get_or xs i 0 ≡ get_or ys i 0 → SameTo xs ys (i + 1)
-  same_one h e =
-      record {
-        inside = omega arith;
-        long = s.long;
-        is = s.is ∙ same_next xs ys i (omega (arith, s.long)) h ∙ rw (eq-eqb (get_or xs i 0) (get_or ys i 0) e);
-      }
-
-  -- a byte that differs
-  pub not_same : i < length ys → (get_or xs i 0 ≡ get_or ys i 0 → ⊥) → same xs ys ≡ false
-  not_same h e = s.is ∙ same_next xs ys i (omega (arith, s.long)) h ∙ rw (ne_eqb (get_or xs i 0) (get_or ys i 0) e)
-
-  -- after the last byte
-  pub same_ended : length ys ≤ i → same xs ys ≡ true
-  same_ended h = s.is ∙ same_end xs ys i (omega (arith, s.long)) h
 
 -- ---- a column
 -- as many bytes as stand before the comma are those

@@ -1,5 +1,10 @@
 -- Laws of the row read in turn: what a stage of the reader is told of its columns decides what the rest of the row is read as.
-use mathlib.Core.Path.{◌≡◌, refl, sym, ◌∙◌, ap, ap₂, subst}
+use Rattle.std.specs.Prelude.{Result, Option, Ok, Err, Some, None}
+use Rattle.std.specs.Option.{ok_or}
+use Rattle.std.specs.Result.{IsErrAnd}
+use Rattle.report_row.specs.Promises.{read_answer}
+use Rattle.rules.specs.declared.Refusal.TheVariants.{WrongRow}
+use mathlib.Core.Path.{◌≡◌, refl, sym, ◌∙◌, ap, ap₂}
 use mathlib.Core.List.{List}
 use Prim.Native.Nat.{ℕ, ◌+◌, ◌-◌, ◌≤◌}
 use native.Mathlib.Omega.{arith}
@@ -24,26 +29,7 @@ use Rattle.rules.specs.ReportRead.{
   column,
   row_read,
 }
-use Rattle.report_row.specs.declared.columns_in.IntervalRead.{IntervalRead}
-use Rattle.report_row.specs.declared.columns_in.PerformanceRead.{PerformanceRead}
-use Rattle.report_row.specs.declared.columns_in.WhoseRead.{WhoseRead}
-use Rattle.report_row.specs.declared.columns_in.TypeRead.{TypeRead}
-use Rattle.report_row.specs.declared.columns_in.VersionRead.{VersionRead}
-use Rattle.report_row.specs.declared.read.FigureRead.{FigureRead}
-use Rattle.report_row.specs.Reading.{
-  interval_reply,
-  whose_reply,
-  performance_reply,
-  type_reply,
-  version_reply,
-  From,
-  ColumnAt,
-  FigureAt,
-  figure_read,
-  version_on,
-  lower_on,
-  raise_on,
-}
+use Rattle.report_row.specs.Reading.{column_reply, From, ColumnAt, figure_read, version_on, lower_on, raise_on}
 
 -- ---- a performance and its type
 -- of two replies
@@ -187,24 +173,22 @@ module _ (bs : List ℕ) where
       (version_read 7 (behind_commas 6 bs))
 
 -- ---- what the code is told of a column
--- a column's reply is that of what it was read as
-pub interval_told : (k : ℕ) (m o : IntervalRead) {reply : Reply ℕ} → interval_reply k m ≡ reply → m ≡ o → reply ≡ interval_reply k o
-interval_told k m o e f = sym e ∙ ap (interval_reply k) f
+-- it is right
+pub column_taken : {A : Type 0} (k : ℕ) (m : Option A) {x : A} {reply : Reply A} → column_reply k m ≡ reply → Ok x ≡ ok_or m (WrongRow k) → reply ≡ taken x
+column_taken k None e f = cc
+column_taken k (Some x) e f = cc
 
-pub whose_told : (k : ℕ) (m o : WhoseRead) {reply : Reply Reported} → whose_reply k m ≡ reply → m ≡ o → reply ≡ whose_reply k o
-whose_told k m o e f = sym e ∙ ap (whose_reply k) f
+-- it is wrong
+pub column_refused : {A : Type 0} (k : ℕ) (m : Option A) {x : Refusal} {reply : Reply A} → column_reply k m ≡ reply → Err x ≡ ok_or m (WrongRow k) →
+    reply ≡ refused x
+column_refused k None e f = cc
+column_refused k (Some x) e f = cc
 
-pub performance_told : (k : ℕ) (m o : PerformanceRead) {reply : Reply ℤ} → performance_reply k m ≡ reply → m ≡ o → reply ≡ performance_reply k o
-performance_told k m o e f = sym e ∙ ap (performance_reply k) f
-
-pub type_told : (k : ℕ) (m o : TypeRead) {reply : Reply FigureType} → type_reply k m ≡ reply → m ≡ o → reply ≡ type_reply k o
-type_told k m o e f = sym e ∙ ap (type_reply k) f
-
-pub version_told : (k : ℕ) (m o : VersionRead) {reply : Reply ℕ} → version_reply k m ≡ reply → m ≡ o → reply ≡ version_reply k o
-version_told k m o e f = sym e ∙ ap (version_reply k) f
-
-pub figure_told : (k : ℕ) (row : List ℕ) (from : ℕ) (m o : FigureRead) → FigureAt k row from m → m ≡ o → FigureAt k row from o
-figure_told k row from m o h e = subst (FigureAt k row from) e h
+-- its refusal is the row's
+pub row_refused : (answer : Result ReportRow Refusal) {x : Refusal} {reply : Reply ReportRow} → IsErrAnd answer (λ y. y ≡ x) → reply ≡ refused x →
+    answer ≡ read_answer reply
+row_refused (Ok row) h e = absurd h
+row_refused (Err y) h e = rw (h, e)
 
 -- ---- what the code lends of the row
 -- from a place to its end

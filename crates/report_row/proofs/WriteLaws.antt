@@ -1,4 +1,5 @@
 -- What the writer's call answers: past the year, too short, or written.
+use Rattle.std.specs.Prelude.{Ok, Err}
 use mathlib.Core.Path.{◌≡◌, sym, ◌∙◌, ap}
 use mathlib.Core.List.{List, ◌++◌, append-nil}
 use Prim.Native.Nat.{ℕ, ◌-◌, ◌≤◌, ◌<◌}
@@ -13,7 +14,6 @@ use Rattle.rules.specs.Calendar.{last_interval}
 use Rattle.rules.specs.ReportRow.{report_row, row_written, text_after}
 use Rattle.listing.specs.Pieces.{Put, PutWhereRoom}
 use Rattle.listing.proofs.PiecesLaws.{put_there}
-use Rattle.report_row.specs.declared.RowWritten.TheVariants.{Length, Refused}
 use Rattle.report_row.specs.Promises.{WritePromise, written_answer}
 
 module _ (r : ReportRow) (old : List ℕ) where
@@ -29,22 +29,22 @@ module _ (r : ReportRow) (old : List ℕ) where
   unfolding row_written
   written h k = rw (le-leb r.interval last_interval h, le-leb (length (report_row r)) (length old) k)
 
-  pub year_refused : last_interval < r.interval → WritePromise r old (Refused YearPast) old
+  pub year_refused : last_interval < r.interval → WritePromise r old (Err YearPast) old
   year_refused h = record { reply = rw (past_year h); text = rw (past_year h) }
 
-  pub length_refused : r.interval ≤ last_interval → length old < length (report_row r) → WritePromise r old (Refused TooShort) old
+  pub length_refused : r.interval ≤ last_interval → length old < length (report_row r) → WritePromise r old (Err TooShort) old
   length_refused h k = record { reply = rw (too_short h k); text = rw (too_short h k) }
 
   -- a word that is the row, put before the end of its own length
   row_put_first : {n at : ℕ} {word new : List ℕ} → r.interval ≤ last_interval → word ≡ report_row r → n ≡ length word → n ≤ length old →
-      PutWhereRoom (length word) word n old at new → WritePromise r old (Length n) new
+      PutWhereRoom (length word) word n old at new → WritePromise r old (Ok n) new
   row_put_first {n} {at} {word} {new} h same long room put =
       let p = put_there (record { free = omega (arith, long); inside = room }) put in
       let there : at ≡ 0 = omega (arith, p.place, long) in
       let whole : new ≡ word ++ drop n old = rw there at p.bytes in
       let done = written h (omega (arith, ap length same, long, room)) in
       record {
-        reply = ap Length (long ∙ ap length same) ∙ ap written_answer (sym done);
+        reply = ap Ok (long ∙ ap length same) ∙ ap written_answer (sym done);
         text =
             whole ∙ ap (λ (k : ℕ). word ++ drop k old) long ∙ ap (λ (row : List ℕ). row ++ drop (length row) old) same
             ∙ ap (λ (m : Reply (List ℕ)). text_after m old) (sym done);
@@ -54,7 +54,7 @@ module _ (r : ReportRow) (old : List ℕ) where
   pub row_handed : {start at : ℕ} {line line' new : List ℕ} → r.interval ≤ last_interval → length line ≡ 106 → Put (report_row r) 106 line start line' →
       106 - start ≤ length old →
       PutWhereRoom (length (take (106 - start) (drop start line'))) (take (106 - start) (drop start line')) (106 - start) old at new →
-      WritePromise r old (Length (106 - start)) new
+      WritePromise r old (Ok (106 - start)) new
   row_handed {start} {at} {line} {line'} {new} h e p room put =
       let long : 106 - start ≡ length (report_row r) = omega (arith, p.place) in
       let end : drop start line' ≡ report_row r =

@@ -1,26 +1,14 @@
 -- What the functions of the reader promise each other: what a column says as the code holds it, and where a column stands in the row.
-use Rattle.std.specs.Prelude.{◌≡◌, Bool, true, false, cond, List, ℕ, ◌+◌, ◌-◌, ◌≤◌, eqb, leb, ℤ, length, take, drop}
+use Rattle.std.specs.Prelude.{◌≡◌, Bool, true, false, cond, List, ℕ, ◌+◌, ◌-◌, ◌≤◌, eqb, leb, length, take, drop, Result, Option, Ok, Err, Some, None}
+use Rattle.rules.specs.declared.Refusal.{Refusal}
 use Rattle.rules.specs.declared.Refusal.TheVariants.{WrongRow}
 use Rattle.rules.specs.declared.RegionName.{RegionName}
 use Rattle.rules.specs.declared.RegionName.TheVariants.{Qld1, Nsw1, Vic1, Sa1, Tas1}
 use Rattle.rules.specs.declared.Reported.{Reported}
-use Rattle.rules.specs.declared.FigureType.{FigureType}
 use Rattle.rules.specs.declared.Figure.{Figure}
 use Rattle.rules.specs.declared.ReportRow.{ReportRow}
 use Rattle.rules.specs.Refusals.{Reply, taken, refused, ◌>>=◌}
 use Rattle.rules.specs.ReportRead.{before_comma, behind_comma, behind_commas, said_from, said, billionths_most, performance_read, type_read, version_read}
-use Rattle.report_row.specs.declared.columns_in.IntervalRead.{IntervalRead}
-use Rattle.report_row.specs.declared.columns_in.IntervalRead.TheVariants as i
-use Rattle.report_row.specs.declared.columns_in.WhoseRead.{WhoseRead}
-use Rattle.report_row.specs.declared.columns_in.WhoseRead.TheVariants as w
-use Rattle.report_row.specs.declared.columns_in.PerformanceRead.{PerformanceRead}
-use Rattle.report_row.specs.declared.columns_in.PerformanceRead.TheVariants as p
-use Rattle.report_row.specs.declared.columns_in.TypeRead.{TypeRead}
-use Rattle.report_row.specs.declared.columns_in.TypeRead.TheVariants as t
-use Rattle.report_row.specs.declared.columns_in.VersionRead.{VersionRead}
-use Rattle.report_row.specs.declared.columns_in.VersionRead.TheVariants as v
-use Rattle.report_row.specs.declared.read.FigureRead.{FigureRead}
-use Rattle.report_row.specs.declared.read.FigureRead.TheVariants as f
 
 -- a number up to the most that is asked for, else one more than that
 abbrev pub limited : ℕ → ℕ → ℕ
@@ -45,25 +33,9 @@ abbrev pub region_of : ℕ → RegionName
 region_of b = cond (eqb b 81) Qld1 (cond (eqb b 78) Nsw1 (cond (eqb b 86) Vic1 (cond (eqb b 83) Sa1 Tas1)))
 
 -- ---- what is read of column k: taken, or wrong
-abbrev pub interval_reply : ℕ → IntervalRead → Reply ℕ
-interval_reply k (i.Is a) = taken a
-interval_reply k i.Wrong = refused (WrongRow k)
-
-abbrev pub whose_reply : ℕ → WhoseRead → Reply Reported
-whose_reply k (w.Is a) = taken a
-whose_reply k w.Wrong = refused (WrongRow k)
-
-abbrev pub performance_reply : ℕ → PerformanceRead → Reply ℤ
-performance_reply k (p.Is a) = taken a
-performance_reply k p.Wrong = refused (WrongRow k)
-
-abbrev pub type_reply : ℕ → TypeRead → Reply FigureType
-type_reply k (t.Is a) = taken a
-type_reply k t.Wrong = refused (WrongRow k)
-
-abbrev pub version_reply : ℕ → VersionRead → Reply ℕ
-version_reply k (v.Is a) = taken a
-version_reply k v.Wrong = refused (WrongRow k)
+abbrev pub column_reply : {A : Type 0} → ℕ → Option A → Reply A
+column_reply k (Some a) = taken a
+column_reply k None = refused (WrongRow k)
 
 -- ---- where a column of the row stands
 -- what is left of the row from a place on
@@ -87,9 +59,9 @@ figure_read k bs = do
   taken (record { performance = performance; typed = typed })
 
 -- and where the column behind them starts
-abbrev pub FigureAt : ℕ → List ℕ → ℕ → FigureRead → Type 0
-FigureAt k row from (f.Is figure next) = (figure_read k (drop from row) ≡ taken figure) × From row (behind_commas 2 (drop from row)) next
-FigureAt k row from (f.Wrong wrong) = figure_read k (drop from row) ≡ refused (WrongRow wrong)
+abbrev pub FigureAt : ℕ → List ℕ → ℕ → Result (Figure × ℕ) Refusal → Type 0
+FigureAt k row from (Ok (figure, next)) = (figure_read k (drop from row) ≡ taken figure) × From row (behind_commas 2 (drop from row)) next
+FigureAt k row from (Err x) = figure_read k (drop from row) ≡ refused x
 
 -- the last column
 unfoldable pub version_on : ℕ → Reported → Figure → Figure → List ℕ → Reply ReportRow

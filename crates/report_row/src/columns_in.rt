@@ -1,10 +1,10 @@
-// The columns of a row read back: each says something, and is right if the writer makes it of that.
+// The columns of a row read back: each says something, and is right if the writer makes it of that. `None` is a column that the writer never makes.
 ghost use Rattle.std.specs.Prelude.{◌≡◌, true, cond, ℕ, ◌≤◌, eqb, pos, neg_ℤ, get_or};
 ghost use Rattle.rules.specs.Calendar.{interval_to};
 ghost use Rattle.rules.specs.ReportRow.{whose_text};
 ghost use Rattle.rules.specs.ReportRead.{moment_in, billionths_most, read_as, interval_read, whose_read, performance_read, type_read, version_read};
 ghost use Rattle.report_row.specs.Dates.{date_of, Dated};
-ghost use Rattle.report_row.specs.Reading.{moment_most, Holds, region_of, interval_reply, whose_reply, performance_reply, type_reply, version_reply};
+ghost use Rattle.report_row.specs.Reading.{moment_most, Holds, region_of, column_reply};
 
 use super::LAST_INTERVAL;
 use super::calendar::{Date, days_to};
@@ -23,37 +23,6 @@ const BILLIONTHS_MOST: u64 = 1_229_782_938_247_303_441;
 
 // The largest unit number, and the largest version.
 const NUMBER_MOST: u64 = 65_535;
-
-// What a column is read as; or it is none that the writer makes.
-#[derive(Clone, Copy)]
-pub(crate) enum IntervalRead {
-    Is(u32),
-    Wrong,
-}
-
-#[derive(Clone, Copy)]
-pub(crate) enum WhoseRead {
-    Is(Reported),
-    Wrong,
-}
-
-#[derive(Clone, Copy)]
-pub(crate) enum PerformanceRead {
-    Is(i64),
-    Wrong,
-}
-
-#[derive(Clone, Copy)]
-pub(crate) enum TypeRead {
-    Is(FigureType),
-    Wrong,
-}
-
-#[derive(Clone, Copy)]
-pub(crate) enum VersionRead {
-    Is(u16),
-    Wrong,
-}
 
 // The date of a moment by its fourteen digits.
 fn date_in(moment: u64) -> Date
@@ -95,27 +64,27 @@ fn interval_on(date: Date, moment: u64) -> u32
 }
 
 // Date and time of an interval's end. Every one that is written has such a date, so without one the column is wrong.
-pub(crate) fn interval_in(column: &[u8]) -> IntervalRead
-    ensures { (k : ℕ) → interval_reply k result ≡ interval_read k column.now }
+pub(crate) fn interval_in(column: &[u8]) -> Option<u32>
+    ensures { (k : ℕ) → column_reply k result ≡ interval_read k column.now }
 {
     let moment = number_said(MOMENT_MOST, column);
     if MOMENT_MOST < moment {
-        return IntervalRead::Wrong;
+        return None;
     }
     let date = date_in(moment);
     if !is_dated(date) {
-        return IntervalRead::Wrong;
+        return None;
     }
     let interval = interval_on(date, moment);
     if LAST_INTERVAL < interval {
-        return IntervalRead::Wrong;
+        return None;
     }
     let mut line = [0u8; 19];
     let to = put_interval(interval, 19, &mut line);
     if same_bytes(&line[to..], column) {
-        return IntervalRead::Is(interval);
+        return Some(interval);
     }
-    IntervalRead::Wrong
+    None
 }
 
 // By the first letter of the region's name; where it is none of these, the column is compared with Tasmania's, and differs.
@@ -131,20 +100,20 @@ fn region_said(letter: u8) -> RegionName
     }
 }
 
-fn whose_if_written(whose: Reported, column: &[u8]) -> WhoseRead
-    ensures { (k : ℕ) → whose_reply k result ≡ read_as whose_text k column.now true whose }
+fn whose_if_written(whose: Reported, column: &[u8]) -> Option<Reported>
+    ensures { (k : ℕ) → column_reply k result ≡ read_as whose_text k column.now true whose }
 {
     let mut line = [0u8; 20];
     let to = put_whose(whose, 20, &mut line);
     if same_bytes(&line[to..], column) {
-        return WhoseRead::Is(whose);
+        return Some(whose);
     }
-    WhoseRead::Wrong
+    None
 }
 
 // A residual begins with its word, and the region's name is behind it; all else is a unit's number.
-pub(crate) fn whose_in(column: &[u8]) -> WhoseRead
-    ensures { (k : ℕ) → whose_reply k result ≡ whose_read k column.now }
+pub(crate) fn whose_in(column: &[u8]) -> Option<Reported>
+    ensures { (k : ℕ) → column_reply k result ≡ whose_read k column.now }
 {
     if byte_at(0, column) == b'R' {
         let name = region_said(byte_at(9, column));
@@ -152,7 +121,7 @@ pub(crate) fn whose_in(column: &[u8]) -> WhoseRead
     }
     let number = number_said(NUMBER_MOST, column);
     if NUMBER_MOST < number {
-        return WhoseRead::Wrong;
+        return None;
     }
     whose_if_written(Reported::Unit(number as u16), column)
 }
@@ -169,47 +138,47 @@ fn with_sign(size: u64, column: &[u8]) -> i64
 }
 
 // In billionths of a MWHz.
-pub(crate) fn performance_in(column: &[u8]) -> PerformanceRead
-    ensures { (k : ℕ) → performance_reply k result ≡ performance_read k column.now }
+pub(crate) fn performance_in(column: &[u8]) -> Option<i64>
+    ensures { (k : ℕ) → column_reply k result ≡ performance_read k column.now }
 {
     let size = number_said(BILLIONTHS_MOST, column);
     if BILLIONTHS_MOST < size {
-        return PerformanceRead::Wrong;
+        return None;
     }
     let number = with_sign(size, column);
     let mut line = [0u8; 31];
     let to = put_performance(number, 31, &mut line);
     if same_bytes(&line[to..], column) {
-        return PerformanceRead::Is(number);
+        return Some(number);
     }
-    PerformanceRead::Wrong
+    None
 }
 
-pub(crate) fn type_in(column: &[u8]) -> TypeRead
-    ensures { (k : ℕ) → type_reply k result ≡ type_read k column.now }
+pub(crate) fn type_in(column: &[u8]) -> Option<FigureType>
+    ensures { (k : ℕ) → column_reply k result ≡ type_read k column.now }
 {
     if same_bytes(b"Calculated", column) {
-        return TypeRead::Is(FigureType::Calculated);
+        return Some(FigureType::Calculated);
     }
     if same_bytes(b"Default", column) {
-        return TypeRead::Is(FigureType::Default);
+        return Some(FigureType::Default);
     }
-    TypeRead::Wrong
+    None
 }
 
 // The last column, with its line feed.
-pub(crate) fn version_in(column: &[u8]) -> VersionRead
-    ensures { (k : ℕ) → version_reply k result ≡ version_read k column.now }
+pub(crate) fn version_in(column: &[u8]) -> Option<u16>
+    ensures { (k : ℕ) → column_reply k result ≡ version_read k column.now }
 {
     let number = number_said(NUMBER_MOST, column);
     if NUMBER_MOST < number {
-        return VersionRead::Wrong;
+        return None;
     }
     let version = number as u16;
     let mut line = [0u8; 21];
     let to = put_version(version, 21, &mut line);
     if same_bytes(&line[to..], column) {
-        return VersionRead::Is(version);
+        return Some(version);
     }
-    VersionRead::Wrong
+    None
 }

@@ -2,8 +2,6 @@
 // listing is; a column that is read is right if it is what the writer makes of what it says, so reading writes it again and compares.
 #![tactic(auto)]
 
-use rules::{Refusal, ReportRow};
-
 mod calendar;
 mod columns;
 mod columns_in;
@@ -17,17 +15,3 @@ pub const ROW_MOST: usize = 106;
 
 // The last interval that ends before the year 10000.
 pub const LAST_INTERVAL: u32 = 841_518_719;
-
-// The row is written and so long, or nothing is.
-#[derive(Clone, Copy)]
-pub enum RowWritten {
-    Length(u32),
-    Refused(Refusal),
-}
-
-// The row that was read, its performances in billionths; or 18 with its first wrong column.
-#[derive(Clone, Copy)]
-pub enum RowRead {
-    Read(ReportRow),
-    Refused(Refusal),
-}

@@ -19,11 +19,9 @@ pub(crate) fn put_padded(places: usize, n: u32, at: usize, line: &mut [u8]) -> u
 {
     let from = at - places;
     let mut rest = n;
-    let mut to = at;
-    while from < to {
-        to -= 1;
+    for to in (from..at).rev() {
         line[to] = (48 + rest % 10) as u8;
         rest /= 10;
     }
-    to
+    from
 }

@@ -35,10 +35,8 @@ fn few_said(count: usize, bytes: &[u8]) -> u64
     ensures { SaidFirst bytes.now count result }
 {
     let mut number: u64 = 0;
-    let mut i: usize = 0;
-    while i < count {
-        number = with_digit(number, bytes[i]);
-        i += 1;
+    for &byte in &bytes[..count] {
+        number = with_digit(number, byte);
     }
     number
 }
@@ -53,13 +51,11 @@ pub(crate) fn number_said(most: u64, bytes: &[u8]) -> u64
     if most < number {
         return most + 1;
     }
-    let mut i = count;
-    while i < bytes.len() {
-        number = with_digit(number, bytes[i]);
+    for &byte in &bytes[count..] {
+        number = with_digit(number, byte);
         if most < number {
             return most + 1;
         }
-        i += 1;
     }
     number
 }
@@ -77,15 +73,5 @@ pub(crate) fn byte_at(place: usize, column: &[u8]) -> u8
 pub(crate) fn same_bytes(made: &[u8], column: &[u8]) -> bool
     ensures { result ≡ same made.now column.now }
 {
-    if made.len() != column.len() {
-        return false;
-    }
-    let mut i: usize = 0;
-    while i < column.len() {
-        if made[i] != column[i] {
-            return false;
-        }
-        i += 1;
-    }
-    true
+    made == column
 }

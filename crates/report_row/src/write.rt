@@ -10,7 +10,7 @@ use super::columns::{
     in_billionths, put_interval, put_performance, put_type, put_version, put_whose,
 };
 use super::pieces::put_byte;
-use super::{LAST_INTERVAL, ROW_MOST, RowWritten};
+use super::{LAST_INTERVAL, ROW_MOST};
 use listing::pieces::put_word;
 use rules::{Figure, Refusal, ReportRow};
 
@@ -44,19 +44,19 @@ fn put_row(row: ReportRow, line: &mut [u8]) -> usize
     put_interval(row.interval, to, line)
 }
 
-// Writes a row into the lent text; bytes behind it stay. Refuses 15 for a year past 9999, then 12 for a text that is shorter than the row.
-pub fn write_row(row: ReportRow, text: &mut [u8]) -> RowWritten
+// Writes a row into the lent text and says the row's length; bytes behind it stay. Refuses 15 for a year past 9999, then 12 for a text that is shorter than the row.
+pub fn write_row(row: ReportRow, text: &mut [u8]) -> Result<u32, Refusal>
     ensures { WritePromise row text.old result text.new }
 {
     if LAST_INTERVAL < row.interval {
-        return RowWritten::Refused(Refusal::YearPast);
+        return Err(Refusal::YearPast);
     }
     let mut line = [0u8; ROW_MOST];
     let start = put_row(row, &mut line);
     let length = ROW_MOST - start;
     if text.len() < length {
-        return RowWritten::Refused(Refusal::TooShort);
+        return Err(Refusal::TooShort);
     }
     put_word(&line[start..], length, text);
-    RowWritten::Length(length as u32)
+    Ok(length as u32)
 }

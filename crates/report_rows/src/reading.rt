@@ -4,9 +4,9 @@ ghost use Rattle.report_rows.specs.Rows.{row_ends};
 
 use super::words::{print_refusal, print_row};
 use printing::TEXT;
-use report_row::RowRead;
 use report_row::read::read_row;
 use std::io::{Read, Stdin};
+use std::ops::ControlFlow;
 
 // So many bytes of a row are held, one more than the longest has. Where they have no line feed, a column among them is wrong, and the same one as in the whole
 // row: the right columns before it end within 106 bytes; it ends within these bytes too, or is cut here and then already longer than any right column at that
@@ -28,12 +28,6 @@ pub(crate) enum Ending {
     Unwritten,
 }
 
-#[derive(Clone, Copy)]
-enum Turn {
-    On(Reading),
-    Over(Ending),
-}
-
 // No report has as many rows as can be counted.
 fn next_row(row: u64) -> u64 {
     if row < u64::MAX {
@@ -43,32 +37,37 @@ fn next_row(row: u64) -> u64 {
 }
 
 // The next row starts, if this one was written.
-fn behind_row(written: bool, row: u64) -> Turn {
+fn behind_row(written: bool, row: u64) -> ControlFlow<Ending, Reading> {
     if !written {
-        return Turn::Over(Ending::Unwritten);
+        return ControlFlow::Break(Ending::Unwritten);
     }
-    Turn::On(Reading {
+    ControlFlow::Continue(Reading {
         row: next_row(row),
         held: 0,
     })
 }
 
-fn behind_refusal(written: bool) -> Turn {
+fn behind_refusal(written: bool) -> ControlFlow<Ending, Reading> {
     if !written {
-        return Turn::Over(Ending::Unwritten);
+        return ControlFlow::Break(Ending::Unwritten);
     }
-    Turn::Over(Ending::Told)
+    ControlFlow::Break(Ending::Told)
 }
 
 // The row that so many bytes are.
-fn hand_in(row: u64, held: usize, bytes: &[u8; HELD], text: &mut [u8; TEXT]) -> Turn
+fn hand_in(
+    row: u64,
+    held: usize,
+    bytes: &[u8; HELD],
+    text: &mut [u8; TEXT],
+) -> ControlFlow<Ending, Reading>
     requires { held ≤ 107 }
 {
     let whole = &bytes[..];
     let read = read_row(&whole[0..held]);
     match read {
-        RowRead::Read(said) => behind_row(print_row(said, text), row),
-        RowRead::Refused(refusal) => behind_refusal(print_refusal(row, refusal, text)),
+        Ok(said) => behind_row(print_row(said, text), row),
+        Err(refusal) => behind_refusal(print_refusal(row, refusal, text)),
     }
 }
 
@@ -93,28 +92,32 @@ fn row_ends(byte: u8, held: usize) -> bool
     HELD <= held
 }
 
-fn take_byte(reading: Reading, byte: u8, bytes: &mut [u8; HELD], text: &mut [u8; TEXT]) -> Turn {
+fn take_byte(
+    reading: Reading,
+    byte: u8,
+    bytes: &mut [u8; HELD],
+    text: &mut [u8; TEXT],
+) -> ControlFlow<Ending, Reading> {
     let row = reading.row;
     let held = keep(byte, reading.held, bytes);
     if row_ends(byte, held) {
         return hand_in(row, held, bytes, text);
     }
-    Turn::On(Reading { row, held })
+    ControlFlow::Continue(Reading { row, held })
 }
 
 // The bytes that came.
-fn take_piece(from: Reading, piece: &[u8], bytes: &mut [u8; HELD], text: &mut [u8; TEXT]) -> Turn {
+fn take_piece(
+    from: Reading,
+    piece: &[u8],
+    bytes: &mut [u8; HELD],
+    text: &mut [u8; TEXT],
+) -> ControlFlow<Ending, Reading> {
     let mut reading = from;
-    let mut i: usize = 0;
-    while i < piece.len() {
-        let turn = take_byte(reading, piece[i], bytes, text);
-        let Turn::On(next) = turn else {
-            return turn;
-        };
-        reading = next;
-        i += 1;
+    for i in 0..piece.len() {
+        reading = take_byte(reading, piece[i], bytes, text)?;
     }
-    Turn::On(reading)
+    ControlFlow::Continue(reading)
 }
 
 // No more than there are.
@@ -128,16 +131,17 @@ fn within(count: usize, most: usize) -> usize
 }
 
 // What the input's end leaves: nothing, or a row without its line feed, which is refused; in any case it is the last.
-fn last_row(reading: Reading, bytes: &[u8; HELD], text: &mut [u8; TEXT]) -> Turn {
+fn last_row(
+    reading: Reading,
+    bytes: &[u8; HELD],
+    text: &mut [u8; TEXT],
+) -> ControlFlow<Ending, Reading> {
     let held = reading.held;
     if held == 0 {
-        return Turn::Over(Ending::Told);
+        return ControlFlow::Break(Ending::Told);
     }
-    let turn = hand_in(reading.row, within(held, HELD), bytes, text);
-    if let Turn::On(_) = turn {
-        return Turn::Over(Ending::Told);
-    }
-    turn
+    hand_in(reading.row, within(held, HELD), bytes, text)?;
+    ControlFlow::Break(Ending::Told)
 }
 
 fn read_piece(
@@ -145,10 +149,10 @@ fn read_piece(
     reading: Reading,
     bytes: &mut [u8; HELD],
     text: &mut [u8; TEXT],
-) -> Turn {
+) -> ControlFlow<Ending, Reading> {
     let mut piece = io::buffer();
     let Ok(count) = input.read(&mut piece) else {
-        return Turn::Over(Ending::Unread);
+        return ControlFlow::Break(Ending::Unread);
     };
     if count == 0 {
         return last_row(reading, bytes, text);
@@ -156,20 +160,18 @@ fn read_piece(
     take_piece(reading, &piece[..count], bytes, text)
 }
 
-// The rows to their end, or to the first one that is refused. No report has as many pieces as `left` counts: it says that the loop ends.
+// The rows to their end, or to the first one that is refused. No report has as many pieces as are counted here: it says that the loop ends.
 pub(crate) fn read_rows(input: &mut Stdin) -> Ending {
     let mut bytes = [0u8; HELD];
     let mut text = [0u8; TEXT];
     let mut reading = Reading { row: 1, held: 0 };
-    let mut left = u64::MAX;
-    while left > 0 {
-        left -= 1;
+    for _ in 0..u64::MAX {
         let turn = read_piece(input, reading, &mut bytes, &mut text);
         match turn {
-            Turn::On(next) => {
+            ControlFlow::Continue(next) => {
                 reading = next;
             }
-            Turn::Over(ending) => return ending,
+            ControlFlow::Break(ending) => return ending,
         }
     }
     Ending::Unread

@@ -234,14 +234,14 @@ pub fn refusal_point(refusal: Refusal) -> u8
 pub fn locate(place: u16, refusal: Refusal) -> Located
     ensures { result ≡ located place refusal }
 {
-    if refusal_number(refusal) == 11 {
-        return Located {
+    match refusal {
+        Refusal::WrongState => Located {
             refusal: refusal,
             place: 0,
-        };
-    }
-    Located {
-        refusal: refusal,
-        place: place,
+        },
+        _ => Located {
+            refusal: refusal,
+            place: place,
+        },
     }
 }

@@ -1,10 +1,12 @@
 -- Laws of the definitions in specs/Exact.antt: how an amount compares with the whole part, and what the ratios' own W makes no difference to.
 use Rattle.std.proofs.Common.{◌≡◌, ℕ, zero, suc, ◌+◌, ◌*◌, ◌<◌, ◌≤◌, Bool, true, false, List, map, length, ℤ, pos, negsuc, sym, refl, ap, ◌∙◌, true≢false, add-one, arith}
+use Rattle.std.specs.Prelude.{Option, None, Some, Result}
 use lib.ListN.{length-map, get_or-map}
 use Rattle.integers.specs.Pairs.{gain, loss}
 use Rattle.integers.specs.Division.{Divided}
 use Rattle.integers.specs.Sums.{one, every}
 use Rattle.integers.proofs.Sums.{sumℕ_term, none_wrong, first_wrong_is}
+use Rattle.rules.specs.declared.Refusal.{Refusal}
 use Rattle.rules.specs.declared.Side.{Side}
 use Rattle.rules.specs.declared.Side.TheVariants.{Positive, Negative}
 use Rattle.rules.specs.Share.{weight_at}
@@ -12,8 +14,6 @@ use Rattle.rules.specs.Sheet.{on, near, right, number_at, right_at, side_total}
 use Rattle.rules.specs.Sheet as sheet
 use Rattle.laws.proofs.SheetLaws.{WholeOrMore, near_whole, whole_near}
 use Rattle.share.specs.declared.part.Rate.{Rate}
-use Rattle.share.specs.declared.exact.Judged.{Judged}
-use Rattle.share.specs.declared.exact.Judged.TheVariants.{Right, Wrong}
 use Rattle.share.specs.declared.weights.Source.{Source}
 use Rattle.share.specs.declared.weights.Source.TheVariants.{Lent, Helpful, Unhelpful}
 use Rattle.share.specs.Rates.{total_of}
@@ -21,7 +21,7 @@ use Rattle.share.specs.Weighing.{signed}
 use Rattle.share.specs.Exact.{JudgedPromise, Sided, looked, sums}
 
 -- any two outcomes are equal
-pub first_wrong_only : {T : ℕ} {ps amounts : List ℤ} {r r' : Judged} → JudgedPromise T ps amounts r → JudgedPromise T ps amounts r' → r ≡ r'
+pub first_wrong_only : {T : ℕ} {ps amounts : List ℤ} {r r' : Result (Option ℕ) Refusal} → JudgedPromise T ps amounts r → JudgedPromise T ps amounts r' → r ≡ r'
 first_wrong_only a b = a.reply ∙ sym b.reply
 
 pub side_sum_only : {n r r' : ℕ} → r ≡ n → r' ≡ n → r ≡ r'
@@ -104,8 +104,8 @@ module _ (ps : List ℤ) (i : ℕ) (l : i < length ps) where
 
 -- ---- what is found
 module _ (T : ℕ) (ps fs : List ℤ) where
-  pub found_wrong : (i : ℕ) → i < length ps → every i (right_at T ps fs) ≡ true → right_at T ps fs i ≡ false → Wrong (i + 1) ≡ looked T ps fs
+  pub found_wrong : (i : ℕ) → i < length ps → every i (right_at T ps fs) ≡ true → right_at T ps fs i ≡ false → Some (i + 1) ≡ looked T ps fs
   found_wrong i l e f = rw (add-one, first_wrong_is (right_at T ps fs) (length ps) i l e f)
 
-  pub found_right : every (length ps) (right_at T ps fs) ≡ true → Right ≡ looked T ps fs
+  pub found_right : every (length ps) (right_at T ps fs) ≡ true → None ≡ looked T ps fs
   found_right e = rw (none_wrong (right_at T ps fs) (length ps) e)

@@ -1,5 +1,5 @@
 -- Laws of the definitions in specs/Signs.antt.
-use Rattle.std.proofs.Common.{◌≡◌, ℕ, ◌<◌, ◌≤◌, Bool, true, false, cond, ltb, List, map, length, get_or, ℤ, pos, negsuc, ◌-ℤ◌, neg_ℤ, sym, refl, ap, ◌∙◌, ap₂, arith, ltb-false, ltb-true}
+use Rattle.std.proofs.Common.{◌≡◌, ℕ, ◌<◌, ◌≤◌, Bool, true, false, cond, ltb, List, map, length, get_or, ℤ, pos, negsuc, ◌-ℤ◌, neg_ℤ, sym, refl, ap, ◌∙◌, ap₂, arith, ltb-false, ltb-true, Option, Result, Err}
 use lib.IntN.{+ℤ_idl, +ℤ_idr}
 use lib.ListN.{length-map, get_or-map}
 use Rattle.integers.specs.Pairs.{gain, loss}
@@ -13,17 +13,14 @@ use Rattle.laws.proofs.ShareLaws.{no_weight_no_share}
 use Rattle.rules.specs.Share.{weight_at, share_of, share_reply}
 use Rattle.share.specs.declared.weights.Source.{Source}
 use Rattle.share.specs.declared.weights.Source.TheVariants.{Helpful, Unhelpful}
-use Rattle.share.specs.declared.SharedSigns.{SharedSigns}
-use Rattle.share.specs.declared.SharedSigns.TheVariants.{Refused}
 use Rattle.share.specs.Weighing.{signed, sum_of}
 use Rattle.share.specs.Column.{shared_at, Clear}
 use Rattle.share.proofs.Column.{clear_column, all_placed}
-use Rattle.share.specs.declared.Tested.{Tested}
 use Rattle.share.specs.Promises.{where_taken, tested}
 use Rattle.share.proofs.Promises.{found, tests_tell}
 use Rattle.share.specs.Signs.{SidePlaced, SignsOut, answered_signs, signs_at, unplaced_or}
 
-pub share_signs_only : (T : ℕ) (ps old : List ℤ) {r r' : SharedSigns} {new new' : List ℤ} → SignsOut T ps old r new → SignsOut T ps old r' new' →
+pub share_signs_only : (T : ℕ) (ps old : List ℤ) {r r' : Result (ℕ × ℕ) Refusal} {new new' : List ℤ} → SignsOut T ps old r new → SignsOut T ps old r' new' →
     (r ≡ r') × (new ≡ new')
 share_signs_only T ps old a b = (a.reply ∙ sym b.reply, a.amounts ∙ sym b.amounts)
 
@@ -40,7 +37,7 @@ all_stay source T xs old e =
     go i l false f = refl
 
 -- how a side's promise is met: by what the tests found
-pub side_met : (source : Source) (T : ℕ) (xs : List ℕ) (old : List ℤ) {r : ℕ} {new : List ℤ} (t : Tested) → t ≡ tested T xs (length old) →
+pub side_met : (source : Source) (T : ℕ) (xs : List ℕ) (old : List ℤ) {r : ℕ} {new : List ℤ} (t : Result (Option ℕ) Refusal) → t ≡ tested T xs (length old) →
     r ≡ unplaced_or (found T t) T → new ≡ where_taken (found T t) (filled (length xs) (shared_at source T xs old) old) old → SidePlaced source T xs old r new
 side_met source T xs old t e f g =
     let same : found T t ≡ share_reply T xs (length old) = ap (found T) e ∙ sym (tests_tell T xs (length old)) in
@@ -66,14 +63,14 @@ module _ (T : ℕ) (ps old : List ℤ) where
   abbrev debit_reply : Reply ℕ
   debit_reply = share_reply T (map loss ps) (length old)
 
-  pub first_refused : {f : Refusal} → credit_reply ≡ refused f → SignsOut T ps old (Refused f) old
+  pub first_refused : {f : Refusal} → credit_reply ≡ refused f → SignsOut T ps old (Err f) old
   first_refused e =
       record {
         reply = sym (ap (λ (y : Reply ℕ). answered_signs y debit_reply) e);
         amounts = sym (ap (λ (y : Reply ℕ). where_taken y (where_taken debit_reply (filled (length ps) (signs_at T ps) old) old) old) e);
       }
 
-  pub both_answered : {u : ℕ} (y : Reply ℕ) {r : SharedSigns} {new : List ℤ} → credit_reply ≡ taken u → debit_reply ≡ y → r ≡ answered_signs (taken u) y →
+  pub both_answered : {u : ℕ} (y : Reply ℕ) {r : Result (ℕ × ℕ) Refusal} {new : List ℤ} → credit_reply ≡ taken u → debit_reply ≡ y → r ≡ answered_signs (taken u) y →
       new ≡ where_taken y (filled (length ps) (signs_at T ps) old) old → SignsOut T ps old r new
   both_answered y e f g h =
       record {

@@ -14,14 +14,6 @@ use crate::part::{Rate, part_of, rate_of};
 use crate::weights::{Source, WEIGHT_LIMIT, helpful_part, sum_of, unhelpful_part, with_sign};
 use rules::{Refusal, Side};
 
-// What is found: all members are right, the first wrong one, from 1, or the refusal.
-#[derive(Clone, Copy)]
-pub enum Judged {
-    Right,
-    Wrong(usize),
-    Refused(Refusal),
-}
-
 // The absolute total of a side, or one more than the limit of W where it is over it: tested before the sum can wrap.
 pub fn side_sum(side: Side, numbers: &[i64]) -> u64
     ensures { result ≡ limited (side_total side numbers.now) }
@@ -73,44 +65,46 @@ fn is_right(up: Rate, down: Rate, performance: i64, amount: i64) -> bool
     amount == 0
 }
 
-// The first wrong member.
-fn look(up: Rate, down: Rate, performances: &[i64], amounts: &[i64]) -> Judged
+// The first wrong member, from 1, or none where all are right.
+fn look(up: Rate, down: Rate, performances: &[i64], amounts: &[i64]) -> Option<usize>
     requires { Sided up down performances.now × (length amounts.now ≡ length performances.now) }
     ensures { result ≡ looked (total_of up) performances.now amounts.now }
 {
-    let mut i: usize = 0;
-    while i < performances.len() {
-        if !is_right(up, down, performances[i], amounts[i]) {
-            return Judged::Wrong(i + 1);
+    for (i, &performance) in performances.iter().enumerate() {
+        if !is_right(up, down, performance, amounts[i]) {
+            return Some(i + 1);
         }
-        i += 1;
     }
-    Judged::Right
+    None
 }
 
-// The first member whose amount is no share of the total: not less than one unit from its exact share, or above 0 or below where the performance is 0.
-// Refuses 12 where the lists differ in length, then 5 where the total or a side's absolute total is over its limit.
-pub fn first_wrong(total: u64, performances: &[i64], amounts: &[i64]) -> Judged
+// The first member, from 1, whose amount is no share of the total: not less than one unit from its exact share, or above 0 or below where the performance
+// is 0. None where all are right. Refuses 12 where the lists differ in length, then 5 where the total or a side's absolute total is over its limit.
+pub fn first_wrong(
+    total: u64,
+    performances: &[i64],
+    amounts: &[i64],
+) -> Result<Option<usize>, Refusal>
     ensures { JudgedPromise total performances.now amounts.now result }
 {
     if performances.len() != amounts.len() {
-        return Judged::Refused(Refusal::TooShort);
+        return Err(Refusal::TooShort);
     }
     if TOTAL_LIMIT < total {
-        return Judged::Refused(Refusal::WrongCount);
+        return Err(Refusal::WrongCount);
     }
     let up = side_sum(Side::Positive, performances);
     if WEIGHT_LIMIT < up {
-        return Judged::Refused(Refusal::WrongCount);
+        return Err(Refusal::WrongCount);
     }
     let down = side_sum(Side::Negative, performances);
     if WEIGHT_LIMIT < down {
-        return Judged::Refused(Refusal::WrongCount);
+        return Err(Refusal::WrongCount);
     }
-    look(
+    Ok(look(
         side_rate(total, up),
         side_rate(total, down),
         performances,
         amounts,
-    )
+    ))
 }

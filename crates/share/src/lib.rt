@@ -11,7 +11,7 @@ mod part;
 mod ties;
 mod weights;
 
-ghost use Rattle.std.specs.Prelude.{◌≡◌, map, length};
+ghost use Rattle.std.specs.Prelude.{◌≡◌, map, length, Ok};
 ghost use Rattle.integers.specs.Pairs.{loss};
 ghost use Rattle.share.specs.Weighing.{weighed, signed};
 ghost use Rattle.share.specs.Column.{Clear};
@@ -24,52 +24,31 @@ use weights::{Source, WEIGHT_LIMIT, members, sum_of};
 
 const TOTAL_LIMIT: u64 = 1_000_000_000_000;
 
-// How much is unplaced, or the refusal.
-#[derive(Clone, Copy)]
-pub enum Shared {
-    Placed(u64),
-    Refused(Refusal),
-}
-
-// The same for both signs: how much is unplaced of the positive side and of the negative, or the refusal.
-#[derive(Clone, Copy)]
-pub enum SharedSigns {
-    Placed(u64, u64),
-    Refused(Refusal),
-}
-
-// What the tests of a share find: W, that no member has weight, or the refusal.
-#[derive(Clone, Copy)]
-enum Tested {
-    Ready(u64),
-    Weightless,
-    Unfit(Refusal),
-}
-
-// Room first, then T and W. What is left over needs no test: it is always fewer than the members with weight. Nothing is written.
+// W, or none where no member has weight: room is tested first, then T and W. What is left over needs no test: it is always fewer than the members with
+// weight. Nothing is written.
 fn test_share(
     source: Source,
     total: u64,
     weights: &[u64],
     performances: &[i64],
     room: usize,
-) -> Tested
+) -> Result<Option<u64>, Refusal>
     ensures { result ≡ tested total (weighed source weights.now performances.now) room }
 {
     if room < members(source, weights, performances) {
-        return Tested::Unfit(Refusal::TooShort);
+        return Err(Refusal::TooShort);
     }
     if TOTAL_LIMIT < total {
-        return Tested::Unfit(Refusal::WrongCount);
+        return Err(Refusal::WrongCount);
     }
     let sum = sum_of(source, weights, performances);
     if WEIGHT_LIMIT < sum {
-        return Tested::Unfit(Refusal::WrongCount);
+        return Err(Refusal::WrongCount);
     }
     if sum == 0 {
-        return Tested::Weightless;
+        return Ok(None);
     }
-    Tested::Ready(sum)
+    Ok(Some(sum))
 }
 
 fn share_from(
@@ -78,29 +57,26 @@ fn share_from(
     weights: &[u64],
     performances: &[i64],
     amounts: &mut [i64],
-) -> Shared
+) -> Result<u64, Refusal>
     ensures { SharedOut (signed source) total (weighed source weights.now performances.now) amounts.old result
         amounts.new }
 {
     let room = amounts.len();
     let n = members(source, weights, performances);
-    match test_share(source, total, weights, performances, room) {
-        Tested::Ready(sum) => {
-            clear(amounts, n);
+    let test = test_share(source, total, weights, performances, room)?;
+    clear(amounts, n);
+    match test {
+        Some(sum) => {
             place(source, total, weights, performances, sum, amounts);
-            Shared::Placed(0)
+            Ok(0)
         }
-        Tested::Weightless => {
-            clear(amounts, n);
-            Shared::Placed(total)
-        }
-        Tested::Unfit(refusal) => Shared::Refused(refusal),
+        None => Ok(total),
     }
 }
 
-// The total over the weights: each member's amount is written, or refused is TooShort (12) where the amounts have less room than there are
-// weights, then WrongCount (5) where the total or the sum of the weights is over its limit. A refusal writes nothing.
-pub fn share(total: u64, weights: &[u64], amounts: &mut [i64]) -> Shared
+// The total over the weights: each member's amount is written, and how much is unplaced is told; or refused is TooShort (12) where the amounts have less
+// room than there are weights, then WrongCount (5) where the total or the sum of the weights is over its limit. A refusal writes nothing.
+pub fn share(total: u64, weights: &[u64], amounts: &mut [i64]) -> Result<u64, Refusal>
     ensures { SharedOut credit total weights.now amounts.old result amounts.new }
 {
     let none = [0i64; 1];
@@ -108,7 +84,11 @@ pub fn share(total: u64, weights: &[u64], amounts: &mut [i64]) -> Shared
 }
 
 // The same over the negative performances, as sizes, the amounts with a minus sign.
-pub fn share_unhelpful(total: u64, performances: &[i64], amounts: &mut [i64]) -> Shared
+pub fn share_unhelpful(
+    total: u64,
+    performances: &[i64],
+    amounts: &mut [i64],
+) -> Result<u64, Refusal>
     ensures { SharedOut debit total (map loss performances.now) amounts.old result amounts.new }
 {
     let none = [0u64; 1];
@@ -121,38 +101,35 @@ fn place_side(
     total: u64,
     weights: &[u64],
     performances: &[i64],
-    test: Tested,
+    test: Option<u64>,
     amounts: &mut [i64],
 ) -> u64
-    requires { (test ≡ tested total (weighed source weights.now performances.now) (length amounts.old)) × Clear amounts.old
+    requires { (Ok test ≡ tested total (weighed source weights.now performances.now) (length amounts.old)) × Clear amounts.old
         (length (weighed source weights.now performances.now)) }
     ensures { SidePlaced source total (weighed source weights.now performances.now) amounts.old result amounts.new }
 {
     match test {
-        Tested::Ready(sum) => {
+        Some(sum) => {
             place(source, total, weights, performances, sum, amounts);
             0
         }
-        Tested::Weightless => total,
-        Tested::Unfit(_) => total,
+        None => total,
     }
 }
 
 // The total over the positive performances, and with a minus sign over the negative ones, in one column. Both sides are tested before
-// anything is written, the positive one first.
-pub fn share_signs(total: u64, performances: &[i64], amounts: &mut [i64]) -> SharedSigns
+// anything is written, the positive one first. Told is how much is unplaced of the positive side and of the negative.
+pub fn share_signs(
+    total: u64,
+    performances: &[i64],
+    amounts: &mut [i64],
+) -> Result<(u64, u64), Refusal>
     ensures { SignsOut total performances.now amounts.old result amounts.new }
 {
     let none = [0u64; 1];
     let room = amounts.len();
-    let helpful = test_share(Source::Helpful, total, &none, performances, room);
-    if let Tested::Unfit(refusal) = helpful {
-        return SharedSigns::Refused(refusal);
-    }
-    let unhelpful = test_share(Source::Unhelpful, total, &none, performances, room);
-    if let Tested::Unfit(refusal) = unhelpful {
-        return SharedSigns::Refused(refusal);
-    }
+    let helpful = test_share(Source::Helpful, total, &none, performances, room)?;
+    let unhelpful = test_share(Source::Unhelpful, total, &none, performances, room)?;
     clear(amounts, performances.len());
     let up = place_side(
         Source::Helpful,
@@ -170,5 +147,5 @@ pub fn share_signs(total: u64, performances: &[i64], amounts: &mut [i64]) -> Sha
         unhelpful,
         amounts,
     );
-    SharedSigns::Placed(up, down)
+    Ok((up, down))
 }

@@ -32,12 +32,10 @@ fn ratio_of(rest: u64, sum: u64) -> u64
 {
     let mut found: u64 = 0;
     let mut over = rest;
-    let mut i: u64 = 0;
-    while i < 64 {
+    for i in 0..64u64 {
         let p = bit_more(found, over, sum);
         found = p.whole;
         over = p.rest;
-        i += 1;
     }
     found
 }

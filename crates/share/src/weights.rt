@@ -75,14 +75,12 @@ pub(crate) fn sum_of(source: Source, weights: &[u64], performances: &[i64]) -> u
 {
     let n = members(source, weights, performances);
     let mut sum: u64 = 0;
-    let mut i: usize = 0;
-    while i < n {
+    for i in 0..n {
         let w = weight(source, weights, performances, i);
         if WEIGHT_LIMIT - sum < w {
             return WEIGHT_LIMIT + 1;
         }
         sum += w;
-        i += 1;
     }
     sum
 }

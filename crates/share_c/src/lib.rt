@@ -4,7 +4,7 @@
 ghost use Rattle.share_c.specs.Promises.{Told};
 
 use rules::refusal_number;
-use share::{Shared, share};
+use share::share;
 
 // 0 where the total is shared, with what is unplaced beside it, and else the refusal's number, with nothing written.
 #[unsafe(no_mangle)]
@@ -17,10 +17,10 @@ pub extern "C" fn share_amounts(
     ensures { Told total weights.now amounts.old unplaced.old result amounts.new unplaced.new }
 {
     match share(total, weights, amounts) {
-        Shared::Placed(rest) => {
+        Ok(rest) => {
             *unplaced = rest;
             0
         }
-        Shared::Refused(refusal) => refusal_number(refusal),
+        Err(refusal) => refusal_number(refusal),
     }
 }

@@ -1,11 +1,11 @@
 // The performances of a requirement from its book, and the name of a wrong member.
 ghost use Rattle.std.specs.Prelude.{◌≤◌};
 
-use super::lines::{Line, PLACES};
+use super::lines::PLACES;
 use super::{lines, output};
 use answer::call::answer;
 use answer::roster::member;
-use answer::{Answer, Answered, Row};
+use answer::{Answer, Row};
 use book::{POINTS, REQUIREMENT};
 use intake::arguments::{argument, open_book};
 use intake::whole::{Next, take_book};
@@ -14,19 +14,17 @@ use interval::{FIGURES_LENGTH, ROWS_LENGTH, SERIES_LENGTH, SUMS_LENGTH, Tally};
 use little::u16_at;
 use numerals::{Word, longer, no_word};
 use rules::{Refusal, Verdict, locate};
-use sheets::Told;
 use std::fs::File;
 use std::io::Stdin;
 
 // Where the last requirement starts that a book has room for.
 const LAST: usize = 744;
 
-// Who a member is. Of a book that was taken no row is refused; if one were, that would be passed on.
+// Who a member is.
 #[derive(Clone, Copy)]
 enum Name {
     Unit(u16),
     Residual,
-    Refused(Refusal),
 }
 
 // Where the requirement with this number starts among the bytes of a book's requirements; behind the last where there is none.
@@ -63,7 +61,8 @@ fn name_in(row: Row) -> Name {
     Name::Unit(number)
 }
 
-// The name of a requirement's member, from 1: past its units and groups it is the residual.
+// The name of a requirement's member, from 1: past its units and groups it is the residual. Of a book that was taken no row is refused; if one were, that would
+// be passed on.
 fn name_of(
     place: u16,
     given: Answer,
@@ -71,22 +70,20 @@ fn name_of(
     figures: &[i64; FIGURES_LENGTH],
     numbers: &[u16; UNITS],
     homes: &[u8; UNITS],
-) -> Name {
+) -> Result<Name, Refusal> {
     let direction = given.direction;
     let mut members: u16 = 0;
-    let mut row: u16 = 0;
-    while row < tally.units {
+    for row in 0..tally.units {
         let who = member(tally, row, direction, given.set, figures, numbers, homes);
         if let Row::Refused(refusal) = who {
-            return Name::Refused(refusal);
+            return Err(refusal);
         }
         members += passed(who);
         if members == place {
-            return name_in(who);
+            return Ok(name_in(who));
         }
-        row += 1;
     }
-    Name::Residual
+    Ok(Name::Residual)
 }
 
 // The verdict, a wrong member with its name.
@@ -103,9 +100,9 @@ fn tell_named(
         return;
     };
     match name_of(place, given, tally, figures, numbers, homes) {
-        Name::Unit(number) => output::wrong_unit(place, number),
-        Name::Residual => output::wrong_residual(place),
-        Name::Refused(refusal) => output::refused(locate(0, refusal)),
+        Ok(Name::Unit(number)) => output::wrong_unit(place, number),
+        Ok(Name::Residual) => output::wrong_residual(place),
+        Err(refusal) => output::refused(locate(0, refusal)),
     }
 }
 
@@ -120,16 +117,14 @@ fn judge_factors(
     homes: &[u8; UNITS],
 ) {
     let mut buffer = io::buffer();
+    let mut from = lines::fresh();
     let mut factors = [0i64; PLACES];
-    let read = lines::read_line(input, lines::fresh(), &mut buffer, &mut factors);
-    let line = read.line;
-    let Line::Numbers(count) = line else {
-        output::no_line(line, 1);
+    let Some(count) = lines::count_in(input, 1, &mut from, &mut buffer, &mut factors) else {
         return;
     };
     match lines::judge(performances, given.members as usize, &factors, count) {
-        Told::Is(verdict) => tell_named(verdict, given, tally, figures, numbers, homes),
-        Told::Refused(refusal) => output::refused(locate(0, refusal)),
+        Ok(verdict) => tell_named(verdict, given, tally, figures, numbers, homes),
+        Err(refusal) => output::refused(locate(0, refusal)),
     }
 }
 
@@ -170,10 +165,8 @@ fn judge_part(
         &mut unused,
     );
     match answered {
-        Answered::Given(given) => {
-            judge_factors(input, given, &performances, tally, figures, numbers, homes)
-        }
-        Answered::Refused(refusal) => output::refused(locate(0, refusal)),
+        Ok(given) => { judge_factors(input, given, &performances, tally, figures, numbers, homes) }
+        Err(refusal) => output::refused(locate(0, refusal)),
     }
 }
 
@@ -228,10 +221,8 @@ fn judge_file(input: &mut Stdin, file: &mut File, wanted: u64) {
 // A word that stands alone in a text.
 fn word_in(text: &[u8]) -> Word {
     let mut word = no_word();
-    let mut i: usize = 0;
-    while i < text.len() {
+    for i in 0..text.len() {
         word = longer(word, text[i]);
-        i += 1;
     }
     word
 }

@@ -2,8 +2,9 @@
 ghost use Rattle.std.specs.Prelude.{◌≤◌};
 
 use super::output;
-use numerals::{Value, Word, longer, no_word, number_in};
-use sheets::{Told, sheet};
+use numerals::{Word, longer, no_word, number_in};
+use rules::{Refusal, Verdict};
+use sheets::sheet;
 use std::io::{Read as _, Stdin};
 
 // One more than a sheet can have: what comes past that many is counted no further.
@@ -16,31 +17,11 @@ pub(crate) struct Input {
     pub(crate) end: usize,
 }
 
+// A line has a word that is no number, or it cannot be read.
 #[derive(Clone, Copy)]
-enum Byte {
-    Is(u8),
-    Ended,
-    Failed,
-}
-
-#[derive(Clone, Copy)]
-struct Came {
-    byte: Byte,
-    input: Input,
-}
-
-// How many numbers a line has, that it has a word which is none, or that it cannot be read.
-#[derive(Clone, Copy)]
-pub(crate) enum Line {
-    Numbers(usize),
+pub(crate) enum Fault {
     NoNumber,
-    Failed,
-}
-
-#[derive(Clone, Copy)]
-pub(crate) struct Read {
-    pub(crate) line: Line,
-    pub(crate) input: Input,
+    Unread,
 }
 
 // A line so far: its numbers, whether every word was one, and the word that is being read.
@@ -55,38 +36,28 @@ pub(crate) fn fresh() -> Input {
     Input { at: 0, end: 0 }
 }
 
-// Reads on, and gives the first byte that came.
-fn refill(file: &mut Stdin, buffer: &mut [u8]) -> Came {
+// Reads on, and gives the first byte that came, if one did.
+fn refill(file: &mut Stdin, input: &mut Input, buffer: &mut [u8]) -> Result<Option<u8>, Fault> {
     let Ok(end) = file.read(buffer) else {
-        return Came {
-            byte: Byte::Failed,
-            input: fresh(),
-        };
+        return Err(Fault::Unread);
     };
     if end == 0 {
-        return Came {
-            byte: Byte::Ended,
-            input: fresh(),
-        };
+        return Ok(None);
     }
-    Came {
-        byte: Byte::Is(buffer[0]),
-        input: Input { at: 1, end },
-    }
+    *input = Input { at: 1, end };
+    Ok(Some(buffer[0]))
 }
 
-fn next_byte(file: &mut Stdin, input: Input, buffer: &mut [u8]) -> Came {
+fn next_byte(file: &mut Stdin, input: &mut Input, buffer: &mut [u8]) -> Result<Option<u8>, Fault> {
     let at = input.at;
     let end = input.end;
     if at < end {
         if at < buffer.len() {
-            return Came {
-                byte: Byte::Is(buffer[at]),
-                input: Input { at: at + 1, end },
-            };
+            *input = Input { at: at + 1, end };
+            return Ok(Some(buffer[at]));
         }
     }
-    refill(file, buffer)
+    refill(file, input, buffer)
 }
 
 // Where a word ends, its number is noted.
@@ -96,7 +67,7 @@ fn end_word(reading: Reading, numbers: &mut [i64]) -> Reading {
     if !word.begun {
         return reading;
     }
-    let Value::Is(number) = number_in(word) else {
+    let Some(number) = number_in(word) else {
         return Reading {
             count,
             fine: false,
@@ -137,58 +108,52 @@ fn take(reading: Reading, byte: u8, numbers: &mut [i64]) -> Reading {
     }
 }
 
-fn told(reading: Reading) -> Line {
+fn told(reading: Reading) -> Result<usize, Fault> {
     if !reading.fine {
-        return Line::NoNumber;
+        return Err(Fault::NoNumber);
     }
-    Line::Numbers(reading.count)
+    Ok(reading.count)
 }
 
-// A line, to its end or the input's. No line has as many bytes as `left` counts: it says that the loop ends.
-pub(crate) fn read_line(
+// How many numbers a line has, to its end or the input's. No line has as many bytes as are counted here: it says that the loop ends.
+fn read_line(
     file: &mut Stdin,
-    from: Input,
+    input: &mut Input,
     buffer: &mut [u8],
     numbers: &mut [i64],
-) -> Read {
-    let mut input = from;
+) -> Result<usize, Fault> {
     let mut reading = Reading {
         count: 0,
         fine: true,
         word: no_word(),
     };
-    let mut left = u64::MAX;
-    while left > 0 {
-        let next = next_byte(file, input, buffer);
-        input = next.input;
-        let came = next.byte;
-        let Byte::Is(byte) = came else {
-            return Read {
-                line: last(came, reading, numbers),
-                input,
-            };
+    for _ in 0..u64::MAX {
+        let Some(byte) = next_byte(file, input, buffer)? else {
+            return told(end_word(reading, numbers));
         };
         if byte == b'\n' {
-            return Read {
-                line: told(end_word(reading, numbers)),
-                input,
-            };
+            return told(end_word(reading, numbers));
         }
         reading = take(reading, byte, numbers);
-        left -= 1;
     }
-    Read {
-        line: Line::Failed,
-        input,
-    }
+    Err(Fault::Unread)
 }
 
-// The line that the input's end leaves.
-fn last(came: Byte, reading: Reading, numbers: &mut [i64]) -> Line {
-    if let Byte::Ended = came {
-        return told(end_word(reading, numbers));
+// How many numbers the line at this place has, or why it has none is told.
+pub(crate) fn count_in(
+    file: &mut Stdin,
+    place: u64,
+    input: &mut Input,
+    buffer: &mut [u8],
+    numbers: &mut [i64],
+) -> Option<usize> {
+    match read_line(file, input, buffer, numbers) {
+        Ok(count) => Some(count),
+        Err(fault) => {
+            output::no_line(fault, place);
+            None
+        }
     }
-    Line::Failed
 }
 
 // No more than there are.
@@ -202,7 +167,12 @@ fn within(count: usize, most: usize) -> usize
 }
 
 // The first so many of either list.
-pub(crate) fn judge(performances: &[i64], members: usize, factors: &[i64], count: usize) -> Told {
+pub(crate) fn judge(
+    performances: &[i64],
+    members: usize,
+    factors: &[i64],
+    count: usize,
+) -> Result<Verdict, Refusal> {
     let n = within(members, performances.len());
     let m = within(count, factors.len());
     sheet(&performances[..n], &factors[..m])
@@ -211,19 +181,13 @@ pub(crate) fn judge(performances: &[i64], members: usize, factors: &[i64], count
 // Both lines from standard input.
 pub(crate) fn judge_lines(file: &mut Stdin) {
     let mut buffer = io::buffer();
+    let mut input = fresh();
     let mut performances = [0i64; PLACES];
     let mut factors = [0i64; PLACES];
-    let first = read_line(file, fresh(), &mut buffer, &mut performances);
-    let line = first.line;
-    let Line::Numbers(members) = line else {
-        output::no_line(line, 1);
+    let Some(members) = count_in(file, 1, &mut input, &mut buffer, &mut performances) else {
         return;
     };
-    let input = first.input;
-    let second = read_line(file, input, &mut buffer, &mut factors);
-    let line = second.line;
-    let Line::Numbers(count) = line else {
-        output::no_line(line, 2);
+    let Some(count) = count_in(file, 2, &mut input, &mut buffer, &mut factors) else {
         return;
     };
     output::tell(judge(&performances, members, &factors, count));

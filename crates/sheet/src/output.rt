@@ -1,7 +1,6 @@
 // The one line on standard output, or why there is none on standard error.
-use super::lines::Line;
-use rules::{Located, Side, Verdict, locate, refusal_number, refusal_point};
-use sheets::Told;
+use super::lines::Fault;
+use rules::{Located, Refusal, Side, Verdict, locate, refusal_number, refusal_point};
 use std::io::Error;
 
 // Standard error.
@@ -86,20 +85,21 @@ pub(crate) fn no_requirement(number: u64) {
     say_number(b"no requirement ", number, b"\n");
 }
 
-pub(crate) fn tell(told: Told) {
+pub(crate) fn tell(told: Result<Verdict, Refusal>) {
     match told {
-        Told::Is(verdict) => tell_verdict(verdict),
-        Told::Refused(refusal) => refused(locate(0, refusal)),
+        Ok(verdict) => tell_verdict(verdict),
+        Err(refusal) => refused(locate(0, refusal)),
     }
 }
 
 // A line that holds no numbers alone.
-pub(crate) fn no_line(line: Line, place: u64) {
-    if let Line::NoNumber = line {
-        say_number(b"text ", place, b"\n");
-        return;
+pub(crate) fn no_line(fault: Fault, place: u64) {
+    match fault {
+        Fault::NoNumber => say_number(b"text ", place, b"\n"),
+        Fault::Unread => {
+            io::write_all(STDERR_FILENO, b"sheet: standard input cannot be read\n");
+        }
     }
-    io::write_all(STDERR_FILENO, b"sheet: standard input cannot be read\n");
 }
 
 // What was to be opened, and why it was not.

@@ -1,4 +1,5 @@
 -- Laws of the definitions in specs/Promises.antt.
+use Rattle.std.specs.Prelude.{Option, None, Some, Result, Ok, Err}
 use mathlib.Core.Path.{◌≡◌, refl, sym, ◌∙◌, ap, subst}
 use mathlib.Core.Bool.{Bool, true, false, cond}
 use mathlib.Core.List.{List}
@@ -10,28 +11,26 @@ use lib.ListN.{length}
 use borrow.Author.Tests.{eqb-true, le-leb}
 use Rattle.integers.specs.Sums.{every, first_wrong}
 use Rattle.integers.proofs.Sums.{none_wrong, first_wrong_means}
+use Rattle.rules.specs.declared.Refusal.{Refusal}
 use Rattle.rules.specs.declared.Refusal.TheVariants.{TooShort, WrongCount}
 use Rattle.rules.specs.declared.Verdict.{Verdict}
 use Rattle.rules.specs.declared.Verdict.TheVariants.{WrongMember}
 use Rattle.rules.specs.Quantities.{billion, most_members}
 use Rattle.rules.specs.Refusals.{Reply, taken, refused, unless}
 use Rattle.rules.specs.Sheet.{right_at, sides_fit, members_reply, verdict, sheet_reply}
-use Rattle.share.specs.declared.exact.Judged.{Judged}
-use Rattle.share.specs.declared.exact.Judged.TheVariants.{Right, Wrong, Refused}
 use Rattle.share.specs.Exact.{judged_of}
-use Rattle.sheets.specs.declared.Told.{Told}
 use Rattle.sheets.specs.Promises.{AllRight, SheetPromise, sides_verdict}
 
 -- any two outcomes are equal
-pub sheet_only : {ps fs : List ℤ} {r r' : Told} → SheetPromise ps fs r → SheetPromise ps fs r' → r ≡ r'
+pub sheet_only : {ps fs : List ℤ} {r r' : Result Verdict Refusal} → SheetPromise ps fs r → SheetPromise ps fs r' → r ≡ r'
 sheet_only a b = a.reply ∙ sym b.reply
 
 -- ---- the sheet's reply, by what is found of its members
 module _ (ps fs : List ℤ) where
-  abbrev pub Found : Judged → Type 0
-  Found Right = AllRight ps fs × (sheet_reply ps fs ≡ taken (sides_verdict ps fs))
-  Found (Wrong k) = (k ≤ most_members) × (sheet_reply ps fs ≡ taken (WrongMember k))
-  Found (Refused refusal) = sheet_reply ps fs ≡ refused refusal
+  abbrev pub Found : Result (Option ℕ) Refusal → Type 0
+  Found (Ok None) = AllRight ps fs × (sheet_reply ps fs ≡ taken (sides_verdict ps fs))
+  Found (Ok (Some k)) = (k ≤ most_members) × (sheet_reply ps fs ≡ taken (WrongMember k))
+  Found (Err refusal) = sheet_reply ps fs ≡ refused refusal
 
   abbrev k : ℕ
   k = first_wrong (right_at billion ps fs) (length ps)

@@ -7,17 +7,10 @@ ghost use Rattle.rules.specs.Sheet.{side_right};
 ghost use Rattle.sheets.specs.Promises.{AllRight, sides_verdict, SheetPromise};
 
 use rules::{BILLION, Refusal, Side, Verdict};
-use share::exact::{Judged, first_wrong, side_sum};
+use share::exact::{first_wrong, side_sum};
 
 // Members of a requirement: 512 units and the residual.
 const MOST_MEMBERS: usize = 513;
-
-// The verdict, or the refusal.
-#[derive(Clone, Copy)]
-pub enum Told {
-    Is(Verdict),
-    Refused(Refusal),
-}
 
 // Does a side that has a member sum to the whole? Where all members are right its factors are all on that side of 0, and the others' are not.
 fn is_whole(side: Side, performances: &[i64], factors: &[i64]) -> bool
@@ -46,15 +39,14 @@ fn judge_sides(performances: &[i64], factors: &[i64]) -> Verdict
 
 // Can these factors be right? The first wrong member, from 1, else the side whose sum is off. Refuses 5 for more than 513 factors, then 12 where factors
 // and performances differ in number, then 5 where a side's absolute total passes the limit of W.
-pub fn sheet(performances: &[i64], factors: &[i64]) -> Told
+pub fn sheet(performances: &[i64], factors: &[i64]) -> Result<Verdict, Refusal>
     ensures { SheetPromise performances.now factors.now result }
 {
     if MOST_MEMBERS < factors.len() {
-        return Told::Refused(Refusal::WrongCount);
+        return Err(Refusal::WrongCount);
     }
-    match first_wrong(BILLION, performances, factors) {
-        Judged::Right => Told::Is(judge_sides(performances, factors)),
-        Judged::Wrong(member) => Told::Is(Verdict::WrongMember(member as u16)),
-        Judged::Refused(refusal) => Told::Refused(refusal),
+    match first_wrong(BILLION, performances, factors)? {
+        None => Ok(judge_sides(performances, factors)),
+        Some(member) => Ok(Verdict::WrongMember(member as u16)),
     }
 }

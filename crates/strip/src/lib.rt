@@ -4,8 +4,8 @@
 
 ghost use Rattle.strip.specs.Promise.{TrendPromise};
 
+use book::POINTS;
 use book::unit::read_unit;
-use book::{POINTS, UnitRead};
 use drawing::drawn;
 use rules::{Refusal, Trend};
 
@@ -22,7 +22,7 @@ pub fn trend(part: &[u8], points: &mut [f32]) -> Trend
     }
     let read = read_unit(part, 0);
     match read {
-        UnitRead::Taken(fields) => drawn(fields, part, points),
-        UnitRead::Refused(refusal) => Trend::Refused(refusal),
+        Ok(fields) => drawn(fields, part, points),
+        Err(refusal) => Trend::Refused(refusal),
     }
 }

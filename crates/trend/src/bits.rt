@@ -19,10 +19,8 @@ fn put_float(x: f32, at: usize, text: &mut [u8; TEXT]) -> usize {
     let all = b"0123456789ABCDEF";
     let mut digits = [0u8; 8];
     let mut rest = bits_of(x);
-    let mut left: usize = 8;
-    while left > 0 {
-        left -= 1;
-        digits[left] = all[(rest % 16) as usize];
+    for digit in digits.iter_mut().rev() {
+        *digit = all[(rest % 16) as usize];
         rest /= 16;
     }
     put_word(&digits, at, text)
@@ -39,10 +37,8 @@ fn strip_line(part: &[u8], became: &[u8], strip: Strip, text: &mut [u8; TEXT]) -
 
 fn points_line(points: &[f32; POINTS], text: &mut [u8; TEXT]) -> bool {
     let mut at: usize = 0;
-    let mut t: usize = 0;
-    while t < POINTS {
-        at = put_float(points[t], at, text);
-        t += 1;
+    for &point in points {
+        at = put_float(point, at, text);
     }
     print(at, text)
 }

@@ -17,28 +17,21 @@ use std::io::Stdin;
 // Standard error.
 const STDERR_FILENO: i32 = 2;
 
-// What the arguments ask for.
-#[derive(Clone, Copy)]
-enum Asked {
-    Units(Form),
-    Nothing,
-}
-
 // The one argument there may be is `bits`; a longer one has no place, and is none that is known.
-fn what_is_asked(rt: &HostRuntime) -> Asked {
+fn what_is_asked(rt: &HostRuntime) -> Option<Form> {
     let arguments = argument_count(rt);
     if arguments == 1 {
-        return Asked::Units(Form::Text);
+        return Some(Form::Text);
     }
     if arguments != 2 {
-        return Asked::Nothing;
+        return None;
     }
     let mut word = [0u8; 4];
     let count = argument(rt, 1, &mut word);
     if check::same(&word[..count], b"bits") {
-        return Asked::Units(Form::Bits);
+        return Some(Form::Bits);
     }
-    Asked::Nothing
+    None
 }
 
 fn reading_failed() {
@@ -71,7 +64,7 @@ fn tell(form: Form, input: &mut Stdin) {
 fn main(rt: HostRuntime) {
     let mut input = rt.stdin();
     match what_is_asked(&rt) {
-        Asked::Units(form) => tell(form, &mut input),
-        Asked::Nothing => usage(),
+        Some(form) => tell(form, &mut input),
+        None => usage(),
     }
 }

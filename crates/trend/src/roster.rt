@@ -22,12 +22,10 @@ fn print_unit(form: Form, part: &[u8], text: &mut [u8; TEXT]) -> bool {
 // Whether all of it was written.
 pub(crate) fn print_units(form: Form, units: u16, book: &[u8; HELD]) -> bool {
     let mut text = [0u8; TEXT];
-    let mut unit: usize = 0;
-    while unit < units as usize {
+    for unit in 0..units as usize {
         if !print_unit(form, record_at(book, UNITS_START + UNIT * unit), &mut text) {
             return false;
         }
-        unit += 1;
     }
     true
 }

@@ -1,14 +1,13 @@
 // The line of a unit: its lowest, highest and last deviation in MW with four decimals, and a character a point.
-ghost use Rattle.std.specs.Prelude.{◌≡◌, ℕ, ◌≤◌, ◌<◌, pos, get_or};
+ghost use Rattle.std.specs.Prelude.{◌≡◌, ℕ, ◌≤◌, ◌<◌, pos, get_or, Ok};
 ghost use Rattle.integers.specs.Bounds.{Within};
 ghost use Rattle.rules.specs.UnitRecord.{unit_record};
-ghost use Rattle.book.specs.declared.UnitRead.TheVariants.{Taken};
 ghost use Rattle.book.specs.Unit.{unit_answer};
 ghost use Rattle.trend.specs.Spans.{Spans};
 
 use super::numbers::{level, span_of, ten_thousandths, write_deviations};
 use book::unit::read_unit;
-use book::{POINTS, UnitFields, UnitRead};
+use book::{POINTS, UnitFields};
 use printing::{TEXT, print, print_refused, put_below, put_byte, put_bytes, put_number, put_word};
 use rules::locate;
 
@@ -57,10 +56,8 @@ fn put_strip(
     requires { (t : ℕ) → t < 75 → Spans lowest highest (get_or deviations.now t (pos 0)) }
 {
     let mut to = put_byte(b' ', at, text);
-    let mut t: usize = 0;
-    while t < POINTS {
-        to = put_level(level(lowest, highest, deviations[t]), to, text);
-        t += 1;
+    for &deviation in deviations {
+        to = put_level(level(lowest, highest, deviation), to, text);
     }
     to
 }
@@ -77,7 +74,7 @@ fn bad_line(fields: UnitFields, text: &mut [u8; TEXT]) -> bool {
 }
 
 fn drawn_line(fields: UnitFields, part: &[u8], text: &mut [u8; TEXT]) -> bool
-    requires { Taken fields ≡ unit_answer (unit_record 0 part.now) }
+    requires { Ok fields ≡ unit_answer (unit_record 0 part.now) }
 {
     let mut deviations = [0i64; POINTS];
     write_deviations(fields, part, &mut deviations);
@@ -91,7 +88,7 @@ fn drawn_line(fields: UnitFields, part: &[u8], text: &mut [u8; TEXT]) -> bool
 }
 
 fn taken_line(fields: UnitFields, part: &[u8], text: &mut [u8; TEXT]) -> bool
-    requires { Taken fields ≡ unit_answer (unit_record 0 part.now) }
+    requires { Ok fields ≡ unit_answer (unit_record 0 part.now) }
 {
     if !fields.good {
         return bad_line(fields, text);
@@ -103,7 +100,7 @@ fn taken_line(fields: UnitFields, part: &[u8], text: &mut [u8; TEXT]) -> bool
 pub(crate) fn unit_line(part: &[u8], text: &mut [u8; TEXT]) -> bool {
     let read = read_unit(part, 0);
     match read {
-        UnitRead::Taken(fields) => taken_line(fields, part, text),
-        UnitRead::Refused(refusal) => print_refused(locate(0, refusal)),
+        Ok(fields) => taken_line(fields, part, text),
+        Err(refusal) => print_refused(locate(0, refusal)),
     }
 }

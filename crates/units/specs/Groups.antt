@@ -1,5 +1,6 @@
 -- Whether a unit may stand in its group, by its fields and what is kept of the units before, and what a unit leaves of its plant.
-use Rattle.std.specs.Prelude.{◌≡◌, ℕ, ◌+◌, ◌-◌, ◌*◌, ◌/◌, ◌<◌, ◌≤◌, Bool, true, cond, not, ◌&&◌, ◌||◌, List, length, ℤ, pos, ◌+ℤ◌, ◌-ℤ◌, ◌==◌, nat_le, slice_index, slice_index_or, slice_set}
+use Rattle.rules.specs.declared.Refusal.{Refusal}
+use Rattle.std.specs.Prelude.{◌≡◌, ℕ, ◌+◌, ◌-◌, ◌*◌, ◌/◌, ◌<◌, ◌≤◌, Bool, true, cond, not, ◌&&◌, ◌||◌, List, length, ℤ, pos, ◌+ℤ◌, ◌-ℤ◌, ◌==◌, nat_le, slice_index, slice_index_or, slice_set, Result, Ok, Err}
 use Rattle.integers.specs.Bounds.{Within}
 use Rattle.integers.specs.Sums.{every, when}
 use Rattle.integers.specs.Fills.{filled}
@@ -12,8 +13,6 @@ use Rattle.rules.specs.Deviation.{good}
 use Rattle.rules.specs.Performance.{wanted}
 use Rattle.book.specs.Defaults.{none_in_three}
 use Rattle.book.specs.declared.UnitFields.{UnitFields}
-use Rattle.book.specs.declared.UnitRead.{UnitRead}
-use Rattle.book.specs.declared.UnitRead.TheVariants.{Taken, Refused}
 use Rattle.book.specs.Unit.{unit_of, reading_at}
 use Rattle.interval.specs.Lent.{
   Lent,
@@ -70,9 +69,9 @@ fits_group f free row homes groups =
     free
 
 -- what was read, where it may stand in its group
-abbrev pub grouped : Bool → ℕ → List ℕ → List ℕ → UnitRead → UnitRead
-grouped free row homes groups (Taken f) = cond (fits_group f free row homes groups) (Taken f) (Refused WrongGroup)
-grouped free row homes groups (Refused r) = Refused r
+abbrev pub grouped : Bool → ℕ → List ℕ → List ℕ → Result UnitFields Refusal → Result UnitFields Refusal
+grouped free row homes groups (Ok f) = cond (fits_group f free row homes groups) (Ok f) (Err WrongGroup)
+grouped free row homes groups (Err r) = Err r
 
 -- ---- the plant of a unit, in one pass over its points: its deviations are added up, and its region's sums moved to what they come to
 abbrev pub with_unit : UnitFields → (ℕ → ℤ) → List ℤ → ℕ → ℤ

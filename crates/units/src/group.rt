@@ -2,8 +2,8 @@
 ghost use Rattle.std.specs.Prelude.{◌≡◌, ◌+◌, ◌<◌, ◌≤◌, true, length};
 ghost use Rattle.units.specs.Groups.{follows, none_of_four, new_group, free_group, fits_group, grouped};
 
+use book::UnitFields;
 use book::defaults::no_three;
-use book::{UnitFields, UnitRead};
 use rules::Refusal;
 
 // So many groups are passed at a time.
@@ -45,12 +45,10 @@ fn none_from(group: u16, from: usize, row: usize, groups: &[u16]) -> bool
     requires { (from ≤ row) × (row ≤ length groups.now) × (new_group group from groups.now ≡ true) }
     ensures { result ≡ new_group group row groups.now }
 {
-    let mut at = from;
-    while at < row {
+    for at in from..row {
         if groups[at] == group {
             return false;
         }
-        at += 1;
     }
     true
 }
@@ -117,22 +115,18 @@ fn fits_group(fields: UnitFields, free: bool, row: usize, homes: &[u8], groups: 
 
 // The unit that was read, where it may stand in its group; else 16.
 pub(crate) fn in_group(
-    read: UnitRead,
+    read: Result<UnitFields, Refusal>,
     free: bool,
     row: usize,
     homes: &[u8],
     groups: &[u16],
-) -> UnitRead
+) -> Result<UnitFields, Refusal>
     requires { (row < length homes.now) × (row < length groups.now) }
     ensures { result ≡ grouped free row homes.now groups.now read }
 {
-    match read {
-        UnitRead::Taken(fields) => {
-            if fits_group(fields, free, row, homes, groups) {
-                return UnitRead::Taken(fields);
-            }
-            UnitRead::Refused(Refusal::WrongGroup)
-        }
-        UnitRead::Refused(refusal) => UnitRead::Refused(refusal),
+    let fields = read?;
+    if !fits_group(fields, free, row, homes, groups) {
+        return Err(Refusal::WrongGroup);
     }
+    Ok(fields)
 }

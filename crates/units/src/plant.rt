@@ -56,10 +56,8 @@ fn clear(deviations: &mut [i64])
     requires { 75 ≤ length deviations.old }
     ensures { deviations.new ≡ filled 75 (λ t. pos 0) deviations.old }
 {
-    let mut t: usize = 0;
-    while t < POINTS {
+    for t in 0..POINTS {
         deviations[t] = 0;
-        t += 1;
     }
 }
 
@@ -92,13 +90,11 @@ pub(crate) fn move_plant(
     let step = fields.end - fields.start;
     let bytes = &part[72..372];
     let mut trajectory: i32 = 75 * fields.start;
-    let mut t: u32 = 0;
-    while t < 75 {
+    for t in 0..75u32 {
         trajectory += step;
         let old = deviations[t as usize];
         let new = old + deviation(kind, reading(bytes, t), trajectory);
         deviations[t as usize] = new;
         move_part(before, fields.good, start + t as usize, old, new, sums);
-        t += 1;
     }
 }

@@ -42,10 +42,8 @@ pub(crate) fn each_within(limit: u64, start: usize, many: u32, numbers: &[i64]) 
     ensures { result ≡ each_sized limit start many numbers.now }
 {
     let mut any: u64 = 0;
-    let mut t: u32 = 0;
-    while t < many {
+    for t in 0..many {
         any |= outside(limit, numbers[start + t as usize]);
-        t += 1;
     }
     any == 0
 }
@@ -70,10 +68,8 @@ pub(crate) fn each_measure_within(start: usize, measures: &[i32]) -> bool
     ensures { result ≡ each_measured start measures.now }
 {
     let mut many: u32 = 0;
-    let mut t: u32 = 0;
-    while t < 75 {
+    for t in 0..75u32 {
         many += past_limit(measures[start + t as usize]);
-        t += 1;
     }
     many == 0
 }

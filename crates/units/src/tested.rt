@@ -7,7 +7,7 @@ ghost use Rattle.interval.specs.Calls.{unit_reply};
 
 use super::group::{in_group, is_free};
 use super::lent::{lent_in_range, named_group, regions_long, units_long};
-use book::UnitRead;
+use book::UnitFields;
 use interval::Tally;
 use interval::lent::of_interval;
 use interval::turns::{BEFORE_UNITS, unit_turn};
@@ -33,15 +33,15 @@ pub(crate) fn tested_unit(
     rows: &[i64],
     groups: &[u16],
     deviations: &[i64],
-) -> UnitRead
+) -> Result<UnitFields, Refusal>
     ensures { result ≡ unit_answer (unit_reply tally part.now (lent_unit measures.now sums.now figures.now
         numbers.now homes.now rows.now groups.now deviations.now)) }
 {
     if !unit_turn(tally) {
-        return UnitRead::Refused(Refusal::WrongState);
+        return Err(Refusal::WrongState);
     }
     if !regions_long(measures.len(), sums.len(), figures.len()) {
-        return UnitRead::Refused(Refusal::TooShort);
+        return Err(Refusal::TooShort);
     }
     let row = next_row(tally);
     if !units_long(
@@ -52,14 +52,14 @@ pub(crate) fn tested_unit(
         groups.len(),
         deviations.len(),
     ) {
-        return UnitRead::Refused(Refusal::TooShort);
+        return Err(Refusal::TooShort);
     }
     let free = is_free(named_group(part), row, groups);
     if !of_interval(tally.interval, figures) {
-        return UnitRead::Refused(Refusal::WrongState);
+        return Err(Refusal::WrongState);
     }
     if !lent_in_range(part, row, measures, sums, homes, rows, groups, deviations) {
-        return UnitRead::Refused(Refusal::WrongState);
+        return Err(Refusal::WrongState);
     }
     in_group(
         book::unit::read_unit(part, tally.least),

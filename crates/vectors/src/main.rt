@@ -9,7 +9,8 @@ ghost use Rattle.std.specs.Prelude.{◌≤◌};
 ghost use Rattle.integers.specs.Bounds.{Within};
 
 use interval::lent::measure_held;
-use interval::{FIGURES_LENGTH, ROW_EACH, SERIES_LENGTH, SUMS_LENGTH, Taking, Tally};
+use interval::{FIGURES_LENGTH, ROW_EACH, SERIES_LENGTH, SUMS_LENGTH, Tally};
+use rules::Located;
 
 // Standard input.
 const STDIN_FILENO: i32 = 0;
@@ -74,20 +75,16 @@ fn one_if(test: bool) -> u64
 // At how many points of the first region are two lists no further apart than the tolerance?
 fn near_points(measures: &[i32; SERIES_LENGTH], published: &[i64; 75]) -> u64 {
     let mut near: u64 = 0;
-    let mut t: usize = 0;
-    while t < 75 {
+    for t in 0..75 {
         near += one_if(off_published(measures[t], published[t]) <= TOLERANCE);
-        t += 1;
     }
     near
 }
 
 fn largest_difference(measures: &[i32; SERIES_LENGTH], published: &[i64; 75]) -> u64 {
     let mut largest: u64 = 0;
-    let mut t: usize = 0;
-    while t < 75 {
+    for t in 0..75 {
         largest = larger(largest, off_published(measures[t], published[t]));
-        t += 1;
     }
     largest
 }
@@ -122,12 +119,8 @@ fn tally_after(records: u16) -> Tally {
     }
 }
 
-fn is_taken(taking: Taking) -> bool {
-    if let Taking::Taken = taking {
-        true
-    } else {
-        false
-    }
+fn is_taken(taking: Result<(), Located>) -> bool {
+    if let Ok(()) = taking { true } else { false }
 }
 
 // The record of a region starts with the region's number.
@@ -151,12 +144,10 @@ fn take_regions(
     sums: &mut [i64; SUMS_LENGTH],
     figures: &mut [i64; FIGURES_LENGTH],
 ) -> bool {
-    let mut region: u8 = 0;
-    while region < 5 {
+    for region in 0..5u8 {
         if !take_region(region, part, measures, sums, figures) {
             return false;
         }
-        region += 1;
     }
     true
 }
@@ -172,10 +163,8 @@ fn say_if_dropped(measure: i32, t: usize) {
 
 fn say_dropped(measures: &[i32; SERIES_LENGTH]) {
     say(b"table 15: dropped from performance: points");
-    let mut t: usize = 0;
-    while t < 75 {
+    for t in 0..75 {
         say_if_dropped(measures[t], t);
-        t += 1;
     }
     say(b"\n");
 }

@@ -16,13 +16,11 @@ fn next_byte(input: &mut Stdin) -> Command {
 
 // What the next key asks for: bytes that ask for nothing are passed over. No input has as many as are counted here: it says that the loop ends.
 pub(crate) fn next_command(input: &mut Stdin) -> Command {
-    let mut bytes: u64 = 0;
-    while bytes < u64::MAX {
+    for _ in 0..u64::MAX {
         let command = next_byte(input);
         let Command::Nothing = command else {
             return command;
         };
-        bytes += 1;
     }
     Command::End
 }

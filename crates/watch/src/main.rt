@@ -67,14 +67,12 @@ fn watch_books(rt: &HostRuntime, input: &mut Stdin, first: usize, arguments: usi
         page: 0,
     };
     let mut argument = first;
-    let mut book: u32 = 0;
-    while book < u32::MAX {
+    for before in 0..u32::MAX {
         if arguments <= argument {
             return;
         }
-        book += 1;
         let place = Place {
-            book: book,
+            book: before + 1,
             more: argument + 1 < arguments,
             live: live,
         };

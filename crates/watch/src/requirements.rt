@@ -6,24 +6,17 @@ use super::commands::{Turn, turn_of};
 use super::keys::next_command;
 use super::screen::show;
 use super::{Left, Place};
+use answer::Answer;
 use answer::call::answer;
-use answer::{Answer, Answered};
 use book::REQUIREMENT;
 use intake::{MEMBERS, RECORDS, UNITS};
 use interval::{FIGURES_LENGTH, ROWS_LENGTH, SERIES_LENGTH, SUMS_LENGTH, Tally};
 use pages::PAGE;
 use pages::page::refusal_page;
+use panel::Shown;
 use panel::press::press;
-use panel::{Pressed, Shown};
 use rules::{Key, Page, refusal_number};
 use std::io::Stdin;
-
-// The page record after a screen, or the screen could not be written.
-#[derive(Clone, Copy)]
-enum Screened {
-    Page(Page),
-    Unwritten,
-}
 
 // The last requirement's place, from 0.
 fn last_of(requirements: u16) -> u16
@@ -55,17 +48,19 @@ fn ended(page: Page, last: u16) -> Left
     }
 }
 
-fn after_screen(page: Page, written: bool) -> Screened {
-    if written {
-        return Screened::Page(page);
+// The page that was shown, where its screen could be written.
+fn after_screen(page: Page, written: bool) -> Option<Page> {
+    if !written {
+        return None;
     }
-    Screened::Unwritten
+    Some(page)
 }
 
 // A refusal's page.
 fn show_phrase(number: u32, live: bool) -> bool {
     let mut text = [b' '; PAGE];
-    refusal_page(number, &mut text);
+    // A page has room for every phrase.
+    let _ = refusal_page(number, &mut text);
     show(live, &text)
 }
 
@@ -83,18 +78,15 @@ fn show_press(
     payments: &[i64; MEMBERS],
     used: &[i64; MEMBERS],
     unused: &[i64; MEMBERS],
-) -> Screened {
+) -> Option<Page> {
     let mut text = [b' '; PAGE];
     let pressed = press(
         page, key, place.book, tally, part, shown, figures, numbers, homes, payments, used, unused,
         &mut text,
     );
     match pressed {
-        Pressed::Drawn(next) => after_screen(next, show(place.live, &text)),
-        Pressed::Refused(refusal) => after_screen(
-            page,
-            show_phrase(refusal_number(refusal), place.live),
-        ),
+        Ok(next) => after_screen(next, show(place.live, &text)),
+        Err(refusal) => after_screen(page, show_phrase(refusal_number(refusal), place.live)),
     }
 }
 
@@ -110,8 +102,7 @@ pub(crate) fn watch_phrase(
     requires { requirement ≤ last }
     ensures { Within last result.turn }
 {
-    let mut keys: u64 = 0;
-    while keys < u64::MAX {
+    for _ in 0..u64::MAX {
         if !show_phrase(number, place.live) {
             return ended(page, last);
         }
@@ -122,7 +113,6 @@ pub(crate) fn watch_phrase(
                 turn: turn,
             };
         };
-        keys += 1;
     }
     ended(page, last)
 }
@@ -149,13 +139,12 @@ fn watch_keys(
 {
     let mut current = page;
     let mut key = Key::Show;
-    let mut keys: u64 = 0;
-    while keys < u64::MAX {
+    for _ in 0..u64::MAX {
         let screen = show_press(
             current, key, place, tally, part, shown, figures, numbers, homes, payments, used,
             unused,
         );
-        let Screened::Page(next) = screen else {
+        let Some(next) = screen else {
             return ended(current, last);
         };
         current = next;
@@ -167,7 +156,6 @@ fn watch_keys(
             };
         };
         key = pressed;
-        keys += 1;
     }
     ended(current, last)
 }
@@ -215,7 +203,7 @@ fn watch_requirement(
         &mut unused,
     );
     match answered {
-        Answered::Given(given) => watch_keys(
+        Ok(given) => watch_keys(
             input,
             place,
             page,
@@ -231,7 +219,7 @@ fn watch_requirement(
             &used,
             &unused,
         ),
-        Answered::Refused(refusal) => watch_phrase(
+        Err(refusal) => watch_phrase(
             input,
             refusal_number(refusal),
             place,
@@ -261,8 +249,7 @@ pub(crate) fn watch_requirements(
     let last = last_of(tally.requirements);
     let mut current = page;
     let mut requirement: u16 = 0;
-    let mut turns: u64 = 0;
-    while turns < u64::MAX {
+    for _ in 0..u64::MAX {
         let left = watch_requirement(
             input,
             place,
@@ -285,7 +272,6 @@ pub(crate) fn watch_requirements(
         let kept = left.page;
         current = kept;
         requirement = next;
-        turns += 1;
     }
     ended(current, last)
 }

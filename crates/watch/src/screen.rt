@@ -17,10 +17,8 @@ fn put_line(line: usize, text: &[u8; PAGE], screen: &mut [u8; SCREEN])
 {
     let from = LINE * line;
     let to = CLEARING + (LINE + 1) * line;
-    let mut i: usize = 0;
-    while i < LINE {
+    for i in 0..LINE {
         screen[to + i] = text[from + i];
-        i += 1;
     }
 }
 

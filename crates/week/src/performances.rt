@@ -3,13 +3,13 @@
 // behind those two for each region's residual.
 ghost use Rattle.std.specs.Prelude.{◌<◌, ◌≤◌};
 
-use super::running::{Kept, RESIDUALS, WEEKS};
+use super::running::{RESIDUALS, WEEKS};
+use answer::Row;
 use answer::call::answer;
 use answer::roster::member;
-use answer::{Answered, Row};
 use book::{REQUIREMENT, SET};
 use interval::{FIGURES_LENGTH, ROWS_LENGTH, SERIES_LENGTH, SUMS_LENGTH, Tally};
-use rules::{Direction, MOST_UNITS, Standing};
+use rules::{Direction, MOST_UNITS, Refusal, Standing};
 
 pub(crate) const ROWS: usize = 512;
 
@@ -26,7 +26,7 @@ const RESIDUAL_WEEKS: usize = 10;
 #[derive(Clone, Copy)]
 struct Noted {
     place: usize,
-    kept: Kept,
+    kept: Result<(), Refusal>,
 }
 
 // 1 for live, 0 for a default.
@@ -91,8 +91,7 @@ fn note_rows(
 {
     let direction = direction_of(offset);
     let mut place: usize = 0;
-    let mut row: u16 = 0;
-    while row < units {
+    for row in 0..units {
         let who = member(tally, row, direction, set, figures, numbers, homes);
         match who {
             Row::Unit(_, standing) => {
@@ -105,15 +104,14 @@ fn note_rows(
             Row::Refused(refusal) => {
                 return Noted {
                     place,
-                    kept: Kept::No(refusal),
+                    kept: Err(refusal),
                 };
             }
         }
-        row += 1;
     }
     Noted {
         place,
-        kept: Kept::Yes,
+        kept: Ok(()),
     }
 }
 
@@ -129,7 +127,7 @@ fn note_region(
     rows: &[i64; ROWS_LENGTH],
     done: &mut [i64; WEEKS],
     live: &mut [u8; WEEKS],
-) -> Kept
+) -> Result<(), Refusal>
     requires { each < 10 }
 {
     let mut column = [0i64; COLUMN];
@@ -142,7 +140,7 @@ fn note_region(
     let mut part = [0u8; REQUIREMENT];
     part[SET] = set;
     part[DIRECTION] = direction_byte(direction_of(offset));
-    let answered = answer(
+    let given = answer(
         tally,
         &part,
         measures,
@@ -155,21 +153,16 @@ fn note_region(
         &mut payments,
         &mut used,
         &mut unused,
-    );
+    )?;
     let units = within_rows(tally.units);
-    match answered {
-        Answered::Given(given) => {
-            let noted = note_rows(
-                tally, units, offset, set, figures, numbers, homes, &column, done, live,
-            );
-            let place = noted.place;
-            done[RESIDUALS + each] = column[place];
-            let standing = given.residual;
-            live[RESIDUALS + each] = live_byte(standing);
-            noted.kept
-        }
-        Answered::Refused(refusal) => Kept::No(refusal),
-    }
+    let noted = note_rows(
+        tally, units, offset, set, figures, numbers, homes, &column, done, live,
+    );
+    let place = noted.place;
+    done[RESIDUALS + each] = column[place];
+    let standing = given.residual;
+    live[RESIDUALS + each] = live_byte(standing);
+    noted.kept
 }
 
 // All members of a book in both directions.
@@ -183,16 +176,14 @@ pub(crate) fn note_book(
     rows: &[i64; ROWS_LENGTH],
     done: &mut [i64; WEEKS],
     live: &mut [u8; WEEKS],
-) -> Kept {
-    let mut each: usize = 0;
-    while each < RESIDUAL_WEEKS {
+) -> Result<(), Refusal> {
+    for each in 0..RESIDUAL_WEEKS {
         let kept = note_region(
             tally, each, measures, sums, figures, numbers, homes, rows, done, live,
         );
-        if let Kept::No(_) = kept {
+        if let Err(_) = kept {
             return kept;
         }
-        each += 1;
     }
-    Kept::Yes
+    Ok(())
 }

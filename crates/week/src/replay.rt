@@ -1,9 +1,9 @@
 // The books of the week, one after another: each is taken whole, then every running week has one interval more.
-ghost use Rattle.std.specs.Prelude.{◌+◌, ◌*◌, ◌<◌, ◌≤◌, length};
+ghost use Rattle.std.specs.Prelude.{◌+◌, ◌*◌, ◌<◌, ◌≤◌, length, IfOk, IfSome};
 
 use super::output::tell_books;
 use super::performances::{ROWS, note_book, within_rows};
-use super::running::{Kept, MEMBERS, RESIDUALS, WEEKS, add_at, find, join};
+use super::running::{MEMBERS, RESIDUALS, WEEKS, add_at, find, join};
 use book::POINTS;
 use intake::RECORDS;
 use intake::input::fill;
@@ -14,20 +14,11 @@ use std::io::Stdin;
 
 const MOST_BOOKS: u16 = 2016;
 
-// Whether the week goes on, or how it ended: after so many books with so many numbers, with a refusal at a book's place, or with a reading that failed.
+// The week ended with a refusal at a book's place, or with a reading that failed.
 #[derive(Clone, Copy)]
-pub(crate) enum End {
-    On,
-    Over(u16, usize),
+pub(crate) enum Fault {
     Refused(Located, u16),
-    Failed,
-}
-
-// How many numbers there are after a book.
-#[derive(Clone, Copy)]
-struct Turn {
-    members: usize,
-    end: End,
+    Unread,
 }
 
 // The numbers of a book's members join the names: how many there are then, one more than there is room for where one has none.
@@ -36,13 +27,11 @@ fn join_all(numbers: &[u16; ROWS], units: u16, names: &mut [u16; MEMBERS], membe
     ensures { result ≤ 513 }
 {
     let mut joined = members;
-    let mut row: usize = 0;
-    while row < units as usize {
+    for row in 0..units as usize {
         joined = join(names, joined, numbers[row]);
         if MEMBERS < joined {
             return joined;
         }
-        row += 1;
     }
     joined
 }
@@ -133,13 +122,12 @@ fn add_weeks(
     lives: &mut [u16; WEEKS],
     highs: &mut [u16; WEEKS],
     lows: &mut [u64; WEEKS],
-) -> Kept
+) -> Result<(), Refusal>
     requires { (to ≤ 1_034) × (units ≤ 512) }
 {
-    let mut at = from;
-    while at < to {
+    for at in from..to {
         let what = done_at(at, units, numbers, homes, names, done, live);
-        let kept = add_at(
+        add_at(
             at,
             books,
             what.units,
@@ -148,13 +136,9 @@ fn add_weeks(
             lives,
             highs,
             lows,
-        );
-        if let Kept::No(_) = kept {
-            return kept;
-        }
-        at += 1;
+        )?;
     }
-    Kept::Yes
+    Ok(())
 }
 
 // Every number's and every residual's weeks have an interval more.
@@ -170,10 +154,10 @@ fn add_book(
     lives: &mut [u16; WEEKS],
     highs: &mut [u16; WEEKS],
     lows: &mut [u64; WEEKS],
-) -> Kept
+) -> Result<(), Refusal>
     requires { (members ≤ 512) × (units ≤ 512) }
 {
-    let kept = add_weeks(
+    add_weeks(
         0,
         2 * members,
         books,
@@ -186,54 +170,36 @@ fn add_book(
         lives,
         highs,
         lows,
-    );
-    if let Kept::No(_) = kept {
-        return kept;
-    }
+    )?;
     add_weeks(
         RESIDUALS, WEEKS, books, units, numbers, homes, names, done, live, lives, highs, lows,
     )
 }
 
 // Why no more books are taken.
-fn end_of(next: Next, books: u16, members: usize, place: u16) -> End {
+fn end_of(next: Next, place: u16) -> Result<(), Fault> {
     match next {
-        Next::Taken(_) => End::Over(books, members),
-        Next::Ended => End::Over(books, members),
-        Next::Refused(said) => End::Refused(said, place),
-        Next::Failed => End::Failed,
+        Next::Taken(_) => Ok(()),
+        Next::Ended => Ok(()),
+        Next::Refused(said) => Err(Fault::Refused(said, place)),
+        Next::Failed => Err(Fault::Unread),
     }
 }
 
 // After 2,016 books any byte is one too many.
-fn last_end(input: &mut Stdin, members: usize) -> End {
+fn last_end(input: &mut Stdin, members: usize) -> Result<(u16, usize), Fault> {
     let mut byte = [0u8; 1];
     let got = fill(input, &mut byte);
     if got.failed {
-        return End::Failed;
+        return Err(Fault::Unread);
     }
     if got.count == 0 {
-        return End::Over(MOST_BOOKS, members);
+        return Ok((MOST_BOOKS, members));
     }
-    End::Refused(locate(0, Refusal::WrongWeek), MOST_BOOKS + 1)
+    Err(Fault::Refused(locate(0, Refusal::WrongWeek), MOST_BOOKS + 1))
 }
 
-fn stopped(end: End) -> Turn
-    ensures { result.members ≤ 512 }
-{
-    Turn { members: 0, end }
-}
-
-fn goes_on(end: End) -> bool {
-    match end {
-        End::On => true,
-        End::Over(_, _) => false,
-        End::Refused(_, _) => false,
-        End::Failed => false,
-    }
-}
-
-// The next book, after so many with so many numbers; its place is counted from 1.
+// The next book, after so many with so many numbers, and how many numbers there are then, or none where the books have ended; its place is counted from 1.
 fn replay_book(
     input: &mut Stdin,
     books: u16,
@@ -251,42 +217,41 @@ fn replay_book(
     lives: &mut [u16; WEEKS],
     highs: &mut [u16; WEEKS],
     lows: &mut [u64; WEEKS],
-) -> Turn
+) -> Result<Option<usize>, Fault>
     requires { (books < 2_016) × (members ≤ 512) }
-    ensures { result.members ≤ 512 }
+    ensures { IfOk result (λ after. IfSome after (λ joined. joined ≤ 512)) }
 {
     let place = books + 1;
     let next = take_book(
         input, false, bytes, measures, sums, figures, numbers, homes, rows, groups, deviations,
     );
     let Next::Taken(tally) = next else {
-        return stopped(end_of(next, books, members, place));
+        end_of(next, place)?;
+        return Ok(None);
     };
     let units = within_rows(tally.units);
     let joined = join_all(numbers, units, names, members);
     if MEMBERS < joined {
-        return stopped(End::Refused(locate(0, Refusal::WrongCount), place));
+        return Err(Fault::Refused(locate(0, Refusal::WrongCount), place));
     }
     let mut done = [0i64; WEEKS];
     let mut live = [0u8; WEEKS];
     let noted = note_book(
         tally, measures, sums, figures, numbers, homes, rows, &mut done, &mut live,
     );
-    if let Kept::No(refusal) = noted {
-        return stopped(End::Refused(locate(0, refusal), place));
+    if let Err(refusal) = noted {
+        return Err(Fault::Refused(locate(0, refusal), place));
     }
     let kept = add_book(
         books, joined, units, numbers, homes, names, &done, &live, lives, highs, lows,
     );
-    if let Kept::No(refusal) = kept {
-        return stopped(End::Refused(locate(0, refusal), place));
+    if let Err(refusal) = kept {
+        return Err(Fault::Refused(locate(0, refusal), place));
     }
-    Turn {
-        members: joined,
-        end: End::On,
-    }
+    Ok(Some(joined))
 }
 
+// After how many books the week ended, and with how many numbers.
 pub(crate) fn replay(
     input: &mut Stdin,
     bytes: &mut [u8; RECORDS],
@@ -302,21 +267,18 @@ pub(crate) fn replay(
     lives: &mut [u16; WEEKS],
     highs: &mut [u16; WEEKS],
     lows: &mut [u64; WEEKS],
-) -> End {
+) -> Result<(u16, usize), Fault> {
     let mut members: usize = 0;
-    let mut books: u16 = 0;
-    while books < MOST_BOOKS {
-        let turn = replay_book(
+    for books in 0..MOST_BOOKS {
+        let after = replay_book(
             input, books, members, bytes, measures, sums, figures, numbers, homes, rows, groups,
             deviations, names, lives, highs, lows,
-        );
-        let end = turn.end;
-        if !goes_on(end) {
-            return end;
-        }
-        members = turn.members;
-        books += 1;
-        tell_books(books);
+        )?;
+        let Some(joined) = after else {
+            return Ok((books, members));
+        };
+        members = joined;
+        tell_books(books + 1);
     }
     last_end(input, members)
 }

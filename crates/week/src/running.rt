@@ -2,9 +2,8 @@
 // residual. The intervals seen are the same for all, so they are kept once, as the books taken.
 ghost use Rattle.std.specs.Prelude.{◌<◌, ◌≤◌};
 
-use rules::{Refusal, RunningWeek, Whose};
+use rules::{Refusal, RunningWeek, WeekDefault, Whose};
 use weeks::running::{add, read};
-use weeks::{Added, Told};
 
 // How many different numbers a week can have.
 pub(crate) const MEMBERS: usize = 512;
@@ -14,24 +13,15 @@ pub(crate) const RESIDUALS: usize = 1024;
 
 pub(crate) const WEEKS: usize = 1034;
 
-// Whether an interval or a number has found its place, or the refusal.
-#[derive(Clone, Copy)]
-pub(crate) enum Kept {
-    Yes,
-    No(Refusal),
-}
-
 // Where a number stands among the names, or how many there are where it does not.
 pub(crate) fn find(names: &[u16; MEMBERS], members: usize, number: u16) -> usize
     requires { members ≤ 512 }
     ensures { result ≤ members }
 {
-    let mut at: usize = 0;
-    while at < members {
+    for at in 0..members {
         if names[at] == number {
             return at;
         }
-        at += 1;
     }
     members
 }
@@ -96,20 +86,15 @@ pub(crate) fn add_at(
     lives: &mut [u16; WEEKS],
     highs: &mut [u16; WEEKS],
     lows: &mut [u64; WEEKS],
-) -> Kept
+) -> Result<(), Refusal>
     requires { at < 1034 }
 {
     let week = week_at(at, seen, lives, highs, lows);
-    let added = add(doer_at(at, units), live, performance, week);
-    match added {
-        Added::Next(next) => {
-            lives[at] = next.live;
-            highs[at] = next.high;
-            lows[at] = next.low;
-            Kept::Yes
-        }
-        Added::Refused(refusal) => Kept::No(refusal),
-    }
+    let next = add(doer_at(at, units), live, performance, week)?;
+    lives[at] = next.live;
+    highs[at] = next.high;
+    lows[at] = next.low;
+    Ok(())
 }
 
 pub(crate) fn read_at(
@@ -118,7 +103,7 @@ pub(crate) fn read_at(
     lives: &[u16; WEEKS],
     highs: &[u16; WEEKS],
     lows: &[u64; WEEKS],
-) -> Told
+) -> Result<WeekDefault, Refusal>
     requires { at < 1034 }
 {
     read(whose_at(at), week_at(at, seen, lives, highs, lows))

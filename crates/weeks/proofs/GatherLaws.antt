@@ -1,4 +1,5 @@
 -- Laws of the definitions in specs/Gather.antt.
+use Rattle.std.specs.Prelude.{Ok, Err}
 use mathlib.Core.Path.{◌≡◌, refl, sym, ◌∙◌, ap}
 use mathlib.Core.Bool.{Bool, true, false}
 use Prim.Native.Nat.{ℕ, ◌+◌, ◌*◌, ◌/◌, ◌^◌, ◌≤◌, ◌<◌}
@@ -35,8 +36,6 @@ use Rattle.rules.specs.Week.{
   list_reply,
 }
 use Rattle.rules.specs.RunningWeek.{base, total_in, fresh, with_interval}
-use Rattle.weeks.specs.declared.Added.TheVariants as added
-use Rattle.weeks.specs.declared.Told.TheVariants as told
 use Rattle.weeks.specs.Promises.{told_of, added_of}
 use Rattle.weeks.specs.Runs.{Run, more_reply}
 use Rattle.weeks.proofs.Runs.{running_run, total_kept, shortfall_≤, reach_≤}
@@ -72,22 +71,22 @@ module _ (limit : ℕ) (i : ℕ) (w : ℕ → Interval) where
   abbrev turn : Bool → Reply RunningWeek
   turn t = unless t WrongWeek (taken (with_interval (run_of i w) (w i)))
 
-  pub more_means : {r : RunningWeek} → added.Next r ≡ added_of (more_reply limit (run_of i w) (w i)) → (within limit (w i) ≡ true) × (r ≡ run_of (i + 1) w)
+  pub more_means : {r : RunningWeek} → Ok r ≡ added_of (more_reply limit (run_of i w) (w i)) → (within limit (w i) ≡ true) × (r ≡ run_of (i + 1) w)
   more_means {r} g = go (within limit (w i)) refl g
     where
-      go : (t : Bool) → within limit (w i) ≡ t → added.Next r ≡ added_of (turn t) → (t ≡ true) × (r ≡ run_of (i + 1) w)
+      go : (t : Bool) → within limit (w i) ≡ t → Ok r ≡ added_of (turn t) → (t ≡ true) × (r ≡ run_of (i + 1) w)
       go true e g = let same : r ≡ with_interval (run_of i w) (w i) = cc in (refl, same ∙ run_more i w)
       go false e g = let z : ◌≡◌ {A = ℕ} 0 1 = cc in absurd (omega arith)
 
   pub more_fails :
-      (n : ℕ) → i < n → {why : Refusal} → added.Refused why ≡ added_of (more_reply limit (run_of i w) (w i)) →
-      added.Refused why ≡ added_of (gathered limit n w)
+      (n : ℕ) → i < n → {why : Refusal} → Err why ≡ added_of (more_reply limit (run_of i w) (w i)) →
+      Err why ≡ added_of (gathered limit n w)
   unfolding gathered
   more_fails n h {why} g = go (within limit (w i)) refl g
     where
       go :
-          (t : Bool) → within limit (w i) ≡ t → added.Refused why ≡ added_of (turn t) →
-          added.Refused why ≡ added_of (unless (every n (λ j. within limit (w j))) WrongWeek (taken (run_of n w)))
+          (t : Bool) → within limit (w i) ≡ t → Err why ≡ added_of (turn t) →
+          Err why ≡ added_of (unless (every n (λ j. within limit (w j))) WrongWeek (taken (run_of n w)))
       go true e g = let z : ◌≡◌ {A = ℕ} 0 1 = cc in absurd (omega arith)
       go false e g = rw (every_fails n (λ j. within limit (w j)) i h e) g
 
@@ -99,16 +98,16 @@ module _ (m : Whose) (ps : List ℤ) (bits : List ℕ) where
   abbrev w : ℕ → Interval
   w = interval_at ps bits
 
-  pub too_short : length bits < bytes_for n → told.Refused TooShort ≡ told_of (list_reply m ps bits)
+  pub too_short : length bits < bytes_for n → Err TooShort ≡ told_of (list_reply m ps bits)
   unfolding list_reply
   too_short h = rw (lt-leb (bytes_for n) (length bits) h)
 
   module _ (long : bytes_for n ≤ length bits) where
-    pub wrong_count : whose_fine m ≡ false → told.Refused WrongCount ≡ told_of (list_reply m ps bits)
+    pub wrong_count : whose_fine m ≡ false → Err WrongCount ≡ told_of (list_reply m ps bits)
     unfolding list_reply week_reply
     wrong_count e = rw (le-leb (bytes_for n) (length bits) long, e)
 
-    pub too_long : whose_fine m ≡ true → most_intervals < n → told.Refused WrongWeek ≡ told_of (list_reply m ps bits)
+    pub too_long : whose_fine m ≡ true → most_intervals < n → Err WrongWeek ≡ told_of (list_reply m ps bits)
     unfolding list_reply week_reply
     too_long e h = rw (le-leb (bytes_for n) (length bits) long, e, lt-leb n most_intervals h)
 
@@ -120,25 +119,25 @@ module _ (m : Whose) (ps : List ℤ) (bits : List ℕ) where
       unfolding list_reply week_reply
       tested t e = rw (le-leb (bytes_for n) (length bits) long, fine, le-leb n most_intervals few, e)
 
-      pub outside : {why : Refusal} → added.Refused why ≡ added_of (gathered (reach m) n w) → told.Refused why ≡ told_of (list_reply m ps bits)
+      pub outside : {why : Refusal} → Err why ≡ added_of (gathered (reach m) n w) → Err why ≡ told_of (list_reply m ps bits)
       unfolding gathered
       outside {why} g = go (every n (λ i. in_reach m (w i))) refl g
         where
           go :
-              (t : Bool) → every n (λ i. in_reach m (w i)) ≡ t → added.Refused why ≡ added_of (unless t WrongWeek (taken (run_of n w))) →
-              told.Refused why ≡ told_of (list_reply m ps bits)
+              (t : Bool) → every n (λ i. in_reach m (w i)) ≡ t → Err why ≡ added_of (unless t WrongWeek (taken (run_of n w))) →
+              Err why ≡ told_of (list_reply m ps bits)
           go true e g = let z : ◌≡◌ {A = ℕ} 0 1 = cc in absurd (omega arith)
-          go false e g = let same : why ≡ WrongWeek = cc in ap told.Refused same ∙ sym (tested false e)
+          go false e g = let same : why ≡ WrongWeek = cc in ap Err same ∙ sym (tested false e)
 
       pub record Read (r : RunningWeek) : Type 0 where
         pub run : Run r
         pub reads : told_of (default_reply m (total_in r) r.live) ≡ told_of (list_reply m ps bits)
 
-      pub inside : {r : RunningWeek} → added.Next r ≡ added_of (gathered (reach m) n w) → Read r
+      pub inside : {r : RunningWeek} → Ok r ≡ added_of (gathered (reach m) n w) → Read r
       unfolding gathered
       inside {r} g = go (every n (λ i. in_reach m (w i))) refl g
         where
-          go : (t : Bool) → every n (λ i. in_reach m (w i)) ≡ t → added.Next r ≡ added_of (unless t WrongWeek (taken (run_of n w))) → Read r
+          go : (t : Bool) → every n (λ i. in_reach m (w i)) ≡ t → Ok r ≡ added_of (unless t WrongWeek (taken (run_of n w))) → Read r
           go true e g =
               let same : r ≡ run_of n w = cc in
               let total : total_in (run_of n w) ≡ live_total n w = total_kept n (live_count n w) (live_total n w) in

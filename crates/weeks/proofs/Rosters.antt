@@ -1,8 +1,9 @@
 -- Laws of the definitions in specs/Rosters.antt.
+use Rattle.std.specs.Prelude.{Result, Ok, Err, ⊤}
 use mathlib.Core.Path.{◌≡◌, refl, sym, ◌∙◌, ap}
 use mathlib.Core.Bool.{Bool, true, false, ◌&&◌}
 use mathlib.Core.List.{List}
-use Prim.Native.Nat.{ℕ, zero, suc, ◌+◌, ◌*◌, ◌-◌, ◌/◌, ◌≤◌, ◌<◌, max}
+use Prim.Native.Nat.{ℕ, zero, suc, ◌+◌, ◌*◌, ◌-◌, ◌/◌, ◌≤◌, ◌<◌}
 use native.Mathlib.Nat.{mul-le-mul_right, add-mul, le-div_iff_mul-le, div-lt_iff_lt-mul}
 use native.Mathlib.Omega.{arith}
 use lib.Dec.{leb}
@@ -11,7 +12,7 @@ use lib.ListN.{length, take, drop, length-drop}
 use lib.Seq.{get_or-take, length-take-le, take_all}
 use borrow.Author.Tests.{leb-true, leb-false, le-leb, lt-leb}
 use Rattle.integers.specs.Sums.{one, every, both}
-use Rattle.integers.proofs.Sums.{every_at, every_more, every_none, every_ext, sumℕ_ext}
+use Rattle.integers.proofs.Sums.{every_at, every_step, every_more, every_fails, every_none, every_ext, sumℕ_ext}
 use Rattle.rules.specs.declared.Refusal.{Refusal}
 use Rattle.rules.specs.declared.Refusal.TheVariants.{TooShort, WrongCount, AverageTooLow, WrongWeek}
 use Rattle.rules.specs.declared.WeekDefault.{WeekDefault}
@@ -35,24 +36,37 @@ use Rattle.rules.specs.Week.{
   list_reply,
 }
 use Rattle.rules.specs.WeekRoster.{whose_of, member, member_interval, member_default, long_enough, roster_reply}
-use Rattle.weeks.specs.declared.Told.{Told}
-use Rattle.weeks.specs.declared.Told.TheVariants as told
-use Rattle.weeks.specs.declared.Written.{Written}
-use Rattle.weeks.specs.declared.Written.TheVariants as written
 use Rattle.weeks.specs.Promises.{told_of, reply_to, RosterPromise}
-use Rattle.weeks.specs.Rosters.{AllTold, ColumnsWritten, Long, averages_fine, judged, judgement, member_told, told_number, weeks_fine}
+use Rattle.weeks.specs.Rosters.{AllTold, ColumnsWritten, Long, averages_fine, judged, judgement, member_told, weeks_fine}
 
--- the larger of two judgements is that of both tests together
-together : (a b c d : Bool) → max (judgement a b) (judgement c d) ≡ judgement (a && c) (b && d)
-together true true true true = refl
-together true true true false = refl
-together true true false d = refl
-together true false true true = refl
-together true false true false = refl
-together true false false d = refl
-together false b true true = refl
-together false b true false = refl
-together false b false d = refl
+-- what a member is told, by its tests
+abbrev told_by : Bool → Bool → WeekDefault → Result WeekDefault Refusal
+told_by a b d = told_of (unless a WrongWeek (unless b AverageTooLow (taken d)))
+
+is_wrong : (a b : Bool) (d : WeekDefault) {r : Refusal} → told_by a b d ≡ Err r → (r ≡ AverageTooLow → ⊥) → (a ≡ false) × (r ≡ WrongWeek)
+is_wrong true true d e other = (cc, cc)
+is_wrong true false d e other = absurd (other cc)
+is_wrong false b d e other = (refl, cc)
+
+is_low : (a b : Bool) (d : WeekDefault) → told_by a b d ≡ Err AverageTooLow → (a ≡ true) × (b ≡ false)
+is_low true true d e = (cc, cc)
+is_low true false d e = (refl, refl)
+is_low false b d e = (cc, cc)
+
+is_default : (a b : Bool) (d : WeekDefault) {x : WeekDefault} → told_by a b d ≡ Ok x → (a ≡ true) × (b ≡ true)
+is_default true true d e = (refl, refl)
+is_default true false d e = (cc, cc)
+is_default false b d e = (cc, cc)
+
+-- the judgement with one member more, where no week is wrong
+stays : (a b c d : Bool) → c ≡ true → d ≡ true → judgement a b ≡ judgement (a && c) (b && d)
+stays true true c d e f = rw (e, f)
+stays true false c d e f = rw e
+stays false b c d e f = refl
+
+falls : (a b c d : Bool) → a ≡ true → c ≡ true → d ≡ false → Err AverageTooLow ≡ judgement (a && c) (b && d)
+falls a true c d e f g = rw (e, f, g)
+falls a false c d e f g = rw (e, f)
 
 pub group_of : (n : ℕ) → (n ≡ 0 → ⊥) → (n ≡ 1 → ⊥) → Group n ≡ whose_of n
 group_of zero a b = absurd (a refl)
@@ -85,40 +99,39 @@ week_ext m n w v e =
         (unless (leb n most_intervals && b) WrongWeek (default_reply m t d))
     go a b s t c d e f g = rw (e, f, g)
 
--- a default is told once, and never as a refusal
-abbrev told_as : WeekDefault → Told → WeekDefault
-told_as d (told.Is e) = e
-told_as d (told.Refused r) = d
-
-pub told_once : {d e : WeekDefault} → told.Is d ≡ told.Is e → d ≡ e
-told_once {d} {e} same = ap (told_as d) same
-
-abbrev is_told : Told → ℕ
-is_told (told.Is d) = 1
-is_told (told.Refused r) = 0
-
-pub never_both : {d : WeekDefault} {r : Refusal} → told.Is d ≡ told.Refused r → ⊥
-never_both same = go (ap is_told same)
-  where
-    go : ◌≡◌ {A = ℕ} 1 0 → ⊥
-    go e = omega arith
-
 module _ (n : ℕ) (ms : List ℕ) (ps : List ℤ) (bits : List ℕ) where
-  pub judged_none : 0 ≡ (judged n ms ps bits) 0
-  judged_none = rw (every_none (weeks_fine n ms ps bits), every_none (averages_fine n ms ps bits))
+  -- the judgement of the members so far, none of whose weeks is wrong
+  abbrev pub Judged : Result ⊤ Refusal → ℕ → Type 0
+  Judged found j = (every j (weeks_fine n ms ps bits) ≡ true) × (found ≡ judged n ms ps bits j)
 
-  pub judged_more : (j : ℕ) → whose_fine (member n ms ps bits j) ≡ true →
-      max ((judged n ms ps bits) j) (told_number ((member_told n ms ps bits) j)) ≡ (judged n ms ps bits) (j + 1)
-  unfolding week_reply
-  judged_more j e =
-      rw (every_more j (weeks_fine n ms ps bits), every_more j (averages_fine n ms ps bits), e)
-      (ap (max ((judged n ms ps bits) j)) (go ((weeks_fine n ms ps bits) j) ((averages_fine n ms ps bits) j))
-      ∙ together (every j (weeks_fine n ms ps bits)) (every j (averages_fine n ms ps bits)) ((weeks_fine n ms ps bits) j) ((averages_fine n ms ps bits) j))
-    where
-      go : (a b : Bool) → told_number (told_of (unless a WrongWeek (unless b AverageTooLow (taken (member_default n ms ps bits j))))) ≡ judgement a b
-      go true true = refl
-      go true false = refl
-      go false b = refl
+  pub judged_none : Judged (Ok tt) 0
+  judged_none = (every_none (weeks_fine n ms ps bits), rw (every_none (weeks_fine n ms ps bits), every_none (averages_fine n ms ps bits)))
+
+  module _ (j : ℕ) (fine : whose_fine (member n ms ps bits j) ≡ true) where
+    told_is : member_told n ms ps bits j ≡ told_by (weeks_fine n ms ps bits j) (averages_fine n ms ps bits j) (member_default n ms ps bits j)
+    unfolding week_reply
+    told_is = rw fine
+
+    pub judged_wrong : {r : Refusal} → j < length ms → member_told n ms ps bits j ≡ Err r → (r ≡ AverageTooLow → ⊥) → Err r ≡ judged n ms ps bits (length ms)
+    judged_wrong h e other =
+        let wrong = is_wrong (weeks_fine n ms ps bits j) (averages_fine n ms ps bits j) (member_default n ms ps bits j) (sym told_is ∙ e) other in
+        rw (every_fails (length ms) (weeks_fine n ms ps bits) j h wrong.0, wrong.1)
+
+    pub judged_low : {found : Result ⊤ Refusal} → Judged found j → member_told n ms ps bits j ≡ Err AverageTooLow → Judged (Err AverageTooLow) (j + 1)
+    judged_low sound e =
+        let low = is_low (weeks_fine n ms ps bits j) (averages_fine n ms ps bits j) (member_default n ms ps bits j) (sym told_is ∙ e) in (
+          every_step j (weeks_fine n ms ps bits) sound.0 low.0,
+          rw (every_more j (weeks_fine n ms ps bits), every_more j (averages_fine n ms ps bits))
+              (falls (every j (weeks_fine n ms ps bits)) (every j (averages_fine n ms ps bits)) (weeks_fine n ms ps bits j) (averages_fine n ms ps bits j) sound.0 low.0 low.1),
+        )
+
+    pub judged_more : {found : Result ⊤ Refusal} {x : WeekDefault} → Judged found j → member_told n ms ps bits j ≡ Ok x → Judged found (j + 1)
+    judged_more sound e =
+        let told = is_default (weeks_fine n ms ps bits j) (averages_fine n ms ps bits j) (member_default n ms ps bits j) (sym told_is ∙ e) in (
+          every_step j (weeks_fine n ms ps bits) sound.0 told.0,
+          sound.1 ∙ rw (every_more j (weeks_fine n ms ps bits), every_more j (averages_fine n ms ps bits))
+              (stays (every j (weeks_fine n ms ps bits)) (every j (averages_fine n ms ps bits)) (weeks_fine n ms ps bits j) (averages_fine n ms ps bits j) told.0 told.1),
+        )
 
   -- what a member's own part of the lists comes to
   pub own_part :
@@ -147,7 +160,7 @@ module _ (n : ℕ) (ms : List ℕ) (ps : List ℤ) (bits : List ℕ) where
   -- where its tests hold, a member is told its default
   pub told_default :
       (j : ℕ) → whose_fine (member n ms ps bits j) ≡ true → (weeks_fine n ms ps bits) j ≡ true → (averages_fine n ms ps bits) j ≡ true →
-      member_told n ms ps bits j ≡ told.Is (member_default n ms ps bits j)
+      member_told n ms ps bits j ≡ Ok (member_default n ms ps bits j)
   unfolding week_reply
   told_default j a b c = rw (a, b, c)
 
@@ -167,12 +180,12 @@ module _ (n : ℕ) (ms : List ℕ) (ps : List ℤ) (bits counts : List ℕ) (def
   replied a b c d e f g h = rw (e, f, g, h)
 
   pub roster_refused :
-      (r : Refusal) → reply_to n ms ps bits counts defaults ≡ refused r → RosterPromise n ms ps bits counts defaults (written.Refused r) counts defaults
+      (r : Refusal) → reply_to n ms ps bits counts defaults ≡ refused r → RosterPromise n ms ps bits counts defaults (Err r) counts defaults
   roster_refused r e = record { reply = rw e; counted = rw e; averaged = rw e }
 
   pub roster_short :
       false ≡ long_enough n ms ps bits (length counts) (length defaults) →
-      RosterPromise n ms ps bits counts defaults (written.Refused TooShort) counts defaults
+      RosterPromise n ms ps bits counts defaults (Err TooShort) counts defaults
   roster_short e = roster_refused TooShort (replied false (every m fine) (every m (weeks_fine n ms ps bits)) (every m (averages_fine n ms ps bits))
       (sym e) refl refl refl)
 
@@ -193,7 +206,7 @@ module _ (n : ℕ) (ms : List ℕ) (ps : List ℤ) (bits counts : List ℕ) (def
           defaults_room = leb-true _ _ c.1;
         }
 
-    pub roster_unfit : false ≡ every m fine → RosterPromise n ms ps bits counts defaults (written.Refused WrongCount) counts defaults
+    pub roster_unfit : false ≡ every m fine → RosterPromise n ms ps bits counts defaults (Err WrongCount) counts defaults
     roster_unfit e = roster_refused WrongCount (replied true false (every m (weeks_fine n ms ps bits)) (every m (averages_fine n ms ps bits)) (sym long)
         (sym e) refl refl)
 
@@ -203,34 +216,24 @@ module _ (n : ℕ) (ms : List ℕ) (ps : List ℤ) (bits counts : List ℕ) (def
           reply_to n ms ps bits counts defaults ≡ unless c WrongWeek (unless d AverageTooLow (taken tt))
       by c d e f = replied true true c d (sym long) (sym who) e f
 
-      pub roster_wrong : judged n ms ps bits m ≡ 17 → RosterPromise n ms ps bits counts defaults (written.Refused WrongWeek) counts defaults
-      roster_wrong e = go (every m (weeks_fine n ms ps bits)) (every m (averages_fine n ms ps bits)) refl refl e
+      pub roster_judged : {r : Refusal} → judged n ms ps bits m ≡ Err r → RosterPromise n ms ps bits counts defaults (Err r) counts defaults
+      roster_judged {r} e =
+          roster_refused r (by (every m (weeks_fine n ms ps bits)) (every m (averages_fine n ms ps bits)) refl refl
+          ∙ go (every m (weeks_fine n ms ps bits)) (every m (averages_fine n ms ps bits)) e)
         where
-          go :
-              (c d : Bool) → every m (weeks_fine n ms ps bits) ≡ c → every m (averages_fine n ms ps bits) ≡ d → judgement c d ≡ 17 →
-              RosterPromise n ms ps bits counts defaults (written.Refused WrongWeek) counts defaults
-          go true true f g e = absurd (omega arith)
-          go true false f g e = absurd (omega arith)
-          go false d f g e = roster_refused WrongWeek (by false d f g)
+          go : (c d : Bool) → judgement c d ≡ Err r → unless c WrongWeek (unless d AverageTooLow (taken (tt {0}))) ≡ refused r
+          go true true e = cc
+          go true false e = cc
+          go false d e = cc
 
-      pub roster_low : judged n ms ps bits m ≡ 14 → RosterPromise n ms ps bits counts defaults (written.Refused AverageTooLow) counts defaults
-      roster_low e = go (every m (weeks_fine n ms ps bits)) (every m (averages_fine n ms ps bits)) refl refl e
-        where
-          go :
-              (c d : Bool) → every m (weeks_fine n ms ps bits) ≡ c → every m (averages_fine n ms ps bits) ≡ d → judgement c d ≡ 14 →
-              RosterPromise n ms ps bits counts defaults (written.Refused AverageTooLow) counts defaults
-          go true true f g e = absurd (omega arith)
-          go true false f g e = roster_refused AverageTooLow (by true false f g)
-          go false d f g e = absurd (omega arith)
-
-      module _ (no_wrong : judged n ms ps bits m ≡ 17 → ⊥) (no_low : judged n ms ps bits m ≡ 14 → ⊥) where
+      module _ {x : ⊤} (sound : judged n ms ps bits m ≡ Ok x) where
         passed : (every m (weeks_fine n ms ps bits) ≡ true) × (every m (averages_fine n ms ps bits) ≡ true)
-        passed = go (every m (weeks_fine n ms ps bits)) (every m (averages_fine n ms ps bits)) no_wrong no_low
+        passed = go (every m (weeks_fine n ms ps bits)) (every m (averages_fine n ms ps bits)) sound
           where
-            go : (c d : Bool) → (judgement c d ≡ 17 → ⊥) → (judgement c d ≡ 14 → ⊥) → (c ≡ true) × (d ≡ true)
-            go true true x y = (refl, refl)
-            go true false x y = absurd (y refl)
-            go false d x y = absurd (x refl)
+            go : (c d : Bool) → judgement c d ≡ Ok x → (c ≡ true) × (d ≡ true)
+            go true true e = (refl, refl)
+            go true false e = (cc, cc)
+            go false d e = (cc, cc)
 
         pub all_told : AllTold n ms ps bits
         all_told =
@@ -240,7 +243,7 @@ module _ (n : ℕ) (ms : List ℕ) (ps : List ℤ) (bits counts : List ℕ) (def
             }
 
         pub roster_done :
-            {r : Written} {counts' : List ℕ} {defaults' : List ℤ} → r ≡ written.Done → ColumnsWritten n ms ps bits counts defaults counts' defaults' →
+            {r : Result ⊤ Refusal} {counts' : List ℕ} {defaults' : List ℤ} → r ≡ Ok tt → ColumnsWritten n ms ps bits counts defaults counts' defaults' →
             RosterPromise n ms ps bits counts defaults r counts' defaults'
         roster_done done columns =
             let all = by true true passed.0 passed.1 in

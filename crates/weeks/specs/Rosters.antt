@@ -1,28 +1,16 @@
 -- The tests of a roster's weeks, for all members one after another, and what is written when none refuses.
-use Rattle.std.specs.Prelude.{◌≡◌, Bool, true, cond, List, ℕ, ◌*◌, ◌≤◌, ◌<◌, ℤ, length, get_or}
+use Rattle.std.specs.Prelude.{◌≡◌, Bool, true, cond, List, ℕ, ◌*◌, ◌≤◌, ◌<◌, ℤ, length, get_or, Result, Ok, Err, ⊤}
 use Rattle.integers.specs.Sums.{every}
-use Rattle.rules.specs.Refusals.{number}
+use Rattle.rules.specs.declared.Refusal.{Refusal}
+use Rattle.rules.specs.declared.Refusal.TheVariants.{WrongWeek, AverageTooLow}
+use Rattle.rules.specs.declared.WeekDefault.{WeekDefault}
 use Rattle.rules.specs.Week.{whose_fine, week_fine, average_fine, week_reply, bytes_for}
 use Rattle.rules.specs.WeekRoster.{whose_of, member, member_interval, member_total, member_count, member_default, counts_after, defaults_after}
-use Rattle.weeks.specs.declared.Told.{Told}
-use Rattle.weeks.specs.declared.Told.TheVariants as told
-use Rattle.weeks.specs.declared.Written.{Written}
-use Rattle.weeks.specs.declared.Written.TheVariants as written
 use Rattle.weeks.specs.Promises.{told_of}
 
--- 0, or the refusal's number
-abbrev pub told_number : Told → ℕ
-told_number (told.Is d) = 0
-told_number (told.Refused r) = number r
-
--- a refusal, passed on
-abbrev pub passed_on : Told → Written
-passed_on (told.Is d) = written.Done
-passed_on (told.Refused r) = written.Refused r
-
--- 17, 14 or 0, by what the tests say of weeks and averages
-abbrev pub judgement : Bool → Bool → ℕ
-judgement weeks averages = cond weeks (cond averages 0 14) 17
+-- 17 where a week is wrong, else 14 where an average is too low, by what the tests say of weeks and averages
+abbrev pub judgement : Bool → Bool → Result ⊤ Refusal
+judgement weeks averages = cond weeks (cond averages (Ok tt) (Err AverageTooLow)) (Err WrongWeek)
 
 -- every member is a unit, a residual or a group of 1 to 512
 pub record AllFine (ms : List ℕ) : Type 0 where
@@ -34,7 +22,7 @@ module _ (n : ℕ) (ms : List ℕ) (ps : List ℤ) (bits : List ℕ) where
     pub weeks : length ms * n ≤ length ps
     pub bytes : length ms * bytes_for n ≤ length bits
 
-  abbrev pub member_told : ℕ → Told
+  abbrev pub member_told : ℕ → Result WeekDefault Refusal
   member_told j = told_of (week_reply (member n ms ps bits j) n (member_interval n ms ps bits j))
 
   -- the tests of one member's week, and of the first so many
@@ -44,12 +32,12 @@ module _ (n : ℕ) (ms : List ℕ) (ps : List ℤ) (bits : List ℕ) where
   abbrev pub averages_fine : ℕ → Bool
   averages_fine j = average_fine (member n ms ps bits j) (member_total n ms ps bits j) (member_count n ms ps bits j)
 
-  abbrev pub judged : ℕ → ℕ
+  abbrev pub judged : ℕ → Result ⊤ Refusal
   judged k = judgement (every k weeks_fine) (every k averages_fine)
 
   -- every member is told its default
   pub record AllTold : Type 0 where
-    pub all : (j : ℕ) → j < length ms → member_told j ≡ told.Is (member_default n ms ps bits j)
+    pub all : (j : ℕ) → j < length ms → member_told j ≡ Ok (member_default n ms ps bits j)
 
   -- the columns are filled with the members' defaults
   pub record ColumnsWritten (counts : List ℕ) (defaults : List ℤ) (counts' : List ℕ) (defaults' : List ℤ) : Type 0 where

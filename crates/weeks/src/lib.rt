@@ -7,26 +7,3 @@ pub mod roster;
 pub mod running;
 mod total;
 mod whose;
-
-use rules::{Refusal, RunningWeek, WeekDefault};
-
-// A count and a default, or the refusal.
-#[derive(Clone, Copy)]
-pub enum Told {
-    Is(WeekDefault),
-    Refused(Refusal),
-}
-
-// The running week with one interval more, or the refusal.
-#[derive(Clone, Copy)]
-pub enum Added {
-    Next(RunningWeek),
-    Refused(Refusal),
-}
-
-// A roster's counts and defaults are written, or the refusal.
-#[derive(Clone, Copy)]
-pub enum Written {
-    Done,
-    Refused(Refusal),
-}

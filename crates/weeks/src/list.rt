@@ -7,8 +7,7 @@ ghost use Rattle.weeks.specs.Gather.{gathered};
 
 use super::total::{MOST_INTERVALS, one_more, tell};
 use super::whose::{is_fine, reach, units_of};
-use super::{Added, Told};
-use rules::{Refusal, RunningWeek, Whose};
+use rules::{Refusal, RunningWeek, WeekDefault, Whose};
 
 // The bytes that hold n bits.
 pub(crate) fn bytes_for(n: usize) -> usize
@@ -26,7 +25,7 @@ fn is_live(live: &[u8], i: usize) -> bool
 }
 
 // The running week of the lists' intervals, or 17 where a live performance is past the limit.
-fn gather(limit: u64, performances: &[i64], live: &[u8]) -> Added
+fn gather(limit: u64, performances: &[i64], live: &[u8]) -> Result<RunningWeek, Refusal>
     requires { (limit ≤ base) × (length performances.now ≤ 2_016) × (bytes_for (length performances.now) ≤ length live.now) }
     ensures { result ≡ added_of (gathered limit (length performances.now) (interval_at performances.now live.now)) }
 {
@@ -36,35 +35,27 @@ fn gather(limit: u64, performances: &[i64], live: &[u8]) -> Added
         high: 0,
         low: 0,
     };
-    let mut i: usize = 0;
-    while i < performances.len() {
-        let more = one_more(limit, week, is_live(live, i), performances[i]);
-        let Added::Next(next) = more else {
-            return more;
-        };
-        week = next;
-        i += 1;
+    for i in 0..performances.len() {
+        week = one_more(limit, week, is_live(live, i), performances[i])?;
     }
-    Added::Next(week)
+    Ok(week)
 }
 
 // Count and default of a week. Refuses 12 for too few bytes of live bits, 5 for a group of 0 or over 512 units, 17 for more than 2,016 intervals or a live
 // performance that no such member can have, then 14 for an average below the limit of its book field.
-pub fn week(whose: Whose, performances: &[i64], live: &[u8]) -> Told
+pub fn week(whose: Whose, performances: &[i64], live: &[u8]) -> Result<WeekDefault, Refusal>
     ensures { WeekPromise whose performances.now live.now result }
 {
     if live.len() < bytes_for(performances.len()) {
-        return Told::Refused(Refusal::TooShort);
+        return Err(Refusal::TooShort);
     }
     let units = units_of(whose);
     if !is_fine(units) {
-        return Told::Refused(Refusal::WrongCount);
+        return Err(Refusal::WrongCount);
     }
     if (MOST_INTERVALS as usize) < performances.len() {
-        return Told::Refused(Refusal::WrongWeek);
+        return Err(Refusal::WrongWeek);
     }
-    match gather(reach(units), performances, live) {
-        Added::Next(week) => tell(whose, week),
-        Added::Refused(refusal) => Told::Refused(refusal),
-    }
+    let week = gather(reach(units), performances, live)?;
+    tell(whose, week)
 }

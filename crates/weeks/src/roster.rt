@@ -1,17 +1,15 @@
 // A whole roster's week: the members' weeks stand one after another in the lent lists. Every week is worked out twice: once to be tested, and once
 // more, when none is refused, to be written.
-ghost use Rattle.std.specs.Prelude.{◌≡◌, ◌≤◌, ◌<◌, ◌*◌, max, leb, length, get_or};
+ghost use Rattle.std.specs.Prelude.{◌≡◌, ◌≤◌, ◌<◌, ◌*◌, leb, length, get_or, Ok};
 ghost use Rattle.integers.specs.Sums.{every};
 ghost use Rattle.rules.specs.Week.{whose_fine, bytes_for};
 ghost use Rattle.rules.specs.WeekRoster.{whose_of, long_enough};
-ghost use Rattle.weeks.specs.declared.Written.TheVariants.{Done};
 ghost use Rattle.weeks.specs.Promises.{told_of, RosterPromise};
-ghost use Rattle.weeks.specs.Rosters.{Long, AllFine, AllTold, ColumnsWritten, told_number, passed_on, judged, member_told};
+ghost use Rattle.weeks.specs.Rosters.{Long, AllFine, AllTold, ColumnsWritten, judged, member_told};
 
 use super::list::{bytes_for, week};
 use super::whose::{is_fine, units_of};
-use super::{Told, Written};
-use rules::{Refusal, Whose, refusal_number};
+use rules::{Refusal, WeekDefault, Whose};
 
 // Who a member is, as a number: 0 a residual, 1 a unit, more a group of so many units.
 pub fn whose_of(number: u16) -> Whose
@@ -64,18 +62,22 @@ fn are_long(
 fn all_fine(whose: &[u16]) -> bool
     ensures { result ≡ every (length whose.now) (λ j. whose_fine (whose_of (get_or whose.now j 0))) }
 {
-    let mut j: usize = 0;
-    while j < whose.len() {
+    for j in 0..whose.len() {
         if !is_fine(units_of(whose_of(whose[j]))) {
             return false;
         }
-        j += 1;
     }
     true
 }
 
 // What the week of member j comes to.
-fn member_week(intervals: usize, whose: &[u16], performances: &[i64], live: &[u8], j: usize) -> Told
+fn member_week(
+    intervals: usize,
+    whose: &[u16],
+    performances: &[i64],
+    live: &[u8],
+    j: usize,
+) -> Result<WeekDefault, Refusal>
     requires { (j < length whose.now) × Long intervals whose.now performances.now live.now }
     ensures { result ≡ member_told intervals whose.now performances.now live.now j }
 {
@@ -85,46 +87,28 @@ fn member_week(intervals: usize, whose: &[u16], performances: &[i64], live: &[u8
     week(whose_of(whose[j]), &performances[from..to], &live[at..])
 }
 
-// 0 for a default, else the refusal's number.
-fn told_as_number(told: Told) -> u32
-    ensures { result ≡ told_number told }
-{
-    match told {
-        Told::Is(_) => 0,
-        Told::Refused(refusal) => refusal_number(refusal),
-    }
-}
-
-fn larger(a: u32, b: u32) -> u32
-    ensures { result ≡ max a b }
-{
-    if a < b { b } else { a }
-}
-
-// The tests of all members' weeks: 17 where one is wrong, else 14 where an average is too low, else 0. Of the two the larger number comes first.
-fn judge(intervals: usize, whose: &[u16], performances: &[i64], live: &[u8]) -> u32
+// The tests of all members' weeks: 17 where one is wrong, else 14 where an average is too low. A wrong week ends them.
+fn judge(intervals: usize, whose: &[u16], performances: &[i64], live: &[u8]) -> Result<(), Refusal>
     requires { Long intervals whose.now performances.now live.now × AllFine whose.now }
     ensures { result ≡ judged intervals whose.now performances.now live.now
         (length whose.now) }
 {
-    let mut worst: u32 = 0;
-    let mut j: usize = 0;
-    while j < whose.len() {
+    let mut found: Result<(), Refusal> = Ok(());
+    for j in 0..whose.len() {
         let told = member_week(intervals, whose, performances, live, j);
-        worst = larger(worst, told_as_number(told));
-        j += 1;
+        match told {
+            Ok(_) => {}
+            Err(refusal) => match refusal {
+                Refusal::AverageTooLow => {
+                    found = Err(refusal);
+                }
+                _ => {
+                    return Err(refusal);
+                }
+            },
+        }
     }
-    worst
-}
-
-// A refusal, passed on.
-fn passed_on(told: Told) -> Written
-    ensures { result ≡ passed_on told }
-{
-    match told {
-        Told::Is(_) => Written::Done,
-        Told::Refused(refusal) => Written::Refused(refusal),
-    }
+    found
 }
 
 // Where no member's week is refused, all are written.
@@ -135,24 +119,18 @@ fn write(
     live: &[u8],
     counts: &mut [u16],
     defaults: &mut [i64],
-) -> Written
+) -> Result<(), Refusal>
     requires { Long intervals whose.now performances.now live.now × AllTold intervals whose.now performances.now live.now
         × (length whose.now ≤ length counts.old) × (length whose.now ≤ length defaults.old) }
-    ensures { (result ≡ Done) × ColumnsWritten intervals whose.now performances.now live.now
+    ensures { (result ≡ Ok tt) × ColumnsWritten intervals whose.now performances.now live.now
         counts.old defaults.old counts.new defaults.new }
 {
-    let mut j: usize = 0;
-    while j < whose.len() {
-        let told = member_week(intervals, whose, performances, live, j);
-        let Told::Is(found) = told else {
-            return passed_on(told);
-        };
-        let default = found.default;
+    for j in 0..whose.len() {
+        let found = member_week(intervals, whose, performances, live, j)?;
         counts[j] = found.count;
-        defaults[j] = default;
-        j += 1;
+        defaults[j] = found.default;
     }
-    Written::Done
+    Ok(())
 }
 
 // Per member, count and default. Refuses 12 for a list that is too short, then for all members 5, then 17, then 14; nothing is written then.
@@ -163,23 +141,17 @@ pub fn roster(
     live: &[u8],
     counts: &mut [u16],
     defaults: &mut [i64],
-) -> Written
+) -> Result<(), Refusal>
     ensures { RosterPromise intervals whose.now performances.now live.now
         counts.old defaults.old result counts.new defaults.new }
 {
     let n = intervals as usize;
     if !are_long(n, whose, performances, live, counts.len(), defaults.len()) {
-        return Written::Refused(Refusal::TooShort);
+        return Err(Refusal::TooShort);
     }
     if !all_fine(whose) {
-        return Written::Refused(Refusal::WrongCount);
+        return Err(Refusal::WrongCount);
     }
-    let worst = judge(n, whose, performances, live);
-    if worst == refusal_number(Refusal::WrongWeek) {
-        return Written::Refused(Refusal::WrongWeek);
-    }
-    if worst == refusal_number(Refusal::AverageTooLow) {
-        return Written::Refused(Refusal::AverageTooLow);
-    }
+    judge(n, whose, performances, live)?;
     write(n, whose, performances, live, counts, defaults)
 }

@@ -7,22 +7,26 @@ ghost use Rattle.weeks.specs.Promises.{added_of, AddPromise, ReadPromise};
 
 use super::total::{MOST_INTERVALS, is_left_by_a_run, one_more, tell};
 use super::whose::{is_fine, reach, units_of};
-use super::{Added, Told};
-use rules::{Refusal, RunningWeek, Whose};
+use rules::{Refusal, RunningWeek, WeekDefault, Whose};
 
 // A refusal after the record's own: 11 comes first, where no run of calls leaves the record.
-fn record_first(week: RunningWeek, refusal: Refusal) -> Added
+fn record_first(week: RunningWeek, refusal: Refusal) -> Result<RunningWeek, Refusal>
     ensures { result ≡ added_of (unless (left_by_a_run week) WrongState (refused refusal)) }
 {
     if !is_left_by_a_run(week) {
-        return Added::Refused(Refusal::WrongState);
+        return Err(Refusal::WrongState);
     }
-    Added::Refused(refusal)
+    Err(refusal)
 }
 
 // The week with one interval more. Refuses 11 for a record that no run of calls leaves, 5 for a group of 0 or over 512 units, 17 for a 2,017th interval
 // or a live performance that no such member can have. What is seldom refused is tested first, and which refusal comes first where it is: that costs less.
-pub fn add(whose: Whose, live: bool, performance: i64, week: RunningWeek) -> Added
+pub fn add(
+    whose: Whose,
+    live: bool,
+    performance: i64,
+    week: RunningWeek,
+) -> Result<RunningWeek, Refusal>
     ensures { AddPromise whose live performance week result }
 {
     let units = units_of(whose);
@@ -33,20 +37,20 @@ pub fn add(whose: Whose, live: bool, performance: i64, week: RunningWeek) -> Add
         return record_first(week, Refusal::WrongWeek);
     }
     if !is_left_by_a_run(week) {
-        return Added::Refused(Refusal::WrongState);
+        return Err(Refusal::WrongState);
     }
     one_more(reach(units), week, live, performance)
 }
 
 // Count and default of the intervals added so far. Refuses 11, 5, then 14 for an average below the limit of its book field.
-pub fn read(whose: Whose, week: RunningWeek) -> Told
+pub fn read(whose: Whose, week: RunningWeek) -> Result<WeekDefault, Refusal>
     ensures { ReadPromise whose week result }
 {
     if !is_left_by_a_run(week) {
-        return Told::Refused(Refusal::WrongState);
+        return Err(Refusal::WrongState);
     }
     if !is_fine(units_of(whose)) {
-        return Told::Refused(Refusal::WrongCount);
+        return Err(Refusal::WrongCount);
     }
     tell(whose, week)
 }

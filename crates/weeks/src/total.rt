@@ -6,7 +6,6 @@ ghost use Rattle.weeks.specs.Runs.{Run, more_reply};
 ghost use Rattle.weeks.specs.Promises.{told_of, added_of};
 
 use super::whose::{BASE, default_limit};
-use super::{Added, Told};
 use rules::{Refusal, RunningWeek, WeekDefault, Whose};
 
 pub(crate) const MOST_INTERVALS: u16 = 2_016;
@@ -64,12 +63,17 @@ fn carried(week: RunningWeek, short: u64) -> RunningWeek
 
 // One interval more, or 17 where a live performance is past the limit, either way: below zero that is one whose sum with the limit is below zero. What
 // stands at an interval that is not live is not looked at.
-pub(crate) fn one_more(limit: u64, week: RunningWeek, live: bool, performance: i64) -> Added
+pub(crate) fn one_more(
+    limit: u64,
+    week: RunningWeek,
+    live: bool,
+    performance: i64,
+) -> Result<RunningWeek, Refusal>
     requires { Run week × (week.seen < 2_016) × (limit ≤ base) }
     ensures { result ≡ added_of (more_reply limit week (interval live performance)) }
 {
     if !live {
-        return Added::Next(RunningWeek {
+        return Ok(RunningWeek {
             seen: week.seen + 1,
             live: week.live,
             high: week.high,
@@ -78,9 +82,9 @@ pub(crate) fn one_more(limit: u64, week: RunningWeek, live: bool, performance: i
     }
     if 0 <= performance {
         if limit < performance as u64 {
-            return Added::Refused(Refusal::WrongWeek);
+            return Err(Refusal::WrongWeek);
         }
-        return Added::Next(RunningWeek {
+        return Ok(RunningWeek {
             seen: week.seen + 1,
             live: week.live + 1,
             high: week.high,
@@ -88,9 +92,9 @@ pub(crate) fn one_more(limit: u64, week: RunningWeek, live: bool, performance: i
         });
     }
     if limit as i64 + performance < 0 {
-        return Added::Refused(Refusal::WrongWeek);
+        return Err(Refusal::WrongWeek);
     }
-    Added::Next(carried(week, size(performance)))
+    Ok(carried(week, size(performance)))
 }
 
 // The nearest of the total over the live intervals, as a size. The base is divided first, so that no product passes 64 bits.
@@ -112,15 +116,15 @@ fn average(week: RunningWeek) -> u64
 }
 
 // Count and default, or 14 where the average is below the limit of its field.
-pub(crate) fn tell(whose: Whose, week: RunningWeek) -> Told
+pub(crate) fn tell(whose: Whose, week: RunningWeek) -> Result<WeekDefault, Refusal>
     requires { Run week }
     ensures { result ≡ told_of (default_reply whose (total_in week) week.live) }
 {
     let size = average(week);
     if default_limit(whose) < size {
-        return Told::Refused(Refusal::AverageTooLow);
+        return Err(Refusal::AverageTooLow);
     }
-    Told::Is(WeekDefault {
+    Ok(WeekDefault {
         count: week.live,
         default: -(size as i64),
     })

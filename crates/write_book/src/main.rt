@@ -13,7 +13,7 @@ use keeping::{
     BOOK, FREQUENCIES, READINGS, REGION_NUMBERS, REGION_QUALITIES, REQUIREMENT_NUMBERS, SETTINGS,
     UNIT_NUMBERS, UNIT_QUALITIES, settings_row,
 };
-use reading::{Told, read_text};
+use reading::{Fault, read_text};
 use writer::write::write;
 
 // The book of what was kept, or the refusal.
@@ -71,7 +71,7 @@ fn main(rt: HostRuntime) {
         &mut requirement_rows,
     );
     match told {
-        Told::Whole(units, requirements) => put_book(
+        Ok((units, requirements)) => put_book(
             units,
             requirements,
             &settings,
@@ -84,7 +84,7 @@ fn main(rt: HostRuntime) {
             &requirement_rows,
             &mut book,
         ),
-        Told::Fault(line) => output::text_fault(line),
-        Told::Failed => output::reading_failed(),
+        Err(Fault::Line(line)) => output::text_fault(line),
+        Err(Fault::Unread) => output::reading_failed(),
     }
 }

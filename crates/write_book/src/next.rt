@@ -47,13 +47,6 @@ pub(crate) enum Note {
     RequirementNumber(usize, i64),
 }
 
-// The word stands where it may, or it does not.
-#[derive(Clone, Copy)]
-pub(crate) enum Step {
-    On(Place, Note),
-    Fault,
-}
-
 pub(crate) fn start() -> Place {
     Place {
         next: Next::Settings,
@@ -197,52 +190,53 @@ fn noted(place: Place, number: i64) -> Note {
     }
 }
 
-fn begun(place: Place, next: Next) -> Step {
-    Step::On(before(place, next), Note::Nothing)
+fn begun(place: Place, next: Next) -> Option<(Place, Note)> {
+    Some((before(place, next), Note::Nothing))
 }
 
 // A name stands before each row.
-fn take_name(place: Place, found: Found) -> Step {
+fn take_name(place: Place, found: Found) -> Option<(Place, Note)> {
     let next = place.next;
     match found {
         Found::Settings => match next {
             Next::Settings => begun(place, Next::Setting),
-            _ => Step::Fault,
+            _ => None,
         },
         Found::Region => match next {
             Next::Region => begun(place, Next::RegionNumber),
-            _ => Step::Fault,
+            _ => None,
         },
         Found::Unit => match next {
             Next::UnitOrRequirement => begun(place, Next::UnitNumber),
-            _ => Step::Fault,
+            _ => None,
         },
         Found::Requirement => match next {
             Next::UnitOrRequirement | Next::Requirement => begun(place, Next::RequirementNumber),
-            _ => Step::Fault,
+            _ => None,
         },
-        _ => Step::Fault,
+        _ => None,
     }
 }
 
-fn take_number(place: Place, number: i64) -> Step {
+fn take_number(place: Place, number: i64) -> Option<(Place, Note)> {
     let next = place.next;
     match next {
-        Next::Settings | Next::Region | Next::UnitOrRequirement | Next::Requirement => Step::Fault,
-        _ => Step::On(moved(place), noted(place, number)),
+        Next::Settings | Next::Region | Next::UnitOrRequirement | Next::Requirement => None,
+        _ => Some((moved(place), noted(place, number))),
     }
 }
 
 // A bad point or reading holds 0, and its quality bit is 0: both stand so already.
-fn take_bad(place: Place) -> Step {
+fn take_bad(place: Place) -> Option<(Place, Note)> {
     let next = place.next;
     match next {
-        Next::Point | Next::UnitReading => Step::On(moved(place), Note::Nothing),
-        _ => Step::Fault,
+        Next::Point | Next::UnitReading => Some((moved(place), Note::Nothing)),
+        _ => None,
     }
 }
 
-pub(crate) fn take_word(place: Place, found: Found) -> Step {
+// What comes behind the word, and what is to be kept of it; nothing where it may not stand there.
+pub(crate) fn take_word(place: Place, found: Found) -> Option<(Place, Note)> {
     match found {
         Found::Number(number) => take_number(place, number),
         Found::Bad => take_bad(place),

@@ -5,7 +5,6 @@ ghost use Rattle.writer.specs.Promise.{WithinRoom};
 use super::keeping::BOOK;
 use printing::print_refused;
 use rules::Located;
-use writer::Written;
 
 // Standard error.
 const STDERR_FILENO: i32 = 2;
@@ -38,12 +37,12 @@ fn refused(said: Located) {
     }
 }
 
-pub(crate) fn tell(written: Written, book: &[u8; BOOK])
+pub(crate) fn tell(written: Result<u32, Located>, book: &[u8; BOOK])
     requires { WithinRoom 193_532 written }
 {
     match written {
-        Written::Length(length) => print_book(length as usize, book),
-        Written::Refused(said) => refused(said),
+        Ok(length) => print_book(length as usize, book),
+        Err(said) => refused(said),
     }
 }
 

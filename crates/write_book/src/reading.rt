@@ -5,19 +5,19 @@ use super::keeping::{
     FREQUENCIES, READINGS, REGION_NUMBERS, REGION_QUALITIES, REQUIREMENT_NUMBERS, SETTINGS,
     UNIT_NUMBERS, UNIT_QUALITIES, keep,
 };
-use super::next::{Note, Place, Step, may_end, start, take_word};
+use super::next::{Note, Place, may_end, start, take_word};
 use super::words::{LETTERS, found_in, keep_letter};
 use numerals::{Word, longer, no_word};
 use std::io::{Read, Stdin};
+use std::ops::ControlFlow;
 
 const PIECE: usize = 4_096;
 
-// The text is whole and has so many units and requirements; the line of its first fault; or it cannot be read.
+// The line of a text's first fault, or that it cannot be read.
 #[derive(Clone, Copy)]
-pub(crate) enum Told {
-    Whole(u32, u32),
-    Fault(u64),
-    Failed,
+pub(crate) enum Fault {
+    Line(u64),
+    Unread,
 }
 
 // Where the text is: what has to stand next, the line, whether it is left out from here on, the word so far and how many of its letters are kept, and
@@ -44,13 +44,6 @@ struct Fetched {
 struct Taken {
     reading: Reading,
     note: Note,
-}
-
-// The text goes on, or it is over.
-#[derive(Clone, Copy)]
-enum Turn {
-    On(Reading),
-    Over(Told),
 }
 
 fn fresh() -> Reading {
@@ -111,11 +104,11 @@ fn end_word(reading: Reading, comment: bool, letters: &[u8; LETTERS]) -> Taken {
     }
     let found = found_in(word, reading.letters, letters);
     match take_word(place, found) {
-        Step::On(next, note) => Taken {
+        Some((next, note)) => Taken {
             reading: between(next, reading.line, comment),
             note,
         },
-        Step::Fault => stopped(reading),
+        None => stopped(reading),
     }
 }
 
@@ -194,15 +187,13 @@ fn take_piece(
     requires { count ≤ 4096 }
 {
     let mut reading = from;
-    let mut i: usize = 0;
-    while i < count {
+    for i in 0..count {
         let taken = take_byte(reading, piece[i], letters);
         reading = taken.reading;
         let note = taken.note;
         if reading.fault {
             return reading;
         }
-        i += 1;
         keep(
             note,
             settings,
@@ -256,19 +247,23 @@ fn fetch(input: &mut Stdin, piece: &mut [u8; PIECE]) -> Fetched
     }
 }
 
-// Behind a piece that began on this line.
-fn behind_piece(reading: Reading, line: u64, ended: bool) -> Turn {
+// Behind a piece that began on this line: the text goes on, or it is whole and has so many units and requirements.
+fn behind_piece(
+    reading: Reading,
+    line: u64,
+    ended: bool,
+) -> Result<ControlFlow<(u32, u32), Reading>, Fault> {
     if reading.fault {
-        return Turn::Over(Told::Fault(reading.line));
+        return Err(Fault::Line(reading.line));
     }
     if !ended {
-        return Turn::On(reading);
+        return Ok(ControlFlow::Continue(reading));
     }
     let place = reading.place;
     if may_end(place) {
-        return Turn::Over(Told::Whole(place.units, place.requirements));
+        return Ok(ControlFlow::Break((place.units, place.requirements)));
     }
-    Turn::Over(Told::Fault(line))
+    Err(Fault::Line(line))
 }
 
 // The next piece of the text.
@@ -284,11 +279,11 @@ fn read_piece(
     unit_qualities: &mut [u8; UNIT_QUALITIES],
     readings: &mut [i32; READINGS],
     requirement_rows: &mut [i64; REQUIREMENT_NUMBERS],
-) -> Turn {
+) -> Result<ControlFlow<(u32, u32), Reading>, Fault> {
     let mut piece = [0u8; PIECE];
     let fetched = fetch(input, &mut piece);
     if fetched.failed {
-        return Turn::Over(Told::Failed);
+        return Err(Fault::Unread);
     }
     let line = reading.line;
     let next = take_piece(
@@ -308,7 +303,8 @@ fn read_piece(
     behind_piece(next, line, fetched.ended)
 }
 
-// The text to its end, or to its first fault. No text has as many pieces as `left` counts: it says that the loop ends.
+// The text to its end, with how many units and requirements it has, or to its first fault. No text has as many pieces as are counted here: it says that the
+// loop ends.
 pub(crate) fn read_text(
     input: &mut Stdin,
     settings: &mut [i64; SETTINGS],
@@ -319,12 +315,10 @@ pub(crate) fn read_text(
     unit_qualities: &mut [u8; UNIT_QUALITIES],
     readings: &mut [i32; READINGS],
     requirement_rows: &mut [i64; REQUIREMENT_NUMBERS],
-) -> Told {
+) -> Result<(u32, u32), Fault> {
     let mut letters = [0u8; LETTERS];
     let mut reading = fresh();
-    let mut left = u64::MAX;
-    while left > 0 {
-        left -= 1;
+    for _ in 0..u64::MAX {
         let turn = read_piece(
             input,
             reading,
@@ -337,13 +331,13 @@ pub(crate) fn read_text(
             unit_qualities,
             readings,
             requirement_rows,
-        );
+        )?;
         match turn {
-            Turn::On(next) => {
+            ControlFlow::Continue(next) => {
                 reading = next;
             }
-            Turn::Over(said) => return said,
+            ControlFlow::Break(counts) => return Ok(counts),
         }
     }
-    Told::Failed
+    Err(Fault::Unread)
 }

@@ -3,7 +3,7 @@
 ghost use Rattle.std.specs.Prelude.{◌≤◌};
 
 use super::next::within;
-use numerals::{Value, Word, number_in};
+use numerals::{Word, number_in};
 
 // One letter more than the longest name.
 pub(crate) const LETTERS: usize = 12;
@@ -23,12 +23,10 @@ fn same(word: &[u8], name: &[u8]) -> bool {
     if word.len() != name.len() {
         return false;
     }
-    let mut i: usize = 0;
-    while i < word.len() {
+    for i in 0..word.len() {
         if word[i] != name[i] {
             return false;
         }
-        i += 1;
     }
     true
 }
@@ -68,7 +66,7 @@ fn first_letters(count: usize, letters: &[u8; LETTERS]) -> Found
 }
 
 pub(crate) fn found_in(word: Word, count: usize, letters: &[u8; LETTERS]) -> Found {
-    if let Value::Is(number) = number_in(word) {
+    if let Some(number) = number_in(word) {
         return Found::Number(number);
     }
     if is_bad(word) {

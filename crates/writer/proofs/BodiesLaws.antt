@@ -1,5 +1,6 @@
 -- A body from a record on: the record's refusal is the body's, or the body is judged from the next record on. The counts are those of a loop over all `many`
 -- records.
+use Rattle.std.specs.Prelude.{Ok, Err}
 use mathlib.Core.Path.{◌≡◌, refl, sym, ◌∙◌, ap}
 use mathlib.Core.Bool.{Bool}
 use mathlib.Core.List.{List, ◌∷◌}
@@ -15,7 +16,6 @@ use Rattle.rules.specs.Book.{Region, Unit, Requirement}
 use Rattle.rules.specs.Given.{Given}
 use Rattle.rules.specs.Groups.{in_its_group}
 use Rattle.rules.specs.Written.{region_given, unit_given, requirement_given, regions_given, units_given, requirements_given}
-use Rattle.writer.specs.declared.judge.Judged.TheVariants.{Fine, Wrong}
 use Rattle.writer.specs.Values.{region_values, unit_values, requirement_values}
 use Rattle.writer.specs.Judged.{judged, units_before, unit_found}
 use Rattle.writer.proofs.JudgedLaws.{front_refused, front_taken, found_is}
@@ -29,11 +29,11 @@ some_left i many h = omega arith
 
 -- ---- regions
 module _ (g : Given) (many r : ℕ) where
-  pub regions_done : many ≤ r → judged (regions_given (many - r) g r) ≡ Fine
+  pub regions_done : many ≤ r → judged (regions_given (many - r) g r) ≡ Ok tt
   unfolding regions_given
   regions_done h = rw (none_left r many h)
 
-  pub regions_wrong : (w : Refusal) → r < many → region_given g r ≡ refused w → judged (regions_given (many - r) g r) ≡ Wrong (located (r + 1) w)
+  pub regions_wrong : (w : Refusal) → r < many → region_given g r ≡ refused w → judged (regions_given (many - r) g r) ≡ Err (located (r + 1) w)
   unfolding regions_given
   regions_wrong w h e =
       rw (some_left r many h, add-one r)
@@ -48,12 +48,12 @@ module _ (g : Given) (many r : ℕ) where
 
 -- ---- units
 module _ (g : Given) (many j least : ℕ) where
-  pub units_done : many ≤ j → judged (units_given (many - j) least (units_before g j) g j) ≡ Fine
+  pub units_done : many ≤ j → judged (units_given (many - j) least (units_before g j) g j) ≡ Ok tt
   unfolding units_given
   units_done h = rw (none_left j many h)
 
   pub units_wrong : (w : Refusal) → j < many → unit_found least g j ≡ refused w →
-      judged (units_given (many - j) least (units_before g j) g j) ≡ Wrong (located (j + 1) w)
+      judged (units_given (many - j) least (units_before g j) g j) ≡ Err (located (j + 1) w)
   unfolding units_given
   units_wrong w h e =
       rw (some_left j many h, add-one j)
@@ -80,12 +80,12 @@ module _ (g : Given) (many q least : ℕ) where
       go (yes e) = eq-eqb (q + 1) many e ∙ sym (eq-eqb (many - suc q) 0 (omega arith))
       go (no d) = ne_eqb (q + 1) many d ∙ sym (ne_eqb (many - suc q) 0 (λ z. d (omega arith)))
 
-  pub requirements_done : many ≤ q → judged (requirements_given (many - q) least g q) ≡ Fine
+  pub requirements_done : many ≤ q → judged (requirements_given (many - q) least g q) ≡ Ok tt
   unfolding requirements_given
   requirements_done h = rw (none_left q many h)
 
   pub requirements_wrong : (w : Refusal) → q < many → requirement_given least (eqb (q + 1) many) g q ≡ refused w →
-      judged (requirements_given (many - q) least g q) ≡ Wrong (located (q + 1) w)
+      judged (requirements_given (many - q) least g q) ≡ Err (located (q + 1) w)
   unfolding requirements_given
   requirements_wrong w h e =
       rw (some_left q many h, add-one q)

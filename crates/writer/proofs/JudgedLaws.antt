@@ -1,5 +1,6 @@
 -- Laws of the definitions in specs/Judged.antt: a body is judged by its first record and then by the rest; a number that does not fit is told where its field's
 -- rule is tested; a unit stands in its group by the rows as it does by the units that they say.
+use Rattle.std.specs.Prelude.{Ok, Err}
 use mathlib.Core.Path.{◌≡◌, refl, sym, ◌∙◌, ap, ap₂}
 use mathlib.Core.Bool.{Bool, true, false, cond, not, ◌&&◌}
 use mathlib.Core.List.{List, append-nil}
@@ -73,16 +74,14 @@ use Rattle.laws.proofs.LimitsLaws.{passed, took, went_on}
 use Rattle.laws.proofs.Judged.{unit_taken}
 use Rattle.laws.proofs.LaidLaws.{settings_length, region_length, unit_length, requirement_length, unit_number_back, unit_region_back, unit_group_back}
 use Rattle.book.specs.declared.UnitFields.{UnitFields}
-use Rattle.book.specs.declared.UnitRead.TheVariants as u
 use Rattle.book.specs.Frequency.{frequency_answer}
 use Rattle.book.specs.Unit.{unit_answer, unit_of}
-use Rattle.writer.specs.declared.judge.Judged.TheVariants.{Wrong}
 use Rattle.writer.specs.Put.{put}
 use Rattle.writer.specs.Judged.{judged, least_for, amounts_told, group_told, row_group, new_before, stands, units_before, unit_found}
 
 -- ---- a body
 pub front_refused : {A C : Type 0} (place : ℕ) (x : Reply A) (f : A → LocatedReply C) (r : Refusal) → x ≡ refused r →
-    judged (at place x >>= f) ≡ Wrong (located place r)
+    judged (at place x >>= f) ≡ Err (located place r)
 front_refused place x f r e = rw e
 
 pub front_taken : {A B C : Type 0} (place : ℕ) (x : Reply A) (f : A → LocatedReply B) (k : A → B → C) (a : A) → x ≡ taken a →
@@ -241,16 +240,16 @@ unfolding new_before
 new_more h rows i e d = rw (add-one i, e, ne_eqb (row_group rows i) h d)
 
 -- ---- a unit that was read, and then its group
-pub found_stands : (least : ℕ) (g : Given) (j : ℕ) (a : Unit) (v : UnitFields) → unit_given least g j ≡ taken a → unit_answer (taken a) ≡ u.Taken v →
-    unit_answer (unit_found least g j) ≡ cond (stands v g.unit_rows j) (u.Taken v) (u.Refused WrongGroup)
+pub found_stands : (least : ℕ) (g : Given) (j : ℕ) (a : Unit) (v : UnitFields) → unit_given least g j ≡ taken a → unit_answer (taken a) ≡ Ok v →
+    unit_answer (unit_found least g j) ≡ cond (stands v g.unit_rows j) (Ok v) (Err WrongGroup)
 found_stands least g j a v e is =
     let same : unit_of a (good a) ≡ v = cc in
     rw (← same, stands_is g j a (good a)) (ap (λ (x : Reply Unit). unit_answer (x >>= in_its_group (units_before g j))) e ∙ go (group_fine
     (units_before g j) a))
   where
-    go : (t : Bool) → unit_answer (unless t WrongGroup (taken a)) ≡ cond t (u.Taken (unit_of a (good a))) (u.Refused WrongGroup)
+    go : (t : Bool) → unit_answer (unless t WrongGroup (taken a)) ≡ cond t (Ok (unit_of a (good a))) (Err WrongGroup)
     go true = refl
     go false = refl
 
-pub found_refused : (least : ℕ) (g : Given) (j : ℕ) (r : Refusal) → unit_given least g j ≡ refused r → unit_answer (unit_found least g j) ≡ u.Refused r
+pub found_refused : (least : ℕ) (g : Given) (j : ℕ) (r : Refusal) → unit_given least g j ≡ refused r → unit_answer (unit_found least g j) ≡ Err r
 found_refused least g j r e = ap (λ (x : Reply Unit). unit_answer (x >>= in_its_group (units_before g j))) e

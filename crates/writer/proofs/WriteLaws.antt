@@ -1,4 +1,5 @@
 -- The call, test by test: what is written where each fails and where all hold, and what the tests say of counts and lists.
+use Rattle.std.specs.Prelude.{Result, Ok, Err}
 use mathlib.Core.Path.{◌≡◌, sym, ◌∙◌, ap}
 use mathlib.Core.Bool.{true, false, ◌&&◌}
 use mathlib.Core.List.{List}
@@ -14,8 +15,6 @@ use Rattle.rules.specs.Book.{Book}
 use Rattle.rules.specs.Given.{Given}
 use Rattle.rules.specs.Written.{book_laid, book_given, book_size, regions_long, units_long, long_enough, counts_fine, written}
 use Rattle.laws.proofs.LaidLaws.{book_length}
-use Rattle.writer.specs.declared.Written.{Written}
-use Rattle.writer.specs.declared.Written.TheVariants.{Length, Refused}
 use Rattle.writer.specs.Values.{BookLists}
 use Rattle.writer.specs.Promise.{write_reply, write_kept, at_front, WritePromise}
 
@@ -37,15 +36,15 @@ module _ (g : Given) (room : ℕ) where
   written_fine b e f h = rw (e, f, h)
 
 -- ---- the promise
-pub promise_refused : (g : Given) (old : List ℕ) (w : Located) {r : Written} → written g (length old) ≡ refused w → r ≡ Refused w → WritePromise g old r old
+pub promise_refused : (g : Given) (old : List ℕ) (w : Located) {r : Result ℕ Located} → written g (length old) ≡ refused w → r ≡ Err w → WritePromise g old r old
 promise_refused g old w e f =
     record { reply = f ∙ sym (ap write_reply e); book = sym (ap (λ (x : LocatedReply (List ℕ)). write_kept x old) e) }
 
 pub promise_written : (g : Given) (old new : List ℕ) (n : ℕ) → written g (length old) ≡ taken (book_laid g) → n ≡ book_size g.units g.requirements →
-    new ≡ at_front (book_laid g) old → WritePromise g old (Length n) new
+    new ≡ at_front (book_laid g) old → WritePromise g old (Ok n) new
 promise_written g old new n e size f =
     record {
-      reply = ap Length (size ∙ sym (book_length g)) ∙ sym (ap write_reply e);
+      reply = ap Ok (size ∙ sym (book_length g)) ∙ sym (ap write_reply e);
       book = f ∙ sym (ap (λ (x : LocatedReply (List ℕ)). write_kept x old) e);
     }
 
@@ -94,6 +93,6 @@ lists_enough g room e few =
     }
 
 -- any two replies that the promise allows are equal, and so is what they leave
-pub write_only : {g : Given} {old : List ℕ} {r s : Written} {new other : List ℕ} → WritePromise g old r new → WritePromise g old s other →
+pub write_only : {g : Given} {old : List ℕ} {r s : Result ℕ Located} {new other : List ℕ} → WritePromise g old r new → WritePromise g old s other →
     (r ≡ s) × (new ≡ other)
 write_only a b = (a.reply ∙ sym b.reply, a.book ∙ sym b.book)

@@ -1,5 +1,8 @@
 -- How a book's values are judged: what is found of a body, and what the parts of a record's judgement find.
-use Rattle.std.specs.Prelude.{Bool, true, cond, not, ◌&&◌, ◌||◌, List, [], ◌∷◌, ℕ, zero, suc, ◌+◌, ◌*◌, eqb, ℤ, pos, get_or}
+use Rattle.book.specs.declared.FrequencyFields.{FrequencyFields}
+use Rattle.rules.specs.declared.Located.{Located}
+use Rattle.rules.specs.declared.Refusal.{Refusal}
+use Rattle.std.specs.Prelude.{Bool, true, cond, not, ◌&&◌, ◌||◌, List, [], ◌∷◌, ℕ, zero, suc, ◌+◌, ◌*◌, eqb, ℤ, pos, get_or, Result, Ok, Err, ⊤}
 use Rattle.rules.specs.declared.Refusal.TheVariants.{FrequencyHeader, UnitQuality}
 use Rattle.rules.specs.Refusals.{Reply, LocatedReply, taken, refused, number, ◌>>=◌}
 use Rattle.rules.specs.Book.{Unit}
@@ -23,18 +26,12 @@ use Rattle.rules.specs.UnitRecord.{unit_in}
 use Rattle.rules.specs.Groups.{same_group, in_its_group}
 use Rattle.book.specs.declared.UnitFields.{UnitFields}
 use Rattle.book.specs.Defaults.{none_in_three}
-use Rattle.book.specs.declared.FrequencyRead.{FrequencyRead}
-use Rattle.book.specs.declared.FrequencyRead.TheVariants as f
-use Rattle.book.specs.declared.UnitRead.{UnitRead}
-use Rattle.book.specs.declared.UnitRead.TheVariants as u
 use Rattle.writer.specs.declared.SettingsRow.{SettingsRow}
-use Rattle.writer.specs.declared.judge.Judged.{Judged}
-use Rattle.writer.specs.declared.judge.Judged.TheVariants.{Fine, Wrong}
 
 -- all records of a body are fine, or the first refusal
-abbrev pub judged : {A : Type 0} → LocatedReply A → Judged
-judged (taken a) = Fine
-judged (refused w) = Wrong w
+abbrev pub judged : {A : Type 0} → LocatedReply A → Result ⊤ Located
+judged (taken a) = Ok tt
+judged (refused w) = Err w
 
 -- ---- numbers that fit their fields
 abbrev pub settings_fit : SettingsRow → Bool
@@ -54,13 +51,13 @@ abbrev pub least_for : ℤ → ℕ → ℕ
 least_for x least = cond (fits unit_number x) least 65536
 
 -- ---- a number that does not fit is told where its field's rule is tested: FM before and generation behind the quality, a group behind the defaults
-abbrev pub amounts_told : FrequencyRead → FrequencyRead
-amounts_told (f.Taken g) = f.Refused FrequencyHeader
-amounts_told (f.Refused x) = cond (eqb (number x) 73) (f.Refused x) (f.Refused FrequencyHeader)
+abbrev pub amounts_told : Result FrequencyFields Refusal → Result FrequencyFields Refusal
+amounts_told (Ok g) = Err FrequencyHeader
+amounts_told (Err x) = cond (eqb (number x) 73) (Err x) (Err FrequencyHeader)
 
-abbrev pub group_told : UnitRead → UnitRead
-group_told (u.Taken v) = u.Refused UnitQuality
-group_told (u.Refused x) = cond (eqb (number x) 81) (u.Refused x) (cond (eqb (number x) 82) (u.Refused x) (u.Refused UnitQuality))
+abbrev pub group_told : Result UnitFields Refusal → Result UnitFields Refusal
+group_told (Ok v) = Err UnitQuality
+group_told (Err x) = cond (eqb (number x) 81) (Err x) (cond (eqb (number x) 82) (Err x) (Err UnitQuality))
 
 -- ---- a unit in its group, by the rows of the units before it
 abbrev pub row_region : List ℤ → ℕ → ℕ

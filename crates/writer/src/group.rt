@@ -18,12 +18,10 @@ fn new_group(group: u16, rows: &[i64], unit: usize) -> bool
     ensures { result ≡ new_before group rows.now unit }
 {
     let wanted = group as i64;
-    let mut i: usize = 0;
-    while i < unit {
+    for i in 0..unit {
         if rows[UNIT_ROW * i + GROUP] == wanted {
             return false;
         }
-        i += 1;
     }
     true
 }

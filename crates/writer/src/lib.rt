@@ -2,8 +2,6 @@
 // reader of such records, so that what is refused here is what the reader refuses; only when all are fine is the book laid out where the caller wants it.
 #![tactic(auto)]
 
-use rules::Located;
-
 mod group;
 mod judge;
 mod lay;
@@ -30,11 +28,4 @@ pub struct SettingsRow {
     pub limit: i64,
     pub percent: i64,
     pub interval: i64,
-}
-
-// The book is written and so long, or nothing is.
-#[derive(Clone, Copy)]
-pub enum Written {
-    Length(u32),
-    Refused(Located),
 }

@@ -29,11 +29,11 @@ ghost use Rattle.writer.specs.Values.{
 ghost use Rattle.writer.specs.Judged.{judged};
 ghost use Rattle.writer.specs.Promise.{WritePromise, at_front, WithinRoom};
 
-use super::judge::{Judged, judge_regions, judge_requirements, judge_settings, judge_units};
+use super::judge::{judge_regions, judge_requirements, judge_settings, judge_units};
 use super::records::{lay_contents, lay_region, lay_requirement, lay_settings, lay_unit};
-use super::{QUALITY, REGION_COUNT, REGION_ROW, REQUIREMENT_ROW, SettingsRow, UNIT_ROW, Written};
+use super::{QUALITY, REGION_COUNT, REGION_ROW, REQUIREMENT_ROW, SettingsRow, UNIT_ROW};
 use book::{CONTENTS, FREQUENCY, POINTS, REGIONS, REGIONS_START, REQUIREMENT, UNIT, UNITS_START};
-use rules::{Refusal, locate};
+use rules::{Located, Refusal, locate};
 
 // The counts are handed in as 32 bits.
 const UNIT_LIMIT: u32 = 512;
@@ -88,8 +88,7 @@ fn lay_regions(book: &mut [u8], rows: &[i64], qualities: &[u8], frequencies: &[u
     requires { (1904 ≤ length book.old) × (45 ≤ length rows.now) × (50 ≤ length qualities.now) × (375 ≤ length frequencies.now) }
     ensures { book.new ≡ put 64 (strung 0 5 (region_laid (region_values rows.now qualities.now frequencies.now))) book.old }
 {
-    let mut region: u8 = 0;
-    while region < REGION_COUNT {
+    for region in 0..REGION_COUNT {
         lay_region(
             book,
             REGIONS_START + FREQUENCY * region as usize,
@@ -98,7 +97,6 @@ fn lay_regions(book: &mut [u8], rows: &[i64], qualities: &[u8], frequencies: &[u
             frequencies,
             region,
         );
-        region += 1;
     }
 }
 
@@ -107,8 +105,7 @@ fn lay_units(book: &mut [u8], rows: &[i64], qualities: &[u8], readings: &[i32], 
     ensures { book.new ≡
         put 1904 (strung 0 units (unit_laid (unit_values rows.now qualities.now readings.now))) book.old }
 {
-    let mut unit: usize = 0;
-    while unit < units {
+    for unit in 0..units {
         lay_unit(
             book,
             UNITS_START + UNIT * unit,
@@ -117,7 +114,6 @@ fn lay_units(book: &mut [u8], rows: &[i64], qualities: &[u8], readings: &[i32], 
             readings,
             unit,
         );
-        unit += 1;
     }
 }
 
@@ -125,10 +121,8 @@ fn lay_requirements(book: &mut [u8], start: usize, rows: &[i64], requirements: u
     requires { RequirementsRoom start requirements book.old rows.now }
     ensures { book.new ≡ put start (strung 0 requirements (requirement_laid (requirement_values rows.now))) book.old }
 {
-    let mut requirement: usize = 0;
-    while requirement < requirements {
+    for requirement in 0..requirements {
         lay_requirement(book, start + REQUIREMENT * requirement, rows, requirement);
-        requirement += 1;
     }
 }
 
@@ -144,25 +138,16 @@ fn judge_book(
     readings: &[i32],
     requirements: usize,
     requirement_rows: &[i64],
-) -> Judged
+) -> Result<(), Located>
     requires { BookLists units requirements region_rows.now region_qualities.now frequencies.now unit_rows.now unit_qualities.now readings.now
         requirement_rows.now }
     ensures { result ≡ judged (book_given
         (values settings region_rows.now region_qualities.now frequencies.now units unit_rows.now
         unit_qualities.now readings.now requirements requirement_rows.now)) }
 {
-    let of_settings = judge_settings(settings);
-    if let Judged::Wrong(_) = of_settings {
-        return of_settings;
-    }
-    let of_regions = judge_regions(region_rows, region_qualities, frequencies);
-    if let Judged::Wrong(_) = of_regions {
-        return of_regions;
-    }
-    let of_units = judge_units(unit_rows, unit_qualities, readings, units);
-    if let Judged::Wrong(_) = of_units {
-        return of_units;
-    }
+    judge_settings(settings)?;
+    judge_regions(region_rows, region_qualities, frequencies)?;
+    judge_units(unit_rows, unit_qualities, readings, units)?;
     judge_requirements(requirement_rows, requirements)
 }
 
@@ -229,9 +214,8 @@ fn lay_book(
     );
 }
 
-// Writes the book of these values, or refuses: 12 for a list or a buffer that is too short for the counts as given, 5 for a count out of its limits, then
-// what the
-// reader would refuse, in the order of the book. Nothing is written on a refusal, and never a byte past the book.
+// Writes the book of these values and says its length, or refuses: 12 for a list or a buffer that is too short for the counts as given, 5 for a count out of its
+// limits, then what the reader would refuse, in the order of the book. Nothing is written on a refusal, and never a byte past the book.
 pub fn write(
     settings: SettingsRow,
     region_rows: &[i64],
@@ -244,7 +228,7 @@ pub fn write(
     requirements: u32,
     requirement_rows: &[i64],
     book: &mut [u8],
-) -> Written
+) -> Result<u32, Located>
     ensures write_promise { WritePromise
         (values settings region_rows.now region_qualities.now frequencies.now units unit_rows.now
         unit_qualities.now readings.now requirements requirement_rows.now)
@@ -264,12 +248,12 @@ pub fn write(
         requirement_rows,
         room,
     ) {
-        return Written::Refused(locate(0, Refusal::TooShort));
+        return Err(locate(0, Refusal::TooShort));
     }
     if !counts_fine(units, requirements) {
-        return Written::Refused(locate(0, Refusal::WrongCount));
+        return Err(locate(0, Refusal::WrongCount));
     }
-    let judged = judge_book(
+    judge_book(
         settings,
         region_rows,
         region_qualities,
@@ -280,10 +264,7 @@ pub fn write(
         readings,
         requirements as usize,
         requirement_rows,
-    );
-    if let Judged::Wrong(wrong) = judged {
-        return Written::Refused(wrong);
-    }
+    )?;
     lay_book(
         settings,
         region_rows,
@@ -297,5 +278,5 @@ pub fn write(
         requirement_rows,
         book,
     );
-    Written::Length(book_size(units, requirements) as u32)
+    Ok(book_size(units, requirements) as u32)
 }

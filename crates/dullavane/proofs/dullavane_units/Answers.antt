@@ -1,22 +1,15 @@
 -- The words hold a tally and the run over it is told, or they hold none and the first record is refused.
-use Rattle.dullavane.specs.Words.{Held}
-use Rattle.dullavane.proofs.WordsLaws.{held_means}
+use Rattle.dullavane.proofs.WordsLaws.{held_is, was_handed}
 use Rattle.dullavane.proofs.RunsLaws.{units_called, units_unheld}
 use Rattle.dullavane.proofs.dullavane_units.Goals as goal
-use Rattle.dullavane.proofs.dullavane_units.Goals.{Else-refusal-ne0}
-
-in_words : (c : Else-refusal-ne0) → Held c.args.tally.now
-in_words c = held_means _ c.words_refusal-refusal.ensures c.if-refusal-ne0.false
-
-pub returns-then-refusal-ne0 : goal.returns-then-refusal-ne0
-returns-then-refusal-ne0 c = units_unheld c.words_refusal-refusal.ensures c.if-refusal-ne0.true c.unheld_told.ensures
-
-pub tally_in-requires : goal.tally_in-requires
-tally_in-requires c = in_words (goal.at.tally_in-requires c).Else-refusal-ne0
 
 pub tell_run-requires : goal.tell_run-requires
-tell_run-requires c = (in_words (goal.at.tell_run-requires c).Else-refusal-ne0).long
+tell_run-requires c = (held_is _ _ (was_handed _ c.held.ensures c.in-Ok.is)).1
 
-pub returns : goal.returns
-returns c =
-    units_called c.tally_in.ensures c.run-step.ensures c.tell_run.ensures
+pub returns-in-Ok : goal.returns-in-Ok
+returns-in-Ok c =
+    units_called (was_handed _ c.held.ensures c.in-Ok.is) c.run-step.ensures c.tell_run.ensures
+
+pub returns-in-Err : goal.returns-in-Err
+returns-in-Err c =
+    units_unheld (was_handed _ c.held.ensures c.in-Err.is) c.refusal_number.ensures c.unheld_told.ensures

@@ -1,11 +1,11 @@
 -- The bits of a number below zero, read as signed.
+use Rattle.std.specs.Prelude.{Some}
 use mathlib.Core.Path.{ap, ◌∙◌}
 use native.Mathlib.Omega.{arith}
 use borrow.Author.Tests.{le-leb, lt-leb}
 use Rattle.numerals.specs.Numerals.{most}
 use mir.Syntax.{w64}
 use Rattle.integers.proofs.Casts.{back}
-use Rattle.numerals.specs.declared.Value.TheVariants.{Is}
 use Rattle.numerals.proofs.NumeralsLaws.{bits_below}
 use Rattle.numerals.proofs.turned.Goals as goal
 
@@ -18,4 +18,4 @@ returns-then-size-eq0 c = rw c.if-size-eq0.true
 pub returns : goal.returns
 returns c =
     let n = c.args.size in
-    rw (le-leb n most (omega arith)) (ap Is (back w64 c.signed_eight.type_inv (c.signed_eight.ensures.reply ∙ bits_below n (omega arith) (omega arith))))
+    rw (le-leb n most (omega arith)) (ap Some (back w64 c.signed_eight.type_inv (c.signed_eight.ensures.reply ∙ bits_below n (omega arith) (omega arith))))

@@ -2,7 +2,7 @@
 use Rattle.std.proofs.Common.{◌≡◌, ℕ, ◌≤◌, List, length, sym, ap, ◌∙◌, arith, eq-eqb, ne_eqb, le-leb}
 use borrow.Author.Tests.{lt-leb}
 use Rattle.rules.specs.Quantities.{total_limit, weight_limit}
-use Rattle.share.specs.declared.Tested.TheVariants.{Ready}
+use Rattle.std.specs.Prelude.{Some, Ok}
 use Rattle.share.specs.Weighing.{weighed, sum_of}
 use Rattle.share.proofs.Weighing.{over_limit, within_limit}
 use Rattle.share.specs.Promises.{tested}
@@ -73,4 +73,4 @@ returns c =
       le-leb s.args.total total_limit (total (goal.at.returns c).After-sum_of-sum),
       le-leb (sum_of (xs s)) weight_limit (small (goal.at.returns c).Else-sum-gt-WEIGHT_LIMIT),
       ne_eqb (sum_of (xs s)) 0 (λ e. c.if-sum-eq0.false (sum (goal.at.returns c).Else-sum-gt-WEIGHT_LIMIT ∙ e)),
-    ) (ap Ready (sum (goal.at.returns c).Else-sum-gt-WEIGHT_LIMIT))
+    ) (ap (λ (W : ℕ). Ok (Some W)) (sum (goal.at.returns c).Else-sum-gt-WEIGHT_LIMIT))

@@ -2,7 +2,7 @@
 use mathlib.Core.Path.{◌≡◌}
 use mathlib.Core.Bool.{true}
 use mathlib.Core.List.{[]}
-use Prim.Native.Nat.{◌-◌, ◌≤◌}
+use Prim.Native.Nat.{◌≤◌}
 use Rattle.integers.specs.Sums.{every}
 use Rattle.kept.specs.Range.{region_fine}
 use Rattle.answer.specs.Asked.{lent_members}
@@ -10,6 +10,3 @@ use Rattle.answer.proofs.figures.figures_in_range.Given as goal
 
 abbrev pub invariant-loop-region : goal.invariant-loop-region
 invariant-loop-region l = (l.region ≤ 5) × (every l.region (region_fine (lent_members l.figures [] [])) ≡ true)
-
-abbrev pub decreases-loop-region : goal.decreases-loop-region
-decreases-loop-region l = 5 - l.region

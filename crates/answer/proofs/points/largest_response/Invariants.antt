@@ -1,6 +1,6 @@
 -- Before point t the number kept is the largest over the points passed.
 use mathlib.Core.Path.{◌≡◌}
-use Prim.Native.Nat.{◌-◌, ◌≤◌}
+use Prim.Native.Nat.{◌≤◌}
 use mathlib.Core.List.{[]}
 use Rattle.integers.specs.Sums as s
 use Rattle.answer.specs.Asked.{lent}
@@ -10,6 +10,3 @@ use Rattle.answer.proofs.points.largest_response.Given as goal
 abbrev pub invariant-loop-t : goal.invariant-loop-t
 invariant-loop-t l =
     (l.t ≤ 75) × (l.largest ≡ s.largest l.t (point_response l.direction l.set (lent l.measures l.sums l.figures [] [])))
-
-abbrev pub decreases-loop-t : goal.decreases-loop-t
-decreases-loop-t l = 75 - l.t

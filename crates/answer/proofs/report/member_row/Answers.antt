@@ -1,4 +1,5 @@
 -- The test, then the row by its two figures.
+use Rattle.std.specs.Prelude.{Ok}
 use mathlib.Core.Path.{◌≡◌, refl, sym, ◌∙◌, ap}
 use mathlib.Core.Bool.{true}
 use Prim.Native.Nat.{◌<◌}
@@ -11,7 +12,6 @@ use Rattle.kept.specs.Range.{unit_fine}
 use Rattle.kept.specs.KeptReport.{member, place_fine, place_row}
 use Rattle.answer.specs.Asked.{tally_of, lent_members}
 use Rattle.answer.specs.Made.{RowThere}
-use Rattle.answer.specs.declared.ReportFound.TheVariants.{Found}
 use Rattle.answer.proofs.ReportLaws.{homed, row_same}
 use Rattle.answer.proofs.report.member_row.Goals as goal
 use Rattle.answer.proofs.report.member_row.Goals.{After-member_in_range, Else-not-member_in_range, Start}
@@ -46,4 +46,4 @@ member_figure-requires-2 c = there (goal.at.member_figure-requires-2 c).Else-not
 pub returns : goal.returns
 unfolding place_row
 returns c =
-    rw (fine (goal.at.returns c).Else-not-member_in_range) (ap Found (row_same refl c.member_figure.ensures c.member_figure-2.ensures))
+    rw (fine (goal.at.returns c).Else-not-member_in_range) (ap Ok (row_same refl c.member_figure.ensures c.member_figure-2.ensures))

@@ -1,4 +1,5 @@
 -- The test, then the row by its two figures.
+use Rattle.std.specs.Prelude.{Ok}
 use mathlib.Core.Path.{◌≡◌, sym, ◌∙◌, ap}
 use mathlib.Core.Bool.{Bool, ◌&&◌}
 use Rattle.integers.specs.Sums.{both}
@@ -8,7 +9,6 @@ use Rattle.kept.specs.Range.{region_fine, rows_fine}
 use Rattle.kept.specs.KeptReport.{residual, place_fine, place_row}
 use Rattle.answer.specs.Asked.{tally_of, lent_members}
 use Rattle.answer.specs.Residual.{PerformancesWithin}
-use Rattle.answer.specs.declared.ReportFound.TheVariants.{Found}
 use Rattle.answer.proofs.ReportLaws.{rows_alone, row_same}
 use Rattle.answer.proofs.ValuesLaws.{performances_within}
 use Rattle.answer.proofs.report.residual_row.Goals as goal
@@ -50,4 +50,4 @@ pub returns : goal.returns
 unfolding place_row
 returns c =
     rw (told (goal.at.returns c).After-residual_in_range ∙ c.if-not-residual_in_range.false)
-    (ap Found (row_same (ap whose.Residual c.region_name.ensures) c.residual_figure.ensures c.residual_figure-2.ensures))
+    (ap Ok (row_same (ap whose.Residual c.region_name.ensures) c.residual_figure.ensures c.residual_figure-2.ensures))

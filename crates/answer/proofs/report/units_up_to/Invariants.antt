@@ -7,6 +7,3 @@ use Rattle.answer.proofs.report.units_up_to.Given as goal
 abbrev pub invariant-loop-before : goal.invariant-loop-before
 invariant-loop-before l =
     (l.before ≤ l.row) × (l.units + l.before ≡ l.row + 1) × (units_at l.homes l.row + 1 ≡ l.units + units_at l.homes l.before)
-
-abbrev pub decreases-loop-before : goal.decreases-loop-before
-decreases-loop-before l = l.before

@@ -1,6 +1,6 @@
 -- Before a region the residual is that of the regions passed.
 use mathlib.Core.Path.{◌≡◌}
-use Prim.Native.Nat.{◌-◌, ◌≤◌}
+use Prim.Native.Nat.{◌≤◌}
 use Rattle.answer.specs.Asked.{lent_members}
 use Rattle.answer.specs.Residual.{residual_to}
 use Rattle.answer.proofs.residual.residual_member.Given as goal
@@ -8,6 +8,3 @@ use Rattle.answer.proofs.residual.residual_member.Given as goal
 abbrev pub invariant-loop-region : goal.invariant-loop-region
 invariant-loop-region l =
     (l.region ≤ 5) × (l.sum ≡ residual_to l.units (lent_members l.figures l.homes l.rows) l.direction l.set l.region)
-
-abbrev pub decreases-loop-region : goal.decreases-loop-region
-decreases-loop-region l = 5 - l.region

@@ -3,7 +3,7 @@
 use mathlib.Core.Path.{◌≡◌}
 use mathlib.Core.Bool.{true}
 use mathlib.Core.List.{[]}
-use Prim.Native.Nat.{◌-◌, ◌≤◌}
+use Prim.Native.Nat.{◌≤◌}
 use Rattle.integers.specs.Sums.{every}
 use Rattle.kept.specs.Range.{units_at, unit_fine}
 use Rattle.answer.specs.Asked.{lent_members}
@@ -11,6 +11,3 @@ use Rattle.answer.proofs.rows.rows_in_range.Given as goal
 
 abbrev pub invariant-loop-row : goal.invariant-loop-row
 invariant-loop-row l = (l.row ≤ l.units) × (l.many ≡ units_at l.homes l.row) × (every l.row (unit_fine (lent_members [] l.homes l.rows)) ≡ true)
-
-abbrev pub decreases-loop-row : goal.decreases-loop-row
-decreases-loop-row l = l.units - l.row

@@ -1,6 +1,6 @@
 -- What is left of the limit is what the sizes passed have not used; a size that is more than what is left makes their sum too large.
 use mathlib.Core.Path.{◌≡◌}
-use Prim.Native.Nat.{ℕ, ◌+◌, ◌-◌, ◌≤◌}
+use Prim.Native.Nat.{ℕ, ◌+◌, ◌≤◌}
 use mathlib.Core.List.{List}
 use lib.IntN.{ℤ, pos, nat_abs}
 use lib.ListN.{get_or}
@@ -13,6 +13,3 @@ there xs at r = get_or xs (sums_start r + at) (pos 0)
 
 abbrev pub invariant-loop-region : goal.invariant-loop-region
 invariant-loop-region l = (l.region ≤ 5) × (l.left + sumℕ l.region (λ r. nat_abs (there l.sums l.at r)) ≡ l.most)
-
-abbrev pub decreases-loop-region : goal.decreases-loop-region
-decreases-loop-region l = 5 - l.region

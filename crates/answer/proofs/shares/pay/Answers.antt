@@ -9,26 +9,26 @@ use Rattle.rules.specs.Quantities.{total_limit}
 use Rattle.answer.proofs.PoolsLaws.{pool_cents_within}
 use Rattle.answer.proofs.SharesLaws.{front, front_shareable, members_513, members_paid, not_refused}
 use Rattle.answer.proofs.shares.pay.Goals as goal
-use Rattle.answer.proofs.shares.pay.Goals.{After-pool-pool, After-put_members-n, After-share_both-sides, Start}
+use Rattle.answer.proofs.shares.pay.Goals.{After-pool-pool, After-put_members-n, After-share_both, Start}
 
 abbrev start : After-put_members-n → Start
 start c = (goal.at.After-put_members-n c).Start
 
-abbrev listed : After-share_both-sides → After-put_members-n
-listed c = (goal.at.After-share_both-sides c).After-put_members-n
+abbrev listed : After-share_both → After-put_members-n
+listed c = (goal.at.After-share_both c).After-put_members-n
 
-abbrev shared : After-pool-pool → After-share_both-sides
-shared c = (goal.at.After-pool-pool c).After-share_both-sides
+abbrev shared : After-pool-pool → After-share_both
+shared c = (goal.at.After-pool-pool c).After-share_both
 
 small : (c : After-pool-pool) → c.pool-pool.result ≤ total_limit
 small c =
     let s = start (listed (shared c)) in
-    rw c.pool-pool.ensures (pool_cents_within s.args.price s.args.rcr (eqb c.in-Placed.up 0)
-    (eqb c.in-Placed.down 0) s.requires.0 s.requires.1)
+    rw c.pool-pool.ensures (pool_cents_within s.args.price s.args.rcr (eqb c.in_ok-up.up 0)
+    (eqb c.in_ok-up.down 0) s.requires.0 s.requires.1)
 
-pub share_both-sides-requires : goal.share_both-sides-requires
-share_both-sides-requires c =
-    let s = start (goal.at.share_both-sides-requires c).After-put_members-n in
+pub share_both-requires : goal.share_both-requires
+share_both-requires c =
+    let s = start (goal.at.share_both-requires c).After-put_members-n in
     let l = c.put_members-n.ensures in (
       (front s.requires.4 l).0,
       front_shareable s.requires.4 l _ gain gain_≤ (omega arith) _ s.requires.2,
@@ -46,13 +46,12 @@ pay_pool-requires c =
       front_shareable s.requires.4 l c.pool-pool.result loss loss_≤ (small (goal.at.pay_pool-requires c).After-pool-pool) _ s.requires.3,
     )
 
-pub returns-in-Placed : goal.returns-in-Placed
-returns-in-Placed c =
-    let h = shared (goal.at.returns-in-Placed c).After-pool-pool in
+pub returns : goal.returns
+returns c =
+    let h = shared (goal.at.returns c).After-pool-pool in
     let g = listed h in
-    members_paid (start g).requires.4 g.put_members-n.ensures h.share_both-sides.ensures c.in-Placed.is c.pool-pool.ensures
+    members_paid (start g).requires.4 g.put_members-n.ensures h.share_both.ensures c.in_ok-up.was c.pool-pool.ensures
     c.pay_pool.ensures
 
-pub returns-in-Refused : goal.returns-in-Refused
-returns-in-Refused c =
-    not_refused c.in-Refused.refusal (sym c.in-Refused.is ∙ c.share_both-sides.ensures.reply)
+pub returns-in_err-up : goal.returns-in_err-up
+returns-in_err-up c = not_refused c.in_err-up.field-0.0 (sym c.in_err-up.was ∙ c.share_both.ensures.reply)

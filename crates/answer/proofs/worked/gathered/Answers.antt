@@ -1,17 +1,21 @@
 -- By the replies of the shares, in the order in which they are asked.
+use Rattle.std.proofs.lemmas.Result.{err_from_is_err_and}
 use Rattle.answer.proofs.worked.gathered.Goals as goal
 
-pub returns-in-Made : goal.returns-in-Made
-returns-in-Made c =
-    rw (c.in-Placed.is, c.in-Placed-unused_reply.is, c.in-Made.is)
+pub returns : goal.returns
+returns c = rw (c.in_ok-used_left.was, c.in_ok-unused_left.was, c.in_ok-paid.was)
 
-pub returns-in-Refused-paying : goal.returns-in-Refused-paying
-returns-in-Refused-paying c =
-    rw (c.in-Placed.is, c.in-Placed-unused_reply.is, c.in-Refused-paying.is)
+pub returns-in_err-paid : goal.returns-in_err-paid
+returns-in_err-paid c =
+    let p = err_from_is_err_and c.from_residual-in_err-paid.result c.from_residual-in_err-paid.ensures.1 in
+    rw (p.1, p.2, c.in_ok-used_left.was, c.in_ok-unused_left.was, c.in_err-paid.was)
 
-pub returns-in-Refused-unused_reply : goal.returns-in-Refused-unused_reply
-returns-in-Refused-unused_reply c =
-    rw (c.in-Placed.is, c.in-Refused-unused_reply.is)
+pub returns-in_err-unused_left : goal.returns-in_err-unused_left
+returns-in_err-unused_left c =
+    let p = err_from_is_err_and c.from_residual-in_err-unused_left.result c.from_residual-in_err-unused_left.ensures.1 in
+    rw (p.1, p.2, c.in_ok-used_left.was, c.in_err-unused_left.was)
 
-pub returns-in-Refused : goal.returns-in-Refused
-returns-in-Refused c = rw c.in-Refused.is
+pub returns-in_err-used_left : goal.returns-in_err-used_left
+returns-in_err-used_left c =
+    let p = err_from_is_err_and c.from_residual.result c.from_residual.ensures.1 in
+    rw (p.1, p.2, c.in_err-used_left.was)

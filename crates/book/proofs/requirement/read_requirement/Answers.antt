@@ -1,4 +1,5 @@
 -- Length, fields, and what follows the last, in this order.
+use Rattle.std.specs.Prelude.{Ok}
 use mathlib.Core.Path.{◌≡◌, sym, ◌∙◌, ap}
 use mathlib.Core.Bool.{true}
 use mathlib.Core.Bool.{not, ◌&&◌, ◌||◌}
@@ -8,7 +9,6 @@ use borrow.Author.Tests.{le-leb, lt-leb}
 use Rattle.rules.specs.Bytes.{number_at}
 use Rattle.rules.specs.Contents.{requirement_size}
 use Rattle.rules.specs.RequirementRecord.{requirement_in, requirement_fine, requirement_record}
-use Rattle.book.specs.declared.RequirementRead.TheVariants.{Taken}
 use Rattle.book.proofs.requirement.read_requirement.Goals as goal
 use Rattle.book.proofs.requirement.read_requirement.Goals.{Else-not-ends_with_the_book, Else-not-requirement_fields_fine, Else-part-lt24}
 
@@ -47,5 +47,5 @@ pub returns : goal.returns
 unfolding requirement_record
 returns c = record {
   reply = simp (long_enough (goal.at.returns c).Else-part-lt24, tested (goal.at.returns c).Else-not-requirement_fields_fine, ended (goal.at.returns c).Else-not-ends_with_the_book)
-      (ap Taken c.requirement_fields.ensures);
+      (ap Ok c.requirement_fields.ensures);
 }

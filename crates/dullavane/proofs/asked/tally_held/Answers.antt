@@ -1,15 +1,11 @@
--- Words that are refused hold none; any others hold the tally that is read.
+-- Words that hold no tally are told as zeros; any others hold the tally that is read.
 use mathlib.Core.Path.{sym, ap}
 use Rattle.dullavane.specs.Asked.{held_or_none}
-use Rattle.dullavane.proofs.WordsLaws.{held_means}
-use Rattle.dullavane.proofs.AskedLaws.{held_none}
+use Rattle.dullavane.proofs.WordsLaws.{was_handed}
 use Rattle.dullavane.proofs.asked.tally_held.Goals as goal
 
-pub returns-then-words_refusal-ne0 : goal.returns-then-words_refusal-ne0
-returns-then-words_refusal-ne0 c = held_none _ c.words_refusal.ensures c.if-words_refusal-ne0.true
+pub returns-in-Ok : goal.returns-in-Ok
+returns-in-Ok c = sym (ap held_or_none (was_handed _ c.held.ensures c.in-Ok.is))
 
-pub tally_in-requires : goal.tally_in-requires
-tally_in-requires c = held_means _ c.words_refusal.ensures c.if-words_refusal-ne0.false
-
-pub returns : goal.returns
-returns c = sym (ap held_or_none c.tally_in.ensures)
+pub returns-in-Err : goal.returns-in-Err
+returns-in-Err c = sym (ap held_or_none (was_handed _ c.held.ensures c.in-Err.is))

@@ -3,8 +3,8 @@ use mathlib.Core.Path.{◌∙◌, ap}
 use Rattle.dullavane.specs.Words.{said}
 use Rattle.dullavane.proofs.reports.tell_row_written.Goals as goal
 
-pub returns-in-Length : goal.returns-in-Length
-returns-in-Length c = rw c.in-Length.is
+pub returns-in-Ok : goal.returns-in-Ok
+returns-in-Ok c = rw c.in-Ok.is
 
-pub returns-in-Refused : goal.returns-in-Refused
-returns-in-Refused c = rw c.in-Refused.is (c.said.ensures ∙ ap said c.locate.ensures)
+pub returns-in-Err : goal.returns-in-Err
+returns-in-Err c = rw c.in-Err.is (c.said.ensures ∙ ap said c.locate.ensures)

@@ -2,8 +2,8 @@
 use mathlib.Core.Path.{refl}
 use Rattle.dullavane.proofs.verdicts.tell_verdict.Goals as goal
 
-pub returns-in-Is : goal.returns-in-Is
-returns-in-Is c = rw c.in-Is.is (refl, c.put_verdict.ensures)
+pub returns-in-Ok : goal.returns-in-Ok
+returns-in-Ok c = rw c.in-Ok.is (refl, c.put_verdict.ensures)
 
-pub returns-in-Refused : goal.returns-in-Refused
-returns-in-Refused c = rw c.in-Refused.is (c.refusal_number.ensures, refl)
+pub returns-in-Err : goal.returns-in-Err
+returns-in-Err c = rw c.in-Err.is (c.refusal_number.ensures, refl)

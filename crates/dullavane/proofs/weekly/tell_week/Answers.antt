@@ -2,9 +2,9 @@
 use mathlib.Core.Path.{refl}
 use Rattle.dullavane.proofs.weekly.tell_week.Goals as goal
 
-pub returns-in-Next : goal.returns-in-Next
-returns-in-Next c =
-    rw c.in-Next.is (refl, c.put_week.ensures)
+pub returns-in-Ok : goal.returns-in-Ok
+returns-in-Ok c =
+    rw c.in-Ok.is (refl, c.put_week.ensures)
 
-pub returns-in-Refused : goal.returns-in-Refused
-returns-in-Refused c = rw c.in-Refused.is (c.refusal_number.ensures, refl)
+pub returns-in-Err : goal.returns-in-Err
+returns-in-Err c = rw c.in-Err.is (c.refusal_number.ensures, refl)

@@ -1,5 +1,5 @@
 -- The number by what was drawn.
 use Rattle.dullavane_panel.proofs.words.tell_drawn.Goals as goal
 
-pub returns-in-Refused : goal.returns-in-Refused
-returns-in-Refused c = rw c.in-Refused.is c.refusal_number.ensures
+pub returns-in-Err : goal.returns-in-Err
+returns-in-Err c = rw c.in-Err.is c.refusal_number.ensures

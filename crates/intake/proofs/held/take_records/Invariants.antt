@@ -1,11 +1,6 @@
--- Each turn goes at most a unit's record on, and the records left fall.
+-- Each turn goes at most a unit's record on.
 use Prim.Native.Nat.{◌≤◌, ◌+◌, ◌*◌}
 use Rattle.intake.proofs.held.take_records.Given as goal
 
-abbrev pub invariant-loop-left : goal.invariant-loop-left
-invariant-loop-left l =
-    l.start + 372 * l.left ≤ 60000000
-
-abbrev pub decreases-loop-left : goal.decreases-loop-left
-decreases-loop-left l =
-    l.left
+abbrev pub invariant-loop-record : goal.invariant-loop-record
+invariant-loop-record l = l.start ≤ 56 + 372 * l.record

@@ -42,11 +42,11 @@ returns-then-not-requirement_turn c = record { reply = rw (sym c.requirement_tur
 pub comes_last-last-requires : goal.comes_last-last-requires
 comes_last-last-requires c = let h = comes (goal.at.comes_last-last-requires c).Else-not-requirement_turn in (h.few, h.units, h.requirements)
 
-pub returns-in-Taken : goal.returns-in-Taken
-returns-in-Taken c =
-    answers (goal.at.returns-in-Taken c).After-read_requirement-read _ (c.count.ensures ∙ count_taken _ _ (comes (goal.at.returns-in-Taken c).Else-not-requirement_turn).few ∙ ap (required_from (start (goal.at.returns-in-Taken c).Else-not-requirement_turn).args.tally)
-    (sym c.in-Taken.is))
+pub returns-in-Ok : goal.returns-in-Ok
+returns-in-Ok c =
+    answers (goal.at.returns-in-Ok c).After-read_requirement-read _ (c.count.ensures ∙ count_taken _ _ (comes (goal.at.returns-in-Ok c).Else-not-requirement_turn).few ∙ ap (required_from (start (goal.at.returns-in-Ok c).Else-not-requirement_turn).args.tally)
+    (sym c.in-Ok.is))
 
-pub returns-in-Refused : goal.returns-in-Refused
-returns-in-Refused c =
-    answers (goal.at.returns-in-Refused c).After-read_requirement-read _ (c.refuse-in-Refused.ensures ∙ ap (required_from (start (goal.at.returns-in-Refused c).Else-not-requirement_turn).args.tally) (sym c.in-Refused.is))
+pub returns-in-Err : goal.returns-in-Err
+returns-in-Err c =
+    answers (goal.at.returns-in-Err c).After-read_requirement-read _ (c.refuse-in-Err.ensures ∙ ap (required_from (start (goal.at.returns-in-Err c).Else-not-requirement_turn).args.tally) (sym c.in-Err.is))

@@ -31,10 +31,10 @@ pub returns-then-not-settings_turn : goal.returns-then-not-settings_turn
 unfolding settings_reply
 returns-then-not-settings_turn c = record { reply = rw (sym c.settings_turn.ensures ∙ c.if-not-settings_turn.true) c.refuse.ensures }
 
-pub returns-in-Taken : goal.returns-in-Taken
-returns-in-Taken c =
-    answers (goal.at.returns-in-Taken c).After-read_settings-read _ (ap (settled_from (start (goal.at.returns-in-Taken c).Else-not-settings_turn).args.tally) (sym c.in-Taken.is))
+pub returns-in-Ok : goal.returns-in-Ok
+returns-in-Ok c =
+    answers (goal.at.returns-in-Ok c).After-read_settings-read _ (ap (settled_from (start (goal.at.returns-in-Ok c).Else-not-settings_turn).args.tally) (sym c.in-Ok.is))
 
-pub returns-in-Refused : goal.returns-in-Refused
-returns-in-Refused c =
-    answers (goal.at.returns-in-Refused c).After-read_settings-read _ (c.refuse-in-Refused.ensures ∙ ap (settled_from (start (goal.at.returns-in-Refused c).Else-not-settings_turn).args.tally) (sym c.in-Refused.is))
+pub returns-in-Err : goal.returns-in-Err
+returns-in-Err c =
+    answers (goal.at.returns-in-Err c).After-read_settings-read _ (c.refuse-in-Err.ensures ∙ ap (settled_from (start (goal.at.returns-in-Err c).Else-not-settings_turn).args.tally) (sym c.in-Err.is))

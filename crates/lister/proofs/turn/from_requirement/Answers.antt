@@ -8,7 +8,7 @@ use Rattle.answer.specs.Promises.{Columns, columns, AnswerPromise}
 use Rattle.lister.specs.Steps.{lent_listing}
 use Rattle.lister.proofs.TurnLaws.{turn_behind, answer_then, answer_refused, part_from}
 use Rattle.lister.proofs.turn.from_requirement.Goals as goal
-use Rattle.lister.proofs.turn.from_requirement.Goals.{After-answer-answered, Else-tally-requirement, In-Given, In-Refused, Start}
+use Rattle.lister.proofs.turn.from_requirement.Goals.{After-answer-answered, Else-tally-requirement, In-Ok, In-Err, Start}
 
 abbrev cols : Start → Columns
 cols s = let a = s.args in columns a.performances.now a.factors.now a.payments.now a.used.now a.unused.now
@@ -27,11 +27,11 @@ abbrev after : After-answer-answered → Columns
 after w =
     columns w.answer-answered.new.performances w.answer-answered.new.factors w.answer-answered.new.payments w.answer-answered.new.used w.answer-answered.new.unused
 
-abbrev asked : In-Given → After-answer-answered
-asked w = (goal.at.In-Given w).After-answer-answered
+abbrev asked : In-Ok → After-answer-answered
+asked w = (goal.at.In-Ok w).After-answer-answered
 
-abbrev asked2 : In-Refused → After-answer-answered
-asked2 w = (goal.at.In-Refused w).After-answer-answered
+abbrev asked2 : In-Err → After-answer-answered
+asked2 w = (goal.at.In-Err w).After-answer-answered
 
 -- the answer to the requirement whose record starts there
 answers :
@@ -51,21 +51,21 @@ returns-then-tally-requirement c =
 
 pub from_answered-requires : goal.from_answered-requires
 from_answered-requires c =
-    let s = start (asked (goal.at.from_answered-requires c).In-Given) in
+    let s = start (asked (goal.at.from_answered-requires c).In-Ok) in
     (s.requires.0, s.requires.1, s.requires.3)
 
-pub returns-in-Given : goal.returns-in-Given
-returns-in-Given c =
-    let w = asked (goal.at.returns-in-Given c).In-Given in
+pub returns-in-Ok : goal.returns-in-Ok
+returns-in-Ok c =
+    let w = asked (goal.at.returns-in-Ok c).In-Ok in
     let s = start w in
     let a = s.args in
-    λ rest. answer_then a.tally a.bytes.now (lists s rest) (cols s) a.requirement (begun w).if-tally-requirement.false (answers w rest) c.in-Given.given
-    c.in-Given.is s.requires.3 (c.from_answered.ensures a.bytes.now (lists s rest))
+    λ rest. answer_then a.tally a.bytes.now (lists s rest) (cols s) a.requirement (begun w).if-tally-requirement.false (answers w rest) c.in-Ok.given
+    c.in-Ok.is s.requires.3 (c.from_answered.ensures a.bytes.now (lists s rest))
 
-pub returns-in-Refused : goal.returns-in-Refused
-returns-in-Refused c =
-    let w = asked2 (goal.at.returns-in-Refused c).In-Refused in
+pub returns-in-Err : goal.returns-in-Err
+returns-in-Err c =
+    let w = asked2 (goal.at.returns-in-Err c).In-Err in
     let s = start w in
     let a = s.args in
-    λ rest. answer_refused a.tally a.bytes.now (lists s rest) (cols s) a.requirement (begun w).if-tally-requirement.false (answers w rest) c.in-Refused.refusal
-    c.in-Refused.is s.requires.3
+    λ rest. answer_refused a.tally a.bytes.now (lists s rest) (cols s) a.requirement (begun w).if-tally-requirement.false (answers w rest) c.in-Err.refusal
+    c.in-Err.is s.requires.3

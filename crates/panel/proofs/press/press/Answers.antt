@@ -3,6 +3,7 @@ use mathlib.Core.Path.{◌≡◌, sym, ◌∙◌}
 use mathlib.Core.Bool.{true, false, ◌&&◌}
 use Prim.Native.Nat.{◌≤◌}
 use lib.ListN.{length}
+use Rattle.std.proofs.lemmas.Result.{err_from_is_err_and}
 use Rattle.rules.specs.Refusals.{Reply, taken, refused, ◌>>=◌}
 use Rattle.rules.specs.Book.{Requirement}
 use Rattle.rules.specs.RequirementRecord.{requirement_record}
@@ -14,7 +15,7 @@ use Rattle.answer.proofs.CallLaws.{was_read, not_read}
 use Rattle.panel.specs.Press.{Cents, cents, press_long, press_fine, members_told, press_reply}
 use Rattle.panel.proofs.PressLaws.{long_means, refuses, past_tests, ready, turns}
 use Rattle.panel.proofs.press.press.Goals as goal
-use Rattle.panel.proofs.press.press.Goals.{Else-not-answer_turn, Else-not-lengths_enough, Else-not-lent_in_range, In-Refused, In-Taken, Start}
+use Rattle.panel.proofs.press.press.Goals.{Else-not-answer_turn, Else-not-lengths_enough, Else-not-lent_in_range, In_err-fields, In_ok-fields, Start}
 
 abbrev S : Else-not-answer_turn → Start
 S c = (goal.at.Else-not-answer_turn c).Start
@@ -49,14 +50,14 @@ numbers : (c : Else-not-lent_in_range) → let a = (S3 c).args in press_fine a.t
 numbers c = sym c.lent_in_range.ensures ∙ c.if-not-lent_in_range.false
 
 read :
-    (c : In-Taken) → let a = (S3 (goal.at.In-Taken c).Else-not-lent_in_range).args in
-    requirement_record 0 false a.part.now ≡ taken (required c.in-Taken.fields)
-read c = was_read _ _ (sym c.in-Taken.is ∙ c.read_requirement.ensures.reply)
+    (c : In_ok-fields) → let a = (S3 (goal.at.In_ok-fields c).Else-not-lent_in_range).args in
+    requirement_record 0 false a.part.now ≡ taken (required c.in_ok-fields.fields)
+read c = was_read _ _ (sym c.in_ok-fields.was ∙ c.read_requirement.ensures.reply)
 
 not_taken :
-    (c : In-Refused) → let a = (S3 (goal.at.In-Refused c).Else-not-lent_in_range).args in
-    requirement_record 0 false a.part.now ≡ refused c.in-Refused.refusal
-not_taken c = not_read _ _ (sym c.in-Refused.is ∙ c.read_requirement.ensures.reply)
+    (c : In_err-fields) → let a = (S3 (goal.at.In_err-fields c).Else-not-lent_in_range).args in
+    requirement_record 0 false a.part.now ≡ refused c.in_err-fields.field-0.0
+not_taken c = not_read _ _ (sym c.in_err-fields.was ∙ c.read_requirement.ensures.reply)
 
 -- the reply past the tests, by the record
 decided :
@@ -101,17 +102,18 @@ turn_to-requires c =
     let s = S3 (goal.at.turn_to-requires c).Else-not-lent_in_range in
     let a = s.args in
     ready a.tally a.part.now a.shown (lists no_lists s) (columns s) (length a.text.now) (in_turn (goal.at.turn_to-requires c).Else-not-answer_turn) (long (goal.at.turn_to-requires c).Else-not-lengths_enough) (numbers (goal.at.turn_to-requires c).Else-not-lent_in_range)
-    (read (goal.at.turn_to-requires c).In-Taken)
+    (read (goal.at.turn_to-requires c).In_ok-fields)
 
-pub returns-in-Taken : goal.returns-in-Taken
-returns-in-Taken c rest =
-    let s = S3 (goal.at.returns-in-Taken c).Else-not-lent_in_range in
+pub returns : goal.returns
+returns c rest =
+    let s = S3 (goal.at.returns c).Else-not-lent_in_range in
     let a = s.args in
-    turns a.page a.key a.book a.tally a.part.now a.shown (lists rest s) (columns s) a.text.now (decided (goal.at.returns-in-Taken c).Else-not-lent_in_range rest (read (goal.at.returns-in-Taken c).In-Taken))
+    turns a.page a.key a.book a.tally a.part.now a.shown (lists rest s) (columns s) a.text.now (decided (goal.at.returns c).Else-not-lent_in_range rest (read (goal.at.returns c).In_ok-fields))
     (c.turn_to.ensures rest)
 
-pub returns-in-Refused : goal.returns-in-Refused
-returns-in-Refused c rest =
-    let s = S3 (goal.at.returns-in-Refused c).Else-not-lent_in_range in
+pub returns-in_err-fields : goal.returns-in_err-fields
+returns-in_err-fields c rest =
+    let s = S3 (goal.at.returns-in_err-fields c).Else-not-lent_in_range in
     let a = s.args in
-    refuses a.page a.key a.book a.tally a.part.now a.shown (lists rest s) (columns s) a.text.now _ (decided (goal.at.returns-in-Refused c).Else-not-lent_in_range rest (not_taken (goal.at.returns-in-Refused c).In-Refused))
+    let p = err_from_is_err_and c.from_residual.result c.from_residual.ensures.1 in
+    rw (p.1, p.2) (refuses a.page a.key a.book a.tally a.part.now a.shown (lists rest s) (columns s) a.text.now _ (decided (goal.at.returns-in_err-fields c).Else-not-lent_in_range rest (not_taken (goal.at.returns-in_err-fields c).In_err-fields)))

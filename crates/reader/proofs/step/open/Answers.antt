@@ -4,11 +4,11 @@ use Rattle.reader.specs.declared.Came as n
 use Rattle.reader.specs.Reading.{after_contents}
 use Rattle.reader.proofs.step.open.Goals as goal
 
-pub returns-in-Taken : goal.returns-in-Taken
-returns-in-Taken c =
-    record { opened = c.contents-opened.result; promise = c.contents-opened.ensures; reply = ap after_contents (sym c.in-Taken.is) }
+pub returns-in-Ok : goal.returns-in-Ok
+returns-in-Ok c =
+    record { opened = c.contents-opened.result; promise = c.contents-opened.ensures; reply = ap after_contents (sym c.in-Ok.is) }
 
-pub returns-in-Refused : goal.returns-in-Refused
-returns-in-Refused c =
+pub returns-in-Err : goal.returns-in-Err
+returns-in-Err c =
     let says = ap n.TheVariants.Refused c.locate.ensures in
-    record { opened = c.contents-opened.result; promise = c.contents-opened.ensures; reply = says ∙ ap after_contents (sym c.in-Refused.is) }
+    record { opened = c.contents-opened.result; promise = c.contents-opened.ensures; reply = says ∙ ap after_contents (sym c.in-Err.is) }

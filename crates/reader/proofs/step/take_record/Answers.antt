@@ -1,7 +1,8 @@
 -- What the call says, and whether the book is at its end.
+use Rattle.std.specs.Prelude.{Result, ⊤}
+use Rattle.rules.specs.declared.Located.{Located}
 use mathlib.Core.Path.{sym, ◌∙◌, ap}
 use mathlib.Core.Bool.{true, false}
-use Rattle.interval.specs.declared.Taking.{Taking}
 use Rattle.reader.specs.Reading.{after_record}
 use Rattle.reader.proofs.ReadingLaws.{after_taken}
 use Rattle.reader.proofs.step.take_record.Goals as goal
@@ -11,13 +12,13 @@ use Rattle.reader.proofs.step.take_record.Goals.{After-deviations-1, After-take-
 abbrev taken_in : After-deviations-1 → After-take-step
 taken_in c = (goal.at.After-deviations-1 c).After-take-step
 
-pub returns-in-Refused : goal.returns-in-Refused
-returns-in-Refused c =
-    let s = taken_in (goal.at.returns-in-Refused c).After-deviations-1 in
+pub returns-in-Err : goal.returns-in-Err
+returns-in-Err c =
+    let s = taken_in (goal.at.returns-in-Err c).After-deviations-1 in
     record {
       step = s.take-step.result;
       turn = s.take-step.ensures;
-      reply = ap (λ (k : Taking). after_record k s.take-step.result.tally) (sym c.in-Refused.is);
+      reply = ap (λ (k : Result ⊤ Located). after_record k s.take-step.result.tally) (sym c.in-Err.is);
     }
 
 pub returns-then-is_end : goal.returns-then-is_end

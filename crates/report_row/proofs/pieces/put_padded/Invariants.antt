@@ -4,6 +4,3 @@ use Rattle.report_row.proofs.pieces.put_padded.Given as goal
 
 abbrev pub invariant-loop-to : goal.invariant-loop-to
 invariant-loop-to l = Left l.places l.n l.at l.initial.line l.rest l.to l.line
-
-abbrev pub decreases-loop-to : goal.decreases-loop-to
-decreases-loop-to l = l.to

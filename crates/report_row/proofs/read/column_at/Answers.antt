@@ -1,4 +1,7 @@
 -- The bytes passed are none of them a comma: what is left of the column is what is left of the row before one.
+use mathlib.Core.Path.{◌≡◌}
+use native.Mathlib.Omega.{arith}
+use lib.ListN.{length}
 use Rattle.report_row.proofs.SaidLaws.{none_passed, one_passed, at_comma, at_end}
 use Rattle.report_row.proofs.read.column_at.Goals as goal
 
@@ -14,4 +17,6 @@ loop-end-preserved c =
     one_passed _ _ _ c.loop-end.invariant c.loop-end-test.true c.if-row-end-eq44.false
 
 pub returns : goal.returns
-returns c = at_end _ _ _ c.loop-end.invariant c.loop-end-test.false
+returns c =
+    let e : c.loop-end.end ≡ length c.args.row.now = omega (arith, c.loop-end.invariant.inside) in
+    rw e at (at_end _ _ _ c.loop-end.invariant c.loop-end-test.false)

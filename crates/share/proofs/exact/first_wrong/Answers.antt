@@ -1,5 +1,6 @@
 -- The tests in their order; then what is found, with the ratios of both sides.
 use Rattle.std.proofs.Common.{◌≡◌, ℕ, ◌≤◌, List, length, ℤ, sym, refl, ap, ◌∙◌, arith, eq-eqb, ne_eqb, le-leb}
+use Rattle.std.specs.Prelude.{Ok}
 use borrow.Author.Tests.{lt-leb}
 use Rattle.rules.specs.declared.Side.TheVariants.{Positive, Negative}
 use Rattle.rules.specs.Quantities.{total_limit, weight_limit}
@@ -106,5 +107,5 @@ returns c =
         le-leb s.args.total total_limit (u (e f)).if-total-gt-TOTAL_LIMIT.false,
         le-leb (side_total Positive (ps s)) weight_limit (up_small (e f)),
         le-leb (side_total Negative (ps s)) weight_limit (down_small f),
-      ) (c.look.ensures ∙ ap (λ (T : ℕ). looked T (ps s) (fs s)) (r (goal.at.returns c).After-side_rate-2).side_rate.ensures.total);
+      ) (ap Ok c.look.ensures ∙ ap (λ (T : ℕ). Ok (looked T (ps s) (fs s))) (r (goal.at.returns c).After-side_rate-2).side_rate.ensures.total);
     }

@@ -7,15 +7,15 @@ use Rattle.share.specs.Rates.{total_of}
 use Rattle.share.specs.Exact.{sums}
 use Rattle.share.proofs.ExactLaws.{as_right, fits_up, fits_down, found_wrong, found_right}
 use Rattle.share.proofs.exact.look.Goals as goal
-use Rattle.share.proofs.exact.look.Goals.{After-is_right, After-is_right-arg-in-loop-i-1, At-loop-i, Start}
+use Rattle.share.proofs.exact.look.Goals.{After-is_right, After-is_right-arg-1, At-loop-i, Start}
 
 -- the member that is looked at
 module _ (c : After-is_right) where
-  abbrev at : After-is_right-arg-in-loop-i-1
-  at = (goal.at.After-is_right c).After-is_right-arg-in-loop-i-1
+  abbrev at : After-is_right-arg-1
+  at = (goal.at.After-is_right c).After-is_right-arg-1
 
   abbrev l : At-loop-i
-  l = (goal.at.After-is_right-arg-in-loop-i-1 at).At-loop-i
+  l = (goal.at.After-is_right-arg-1 at).At-loop-i
 
   abbrev s : Start
   s = (goal.at.At-loop-i l).Start
@@ -33,8 +33,8 @@ module _ (c : After-is_right) where
   told =
       c.is_right.ensures
       ∙ ap₂ (right (total_of s.args.up) (sums s.args.up s.args.down))
-      (to_z-of_z (elem w64 (number_at ps l.loop-i.i) at.is_right-arg-1.given))
-      (to_z-of_z (elem w64 (number_at fs l.loop-i.i) at.is_right-arg-in-loop-i-1.given))
+      (to_z-of_z (elem w64 (number_at ps l.loop-i.i) at.performance-1.given))
+      (to_z-of_z (elem w64 (number_at fs l.loop-i.i) at.is_right-arg-1.given))
       ∙ as_right ps l.loop-i.i there s.requires.0 fs
 
 pub loop-i-init : goal.loop-i-init
@@ -44,7 +44,7 @@ pub is_right-requires : goal.is_right-requires
 is_right-requires c =
     let ps = c.args.performances.now in
     let i = c.loop-i.i in
-    let back = to_z-of_z (elem w64 (number_at ps i) c.is_right-arg-1.given) in (
+    let back = to_z-of_z (elem w64 (number_at ps i) c.performance-1.given) in (
       c.requires.0.above.rated,
       c.requires.0.below.rated,
       c.requires.0.below.total,

@@ -1,5 +1,5 @@
 -- `ratio_of` meets its contract: after i bits, `found` times the sum and what is over are rest·2^i.
-use Rattle.std.proofs.Common.{◌≡◌, ℕ, ◌+◌, ◌-◌, ◌*◌, ◌^◌, ◌<◌, ◌≤◌}
+use Rattle.std.proofs.Common.{◌≡◌, ℕ, ◌+◌, ◌*◌, ◌^◌, ◌<◌, ◌≤◌}
 use Rattle.share.proofs.part.ratio_of.Given as goal
 
 pub record Turn (rest sum found over i : ℕ) : Type 0 where
@@ -10,6 +10,3 @@ pub record Turn (rest sum found over i : ℕ) : Type 0 where
 
 abbrev pub invariant-loop-i : goal.invariant-loop-i
 invariant-loop-i l = Turn l.rest l.sum l.found l.over l.i
-
-abbrev pub decreases-loop-i : goal.decreases-loop-i
-decreases-loop-i l = 64 - l.i

@@ -1,6 +1,6 @@
 -- `sum_of` meets its contract: the sum so far is within the limit; a weight that has no room below the limit takes W over it, since no weight
 -- makes a sum smaller.
-use Rattle.std.proofs.Common.{◌≡◌, ℕ, ◌-◌, ◌≤◌, List, length}
+use Rattle.std.proofs.Common.{◌≡◌, ℕ, ◌≤◌, List, length}
 use Rattle.integers.specs.Sums.{sumℕ}
 use Rattle.rules.specs.Quantities.{weight_limit}
 use Rattle.rules.specs.Share.{weight_at}
@@ -15,6 +15,3 @@ pub record Turn (xs : List ℕ) (n sum i : ℕ) : Type 0 where
 
 abbrev pub invariant-loop-i : goal.invariant-loop-i
 invariant-loop-i l = Turn (weighed l.source l.weights l.performances) l.n l.sum l.i
-
-abbrev pub decreases-loop-i : goal.decreases-loop-i
-decreases-loop-i l = l.n - l.i

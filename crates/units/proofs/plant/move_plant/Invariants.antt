@@ -1,6 +1,6 @@
 -- Before each point the trajectory is the ramp where the points passed have left it, and the deviations and the region's sums of the points passed are
 -- those of the plant with the unit.
-use Rattle.std.proofs.Common.{◌≡◌, ℕ, ◌-◌, ◌≤◌, Bool, ◌&&◌, List, ℤ, ◌-ℤ◌}
+use Rattle.std.proofs.Common.{◌≡◌, ℕ, ◌≤◌, Bool, ◌&&◌, List, ℤ, ◌-ℤ◌}
 use Rattle.integers.specs.Fills.{filled}
 use Rattle.rules.specs.Quantities.{points}
 use Rattle.book.specs.declared.UnitFields.{UnitFields}
@@ -21,6 +21,3 @@ invariant-loop-t l =
     × (l.deviations ≡ filled l.t (with_unit l.fields (reading_at l.part) l.initial.deviations) l.initial.deviations)
     × (l.sums ≡ put_from (sums_start l.fields.region) sums_each
     (so_far (sums_start l.fields.region) (more l.fields l.before (reading_at l.part) l.initial.deviations) l.initial.sums l.t) l.initial.sums)
-
-abbrev pub decreases-loop-t : goal.decreases-loop-t
-decreases-loop-t l = points - l.t

@@ -1,6 +1,8 @@
 -- The tests in their order, each settled by the call that made it; past them the record's reader answers.
+use Rattle.std.specs.Prelude.{Result}
+use Rattle.rules.specs.declared.Refusal.{Refusal}
+use Rattle.book.specs.declared.UnitFields.{UnitFields}
 use Rattle.std.proofs.Common.{◌≡◌, ℕ, ◌+◌, ◌*◌, Bool, true, ◌&&◌, leb, length, sym, ap, ◌∙◌, ap₂, arith}
-use Rattle.book.specs.declared.UnitRead.{UnitRead}
 use Rattle.interval.specs.Tally.{in_range, unit_turn, units_taken}
 use Rattle.interval.specs.Lent.{Lent, lent_unit, regions_long, of_interval, named_group, series_in_range, plant_in_range}
 use Rattle.interval.specs.Calls.{unit_long, unit_reply}
@@ -139,7 +141,7 @@ returns c =
     ∙ ap (λ (free : Bool). grouped free n.next_row-row.result s.args.homes.now s.args.groups.now c.read_unit.result)
     (free_told (goal.at.returns c).After-is_free-free)
     ∙ ap₂
-    (λ (row : ℕ) (read : UnitRead).
+    (λ (row : ℕ) (read : Result UnitFields Refusal).
     grouped (free_group (named_group s.args.part.now) (units_taken s.args.tally) s.args.groups.now) row s.args.homes.now
     s.args.groups.now read)
     n.next_row-row.ensures c.read_unit.ensures.reply

@@ -1,9 +1,6 @@
 -- The regions and directions left fall.
-use Prim.Native.Nat.{◌-◌, ◌≤◌}
+use Prim.Native.Nat.{◌≤◌}
 use Rattle.week.proofs.performances.note_book.Given as goal
 
 abbrev pub invariant-loop-each : goal.invariant-loop-each
 invariant-loop-each l = l.each ≤ 10
-
-abbrev pub decreases-loop-each : goal.decreases-loop-each
-decreases-loop-each l = 10 - l.each

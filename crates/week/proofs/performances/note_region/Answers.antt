@@ -1,13 +1,13 @@
 -- `each` is one of ten, as the function was asked.
 use native.Mathlib.Omega.{arith}
 use Rattle.week.proofs.performances.note_region.Goals as goal
-use Rattle.week.proofs.performances.note_region.Goals.{After-answer-answered, After-note_rows-noted, Start}
+use Rattle.week.proofs.performances.note_region.Goals.{After-answer, After-note_rows-noted, Start}
 
-abbrev start_of : After-answer-answered → Start
-start_of c = (goal.at.After-answer-answered c).Start
+abbrev start_of : After-answer → Start
+start_of c = (goal.at.After-answer c).Start
 
-abbrev answered_in : After-note_rows-noted → After-answer-answered
-answered_in c = (goal.at.After-note_rows-noted c).After-answer-answered
+abbrev answered_in : After-note_rows-noted → After-answer
+answered_in c = (goal.at.After-note_rows-noted c).After-answer
 
 pub overflow_add-each : goal.overflow_add-each
 overflow_add-each c = omega (arith, (start_of (answered_in (goal.at.overflow_add-each c).After-note_rows-noted)).requires)

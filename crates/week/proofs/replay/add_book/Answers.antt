@@ -2,8 +2,8 @@
 use native.Mathlib.Omega.{arith}
 use Rattle.week.proofs.replay.add_book.Goals as goal
 
-pub add_weeks-kept-requires : goal.add_weeks-kept-requires
-add_weeks-kept-requires c = (omega arith, omega arith)
-
 pub add_weeks-requires : goal.add_weeks-requires
 add_weeks-requires c = (omega arith, omega arith)
+
+pub add_weeks-requires-2 : goal.add_weeks-requires-2
+add_weeks-requires-2 c = (omega arith, omega arith)

@@ -1,7 +1,7 @@
 -- The record so far is the running week of the intervals passed, each of which is within the limit.
 use mathlib.Core.Path.{◌≡◌}
 use mathlib.Core.Bool.{true}
-use Prim.Native.Nat.{ℕ, ◌-◌, ◌≤◌}
+use Prim.Native.Nat.{ℕ, ◌≤◌}
 use lib.ListN.{length}
 use Rattle.integers.specs.Sums.{every}
 use Rattle.rules.specs.declared.RunningWeek.{RunningWeek}
@@ -17,7 +17,3 @@ pub record Turn (limit : ℕ) (w : ℕ → Interval) (n : ℕ) (week : RunningWe
 abbrev pub invariant-loop-i : goal.invariant-loop-i
 invariant-loop-i l =
     Turn l.limit (interval_at l.performances l.live) (length l.performances) l.week l.i
-
-abbrev pub decreases-loop-i : goal.decreases-loop-i
-decreases-loop-i l =
-    length l.performances - l.i

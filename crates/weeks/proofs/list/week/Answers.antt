@@ -1,13 +1,14 @@
 -- The tests in their order; then what the pass finds.
+use Rattle.std.specs.Prelude.{Ok}
 use mathlib.Core.Path.{◌≡◌, sym, ◌∙◌, ap}
 use mathlib.Core.Bool.{true}
 use Prim.Native.Nat.{ℕ, ◌*◌, ◌≤◌}
 use lib.ListN.{length}
 use native.Mathlib.Omega.{arith}
+use Rattle.std.proofs.lemmas.Result.{err_from_is_err_and}
 use Rattle.rules.specs.Quantities.{performance_limit}
 use Rattle.rules.specs.Week.{whose_fine, bytes_for, reach, interval_at, most_intervals}
 use Rattle.rules.specs.declared.RunningWeek.{RunningWeek}
-use Rattle.weeks.specs.declared.Added.TheVariants.{Next}
 use Rattle.weeks.specs.Promises.{added_of}
 use Rattle.weeks.specs.Gather.{gathered}
 use Rattle.weeks.specs.Runs.{units_fine}
@@ -51,7 +52,7 @@ module _ (c : After-gather) where
   few = third.if-performances.false
 
   read :
-      {r : RunningWeek} → c.gather.result ≡ Next r →
+      {r : RunningWeek} → c.gather.result ≡ Ok r →
       Read s.args.whose s.args.performances.now s.args.live.now (long first) (fine second) few r
   read e = inside s.args.whose s.args.performances.now s.args.live.now (long first) (fine second) few (sym e ∙ found)
 
@@ -69,17 +70,18 @@ returns-then-performances c =
 
 pub tell-requires : goal.tell-requires
 tell-requires c =
-    (read (goal.at.tell-requires c).After-gather c.in-Next.is).run
+    (read (goal.at.tell-requires c).After-gather c.in_ok-week.was).run
 
-pub returns-in-Next : goal.returns-in-Next
-returns-in-Next c =
-    record { reply = c.tell.ensures ∙ (read (goal.at.returns-in-Next c).After-gather c.in-Next.is).reads }
+pub returns : goal.returns
+returns c =
+    record { reply = c.tell.ensures ∙ (read (goal.at.returns c).After-gather c.in_ok-week.was).reads }
 
-pub returns-in-Refused : goal.returns-in-Refused
-returns-in-Refused c =
-    let a = (s (goal.at.returns-in-Refused c).After-gather).args in
+pub returns-in_err-week : goal.returns-in_err-week
+returns-in_err-week c =
+    let g = (goal.at.returns-in_err-week c).After-gather in
+    let p = err_from_is_err_and c.from_residual.result c.from_residual.ensures.1 in
     record {
-      reply =
-          outside a.whose a.performances.now a.live.now (long (first (goal.at.returns-in-Refused c).After-gather)) (fine (second (goal.at.returns-in-Refused c).After-gather)) (few (goal.at.returns-in-Refused c).After-gather)
-          (sym c.in-Refused.is ∙ found (goal.at.returns-in-Refused c).After-gather);
+      reply = rw (p.1, p.2)
+          (outside c.args.whose c.args.performances.now c.args.live.now (long (first g)) (fine (second g)) (few g)
+          (sym c.in_err-week.was ∙ found g));
     }

@@ -2,32 +2,13 @@
 use mathlib.Core.Path.{◌≡◌, sym, ◌∙◌, ap}
 use Prim.Native.Nat.{ℕ}
 use native.Mathlib.Omega.{arith}
-use borrow.Author.Rules.{sfits_of}
-use mir.Facts.{to_z-of_z}
+use borrow.Author.Rules.{rules}
 use mir.Syntax.{w64}
+use mir.Val.{to_z, of_z}
 use Rattle.integers.proofs.Fills.{filled_none, filled_store}
 use Rattle.rules.specs.declared.WeekDefault.{WeekDefault}
 use Rattle.rules.specs.WeekRoster.{member_default}
-use Rattle.weeks.specs.declared.Told.TheVariants.{Is}
-use Rattle.weeks.proofs.Rosters.{told_once}
 use Rattle.weeks.proofs.roster.write.Goals as goal
-use Rattle.weeks.proofs.roster.write.Goals.{After-member_week-told, After-struct_told-1, At-loop-j, Start}
-
-abbrev S : At-loop-j → Start
-S l = (goal.at.At-loop-j l).Start
-
-abbrev said : At-loop-j → ℕ → WeekDefault
-said l = member_default (S l).args.intervals (S l).args.whose.now (S l).args.performances.now (S l).args.live.now
-
--- the week of a turn, which is told
-abbrev L : After-member_week-told → At-loop-j
-L c = (goal.at.After-member_week-told c).At-loop-j
-
-in_turn : (c : After-member_week-told) → c.member_week-told.result ≡ Is (said (L c) (L c).loop-j.j)
-in_turn c = c.member_week-told.ensures ∙ (S (L c)).requires.1.all (L c).loop-j.j c.loop-j-test.true
-
-abbrev T : After-struct_told-1 → After-member_week-told
-T c = (goal.at.After-struct_told-1 c).After-member_week-told
 
 pub loop-j-init : goal.loop-j-init
 loop-j-init c =
@@ -35,12 +16,14 @@ loop-j-init c =
 
 pub loop-j-preserved : goal.loop-j-preserved
 loop-j-preserved c =
-    let l = L (T (goal.at.loop-j-preserved c).After-struct_told-1) in
-    let is = told_once (sym c.in-Is.is ∙ in_turn (T (goal.at.loop-j-preserved c).After-struct_told-1)) in
+    let said : ℕ → WeekDefault = member_default c.args.intervals c.args.whose.now c.args.performances.now c.args.live.now in
+    let told = c.requires.1.all c.loop-j.j c.loop-j-test.true in
+    let is : c.in_ok-found.found ≡ said c.loop-j.j = cc (c.in_ok-found.was, told) in
+    let kept : to_z w64 (of_z w64 c.in_ok-found.found.default) ≡ c.in_ok-found.found.default = search rules in
     record {
       within = omega arith;
-      counted = filled_store l.loop-j.j (λ i. (said l i).count) (S l).args.counts.now l.loop-j.counts _ l.loop-j.invariant.counted
+      counted = filled_store c.loop-j.j (λ i. (said i).count) c.args.counts.now c.loop-j.counts _ c.loop-j.invariant.counted
           (ap (λ (x : WeekDefault). x.count) is);
-      averaged = filled_store l.loop-j.j (λ i. (said l i).default) (S l).args.defaults.now l.loop-j.defaults _ l.loop-j.invariant.averaged
-          (to_z-of_z {w = w64} (sfits_of c.struct_told-1.given.1.0.1) ∙ ap (λ (x : WeekDefault). x.default) is);
+      averaged = filled_store c.loop-j.j (λ i. (said i).default) c.args.defaults.now c.loop-j.defaults _ c.loop-j.invariant.averaged
+          (kept ∙ ap (λ (x : WeekDefault). x.default) is);
     }

@@ -1,7 +1,7 @@
 -- The columns so far are filled with what the members passed are told; none is refused.
 use mathlib.Core.Path.{◌≡◌}
 use mathlib.Core.List.{List}
-use Prim.Native.Nat.{ℕ, ◌-◌, ◌≤◌}
+use Prim.Native.Nat.{ℕ, ◌≤◌}
 use lib.IntN.{ℤ}
 use lib.ListN.{length}
 use Rattle.integers.specs.Fills.{filled}
@@ -17,7 +17,3 @@ pub record Turn (told : ℕ → WeekDefault) (m : ℕ) (counts₀ : List ℕ) (d
 abbrev pub invariant-loop-j : goal.invariant-loop-j
 invariant-loop-j l =
     Turn (member_default l.intervals l.whose l.performances l.live) (length l.whose) l.initial.counts l.initial.defaults l.counts l.defaults l.j
-
-abbrev pub decreases-loop-j : goal.decreases-loop-j
-decreases-loop-j l =
-    length l.whose - l.j

@@ -1,11 +1,12 @@
 -- Test by test; where all hold the book is laid out.
-use mathlib.Core.Path.{◌≡◌, refl, sym, ◌∙◌, ap}
+use Rattle.std.specs.Prelude.{Err}
+use mathlib.Core.Path.{◌≡◌, sym, ◌∙◌, ap}
 use mathlib.Core.Bool.{true}
+use Rattle.std.proofs.lemmas.Result.{err_from_is_err_and}
 use native.Mathlib.Omega.{arith}
 use lib.ListN.{length}
 use Rattle.rules.specs.Given.{Given}
 use Rattle.rules.specs.Written.{book_given, long_enough, counts_fine}
-use Rattle.writer.specs.declared.Written.TheVariants.{Refused}
 use Rattle.writer.specs.Values.{values}
 use Rattle.writer.proofs.WholeLaws.{judged_wrong, judged_fine}
 use Rattle.writer.proofs.WriteLaws.{written_short, written_many, written_wrong, written_fine, promise_refused, promise_written, Few, counts_few, room_enough, lists_enough}
@@ -33,22 +34,27 @@ pub returns-then-not-long_enough : goal.returns-then-not-long_enough
 returns-then-not-long_enough c =
     let s = begun (goal.at.returns-then-not-long_enough c).After-long_enough in record {
       write_promise = promise_refused (given s) s.args.book.now _ (written_short (given s) _ (sym c.long_enough.ensures ∙ c.if-not-long_enough.true))
-          (ap Refused c.locate.ensures);
+          (ap Err c.locate.ensures);
       within_room = tt;
     }
 
 pub returns-then-not-counts_fine : goal.returns-then-not-counts_fine
 returns-then-not-counts_fine c =
-    let s = begun (goal.at.returns-then-not-counts_fine c).After-long_enough in record { write_promise = promise_refused (given s) s.args.book.now _ (written_many (given s) _ (is_long (goal.at.returns-then-not-counts_fine c).Else-not-long_enough) (sym c.counts_fine.ensures ∙ c.if-not-counts_fine.true)) (ap Refused c.locate-then-not-counts_fine.ensures); within_room = tt }
+    let s = begun (goal.at.returns-then-not-counts_fine c).After-long_enough in record { write_promise = promise_refused (given s) s.args.book.now _ (written_many (given s) _ (is_long (goal.at.returns-then-not-counts_fine c).Else-not-long_enough) (sym c.counts_fine.ensures ∙ c.if-not-counts_fine.true)) (ap Err c.locate-then-not-counts_fine.ensures); within_room = tt }
 
-pub judge_book-judged-requires : goal.judge_book-judged-requires
-judge_book-judged-requires c = let s = begun (goal.at.judge_book-judged-requires c).After-long_enough in lists_enough (given s) _ (is_long (goal.at.judge_book-judged-requires c).Else-not-long_enough) (is_few (goal.at.judge_book-judged-requires c).Else-not-counts_fine)
+pub judge_book-requires : goal.judge_book-requires
+judge_book-requires c =
+    let way = goal.at.judge_book-requires c in
+    lists_enough (given way.Start) _ (is_long way.Else-not-long_enough) (is_few way.Else-not-counts_fine)
 
-pub returns-in-Wrong : goal.returns-in-Wrong
-returns-in-Wrong c =
-    let s = begun (goal.at.returns-in-Wrong c).After-long_enough in
-    let wrong = judged_wrong (book_given (given s)) _ (sym c.judge_book-judged.ensures ∙ c.in-Wrong.is) in
-    record { write_promise = promise_refused (given s) s.args.book.now _ (written_wrong (given s) _ _ (is_long (goal.at.returns-in-Wrong c).Else-not-long_enough) (is_fine (goal.at.returns-in-Wrong c).Else-not-counts_fine) wrong) refl; within_room = tt }
+pub returns-in_err-judge_book-clause-write_promise : goal.returns-in_err-judge_book-clause-write_promise
+returns-in_err-judge_book-clause-write_promise c =
+    let way = goal.at.returns-in_err-judge_book-clause-write_promise c in
+    let s = way.Start in
+    let p = err_from_is_err_and c.from_residual.result c.from_residual.ensures.1 in
+    let wrong = judged_wrong (book_given (given s)) _ (sym c.in_err-judge_book.ensures) in
+    promise_refused (given s) s.args.book.now _ (written_wrong (given s) _ _ (is_long way.Else-not-long_enough) (is_fine way.Else-not-counts_fine) wrong)
+    (p.1 ∙ ap Err p.2)
 
 pub lay_book-requires : goal.lay_book-requires
 lay_book-requires c =
@@ -65,7 +71,7 @@ overflow_cast-result c =
 pub returns : goal.returns
 returns c =
     let s = begun (goal.at.returns c).After-long_enough in
-    let book = judged_fine (book_given (given s)) (sym c.judge_book-judged.ensures ∙ c.in_default.is) in record {
+    let book = judged_fine (book_given (given s)) (sym c.in_ok-judge_book.ensures) in record {
       write_promise = promise_written (given s) s.args.book.now _ _ (written_fine (given s) _ book.0 (is_long (goal.at.returns c).Else-not-long_enough) (is_fine (goal.at.returns c).Else-not-counts_fine) book.1) c.book_size.ensures
           c.lay_book.ensures;
       within_room = omega (arith, c.book_size.ensures, room_enough (given s) _ (is_long (goal.at.returns c).Else-not-long_enough));
