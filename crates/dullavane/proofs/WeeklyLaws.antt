@@ -6,10 +6,10 @@ use mathlib.Core.Bool.{Bool, true, false}
 use mathlib.Core.List.{List, [], ◌∷◌}
 use Prim.Native.Nat.{ℕ, zero, suc, ◌+◌, ◌*◌, ◌/◌, ◌%◌, ◌≤◌, ◌<◌}
 use native.Mathlib.Omega.{arith}
-use lib.Dec.{leb}
+use lib.Dec.{leb, ltb}
 use lib.IntN.{ℤ}
 use lib.ListN.{length, get_or, set, drop}
-use borrow.Author.Tests.{leb-true, leb-false, le-leb, lt-leb, lt-ltb, le-ltb}
+use borrow.Author.Tests.{leb-true, leb-false, ltb-true, ltb-false, le-leb, lt-leb, lt-ltb, le-ltb}
 use Rattle.integers.proofs.Division.{remains}
 use Rattle.rules.specs.declared.Refusal.TheVariants.{WrongState, TooShort}
 use Rattle.rules.specs.declared.RunningWeek.{RunningWeek}
@@ -94,16 +94,25 @@ unfolding week_held
 week_there ws h l =
     record { long = h; narrow = l; week = rw (le-leb week_words (length ws) h, lt-ltb (get_or ws 1 0) 281_474_976_710_656 l) }
 
+-- known by the number of their refusal
+pub week_held_means : (ws : List ℕ) {r : ℕ} → r ≡ reply_number (week_held ws) → r ≡ 0 → WeekHeld ws
+week_held_means ws e none = go (leb week_words (length ws)) refl (ltb (get_or ws 1 0) 281_474_976_710_656) refl
+  where
+    twelve : ◌≡◌ {A = ℕ} 12 0 → WeekHeld ws
+    twelve e = absurd (omega arith)
+
+    eleven : ◌≡◌ {A = ℕ} 11 0 → WeekHeld ws
+    eleven e = absurd (omega arith)
+
+    go : (x : Bool) → leb week_words (length ws) ≡ x → (y : Bool) → ltb (get_or ws 1 0) 281_474_976_710_656 ≡ y → WeekHeld ws
+    go true l true n = week_there ws (leb-true week_words (length ws) l) (ltb-true (get_or ws 1 0) 281_474_976_710_656 n)
+    go true l false n = eleven (sym (ap reply_number (week_wide ws (leb-true week_words (length ws) l) (ltb-false (get_or ws 1 0) 281_474_976_710_656 n)))
+        ∙ sym e ∙ none)
+    go false l y n = twelve (sym (ap reply_number (week_short ws (leb-false week_words (length ws) l))) ∙ sym e ∙ none)
+
 -- no fewer words hold one
 pub week_long : (ws : List ℕ) {w : RunningWeek} → week_held ws ≡ taken w → week_words ≤ length ws
-week_long ws {w} e = go (leb week_words (length ws)) refl
-  where
-    go : (x : Bool) → leb week_words (length ws) ≡ x → week_words ≤ length ws
-    go true l = leb-true week_words (length ws) l
-    go false l =
-        let f : ◌≡◌ {A = Reply RunningWeek} (refused TooShort) (taken w) = sym (week_short ws (leb-false week_words (length ws) l)) ∙ e in
-        let z : ◌≡◌ {A = ℕ} 12 0 = ap reply_number f in
-        absurd (omega arith)
+week_long ws e = (week_held_means ws (sym (ap reply_number e)) refl).long
 
 -- what an added interval leaves in the words is the running week that the next call reads there
 pub week_kept : (r : RunningWeek) (ws : List ℕ) → r.seen < 65_536 → r.live < 65_536 → r.high < 65_536 → week_held (with_week r ws) ≡ taken r
@@ -157,6 +166,13 @@ module _ (n : ℕ) (ms : List ℕ) (ps : List ℤ) (bits counts : List ℕ) (def
 module _ (m live : ℕ) (p : ℤ) (ws : List ℕ) where
   pub add_unheld : {x : Refusal} {r : ℕ} → week_held ws ≡ refused x → r ≡ number x → WeekAddCalled m live p ws r ws
   add_unheld h e = record { reply = e ∙ rw h; words = rw h }
+
+  pub add_refused : (reply_number (week_held ws) ≡ 0 → ⊥) → {r : ℕ} → r ≡ reply_number (week_held ws) → WeekAddCalled m live p ws r ws
+  add_refused some {r} e = go (week_held ws) refl some
+    where
+      go : (y : Reply RunningWeek) → week_held ws ≡ y → (reply_number y ≡ 0 → ⊥) → WeekAddCalled m live p ws r ws
+      go (taken w) f some = absurd (some refl)
+      go (refused why) f some = add_unheld f (e ∙ ap reply_number f)
 
   pub add_told :
       (w : RunningWeek) → week_held ws ≡ taken w → (t : Result RunningWeek Refusal) →

@@ -33,7 +33,7 @@ use trends::{tell_trend, trend_fits};
 use units::run::run;
 use units::unit::unit;
 use verdicts::{VERDICT_WORDS, tell_verdict};
-use weekly::{DEFAULT_NUMBERS, as_group, tell_default, tell_week, week_held};
+use weekly::{DEFAULT_NUMBERS, as_group, tell_default, tell_week, week_held, week_in, week_unheld};
 use weeks::list::week;
 use weeks::roster::{roster, whose_of};
 use weeks::running::{add, read};
@@ -288,13 +288,12 @@ pub fn dullavane_weeks(
 pub fn dullavane_week_add(whose: u16, live: u8, performance: i64, week: &mut [u64]) -> u32
     ensures { WeekAddCalled whose live performance week.old result week.new }
 {
-    match week_held(week) {
-        Ok(before) => {
-            let added = add(as_group(whose), live != 0, performance, before);
-            tell_week(added, week)
-        }
-        Err(refusal) => refusal_number(refusal),
+    let refusal = week_unheld(week);
+    if refusal != 0 {
+        return refusal;
     }
+    let added = add(as_group(whose), live != 0, performance, week_in(week));
+    tell_week(added, week)
 }
 
 // Reads count and default off a running week. Refuses 12 for either list, 11, 5, then 14.

@@ -1,10 +1,10 @@
 // A running week in two lent words, and a week's count and default in two lent numbers.
-ghost use Rattle.std.specs.Prelude.{◌≡◌, ◌≤◌, length};
+ghost use Rattle.std.specs.Prelude.{◌≡◌, ◌≤◌, length, leb, get_or};
 ghost use Rattle.rules.specs.declared.Whose.TheVariants.{Group};
 ghost use Rattle.rules.specs.Refusals.{taken};
 ghost use Rattle.rules.specs.WeekRoster.{whose_of};
 ghost use Rattle.weeks.specs.Runs.{units_of};
-ghost use Rattle.dullavane.specs.Words.{handed};
+ghost use Rattle.dullavane.specs.Words.{handed, reply_number};
 ghost use Rattle.dullavane.specs.Weekly.{week_held, WeekHeld, with_week, added_number, week_after, with_default, told_number, default_after};
 
 use rules::{MOST_UNITS, Refusal, RunningWeek, WeekDefault, Whose, refusal_number};
@@ -20,6 +20,14 @@ const THIRD_FIELD: u64 = 0x1_0000_0000;
 
 const PAST_THE_FIELDS: u64 = 0x1_0000_0000_0000;
 
+// Has the second word a bit past its three fields?
+fn is_wide(words: &[u64]) -> bool
+    requires { 2 ≤ length words.now }
+    ensures { result ≡ leb 281_474_976_710_656 (get_or words.now 1 0) }
+{
+    PAST_THE_FIELDS <= words[1]
+}
+
 // The running week that words hold, or why they hold none: 12 for fewer than two words, then 11 for a bit past the second word's three fields.
 pub(crate) fn week_held(words: &[u64]) -> Result<RunningWeek, Refusal>
     ensures { result ≡ handed (week_held words.now) }
@@ -27,14 +35,28 @@ pub(crate) fn week_held(words: &[u64]) -> Result<RunningWeek, Refusal>
     if words.len() < WEEK_WORDS {
         return Err(Refusal::TooShort);
     }
-    if PAST_THE_FIELDS <= words[1] {
+    if is_wide(words) {
         return Err(Refusal::WrongState);
     }
     Ok(week_in(words))
 }
 
+// 0 where words hold a running week, else the number of why they hold none, for the call that is made once an interval: with `week_held` in this one's place an
+// interval above zero takes 60.0005 instructions and not 57, where 60 are allowed (bench/weeks).
+pub(crate) fn week_unheld(words: &[u64]) -> u32
+    ensures { result ≡ reply_number (week_held words.now) }
+{
+    if words.len() < WEEK_WORDS {
+        return refusal_number(Refusal::TooShort);
+    }
+    if is_wide(words) {
+        return refusal_number(Refusal::WrongState);
+    }
+    0
+}
+
 // The running week in words that hold one.
-fn week_in(words: &[u64]) -> RunningWeek
+pub(crate) fn week_in(words: &[u64]) -> RunningWeek
     requires { WeekHeld words.now }
     ensures { week_held words.now ≡ taken result }
 {

@@ -1,29 +1,19 @@
 -- Laws of the same byte so many times, and of putting it.
-use Prim.Native.Nat.{◌-◌}
-use mathlib.Core.Path.{◌∙◌, ◌≡◌, refl, ◌∙◌, ap}
-use mathlib.Core.List.{List, ◌∷◌, ◌++◌}
-use Prim.Native.Nat.{ℕ, zero, suc, ◌+◌, ◌-◌}
+use mathlib.Core.Path.{◌≡◌, refl, ◌∙◌, ap}
+use mathlib.Core.List.{List, [], ◌∷◌, ◌++◌}
+use Prim.Native.Nat.{ℕ, zero, suc, ◌+◌, ◌-◌, ◌≤◌, ◌<◌}
 use native.Mathlib.Nat.{zero-add, suc-add}
 use native.Mathlib.Omega.{arith}
-use lib.Seq.{length-take-le, drop_at}
-use borrow.Author.Rules.{rules}
-use borrow.Rule.Slice.PartMut.{put_mid}
-use Rattle.std.proofs.lemmas.Slice.{overwrites}
-use Rattle.std.proofs.lemmas.List.{drop-drop}
-use lib.ListN.{take, drop, length, replicate}
+use lib.ListN.{length, set}
 use Rattle.rules.specs.Panel.{repeated}
-use Rattle.listing.specs.Pieces.{Room, Put}
+use Rattle.listing.specs.Pieces.{Put}
+use Rattle.listing.proofs.PiecesLaws.{put_before}
+use Rattle.report_row.proofs.PutLaws.{put_one}
 
 pub repeated_long : (byte n : ℕ) → length (repeated byte n) ≡ n
 unfolding repeated
 repeated_long byte zero = refl
 repeated_long byte (suc n) = ap suc (repeated_long byte n)
-
--- as the library fills a place
-pub repeated_is : (byte n : ℕ) → replicate n byte ≡ repeated byte n
-unfolding repeated
-repeated_is byte zero = refl
-repeated_is byte (suc n) = ap (λ (l : List ℕ). byte ∷ l) (repeated_is byte n)
 
 -- so many and so many more
 pub repeated_joined : (byte m n : ℕ) → repeated byte m ++ repeated byte n ≡ repeated byte (m + n)
@@ -31,20 +21,30 @@ unfolding repeated
 repeated_joined byte zero n = rw (zero-add n)
 repeated_joined byte (suc m) n = ap (λ (l : List ℕ). byte ∷ l) (repeated_joined byte m n) ∙ rw (suc-add m n)
 
--- ---- putting it: the place before `at` is filled
-pub repeated_put : (byte count at : ℕ) (old part : List ℕ) → Room count at old → part ≡ repeated byte count →
-    Put (repeated byte count) at old (at - count) (put_mid (at - count) (at - (at - count)) old part)
-repeated_put byte count at old part m filled =
-    let from : ℕ = at - count in
-    let long = repeated_long byte count in
-    let e : from + (at - from) ≡ at = omega (arith, m.free) in
-    let before : length (take from old) ≡ from = length-take-le from old (omega (arith, m.inside)) in
-    record {
-      place = omega (arith, long, m.free);
-      bytes =
-          rw filled
-          (drop_at (take from old) (repeated byte count ++ drop (at - from) (drop from old)) from before
-          ∙ ap (λ (l : List ℕ). repeated byte count ++ l) (drop-drop (at - from) from old ∙ ap (λ (k : ℕ). drop k old) e));
-      before = rw filled (search (rules, overwrites, before));
-      size = rw filled (search (rules, overwrites, before, long, e, m.inside));
-    }
+pub one_more : (byte n : ℕ) → (byte ∷ []) ++ repeated byte n ≡ repeated byte (suc n)
+unfolding repeated
+one_more byte n = refl
+
+-- ---- putting it: so many stand before `at`
+pub record Stands (byte at : ℕ) (old : List ℕ) (to : ℕ) (text : List ℕ) : Type 0 where
+  pub many : ℕ
+  pub put : Put (repeated byte many) at old to text
+
+pub none_stand : (byte at : ℕ) (old : List ℕ) → Stands byte at old at old
+unfolding repeated
+none_stand byte at old = record { many = 0; put = record { place = omega arith; bytes = refl; before = refl; size = refl } }
+
+module _ {byte at to : ℕ} {old text : List ℕ} (inside : at ≤ length old) (s : Stands byte at old to text) where
+  pub one_stands : 0 < to → Stands byte at old (to - 1) (set text (to - 1) byte)
+  one_stands h =
+      record {
+        many = suc s.many;
+        put =
+            rw (one_more byte s.many) at
+            (put_before s.put (put_one byte (record { free = h; inside = omega (arith, s.put.place, s.put.size) })));
+      }
+
+  pub all_stand : (count : ℕ) → count ≤ at → at - count ≤ to → to ≤ at - count → Put (repeated byte count) at old to text
+  all_stand count few h k =
+      let e : s.many ≡ count = omega (arith, s.put.place, repeated_long byte s.many) in
+      rw e at s.put

@@ -150,15 +150,17 @@ fn take_letter(reading: Reading, byte: u8, letters: &mut [u8; LETTERS]) -> Taken
     }
 }
 
+// What stands behind `#` is left out up to the line feed.
+fn is_left_out(reading: Reading, byte: u8) -> bool {
+    if byte == b'\n' {
+        return false;
+    }
+    reading.comment
+}
+
 fn take_byte(reading: Reading, byte: u8, letters: &mut [u8; LETTERS]) -> Taken {
     if byte == b'\n' {
         return end_line(reading, letters);
-    }
-    if reading.comment {
-        return Taken {
-            reading,
-            note: Note::Nothing,
-        };
     }
     if byte == b'#' {
         return end_word(reading, true, letters);
@@ -188,7 +190,11 @@ fn take_piece(
 {
     let mut reading = from;
     for i in 0..count {
-        let taken = take_byte(reading, piece[i], letters);
+        let byte = piece[i];
+        if is_left_out(reading, byte) {
+            continue;
+        }
+        let taken = take_byte(reading, byte, letters);
         reading = taken.reading;
         let note = taken.note;
         if reading.fault {

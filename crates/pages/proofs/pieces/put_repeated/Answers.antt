@@ -1,13 +1,21 @@
--- So many of the byte fill the place before `at`.
-use Rattle.std.proofs.Common.{◌≡◌, ℕ, ◌-◌, length, take, drop, ◌∙◌, ap, rules}
-use lib.ListN.{replicate}
-use Rattle.pages.proofs.RepeatedLaws.{repeated_is, repeated_put}
+-- So many of the byte stand before `at` as the loop has turned; each turn puts one more.
+use mathlib.Core.Path.{◌≡◌}
+use Prim.Native.Nat.{◌-◌}
+use native.Mathlib.Omega.{arith}
+use Rattle.pages.proofs.RepeatedLaws.{none_stand, one_stands, all_stand}
 use Rattle.pages.proofs.pieces.put_repeated.Goals as goal
+
+pub loop-to-init : goal.loop-to-init
+loop-to-init c = (none_stand _ _ _, omega arith, omega arith)
+
+pub bounds-text-to : goal.bounds-text-to
+bounds-text-to c = omega (arith, c.loop-to.invariant.0.put.size)
+
+pub loop-to-preserved : goal.loop-to-preserved
+loop-to-preserved c =
+    (one_stands c.requires.inside c.loop-to.invariant.0 (omega arith), omega arith, omega arith)
 
 pub returns : goal.returns
 returns c =
-    let a = c.args in
-    let from : ℕ = a.at - a.count in
-    let place : length (take (a.at - from) (drop from a.text.now)) ≡ a.count = search rules in
-    repeated_put a.byte a.count a.at a.text.now c.fill.new.self c.requires
-    (c.fill.ensures.after (λ y e. e) ∙ ap (λ (n : ℕ). replicate n a.byte) place ∙ repeated_is a.byte a.count)
+    let e : c.loop-to.to ≡ c.args.at - c.args.count = omega arith in
+    rw e at (all_stand c.requires.inside c.loop-to.invariant.0 c.args.count c.requires.free (omega arith) (omega arith))
